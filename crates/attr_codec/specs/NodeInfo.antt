@@ -91,6 +91,6 @@ entries_of info =
 abbrev pub node_info_bytes : NodeInfo → List ℕ
 node_info_bytes info = image (entries_of info)
 
--- each number of `info` fits its field of NodeInfo
+-- each number of `info` fits in its field of NodeInfo
 abbrev pub FitsNodeInfo : NodeInfo → Type 0
 FitsNodeInfo info = AllFit (entries_of info)

@@ -10,7 +10,7 @@ use Rattle.attr_codec.specs.declared.sm_info.SmInfo.{SmInfo}
 use Rattle.attr_codec.specs.SmInfo.{FitsSmInfo, guid, sm_key, act_count, priority, sm_state, sm_info_in, sm_info_bytes, sm_info_entries}
 use Rattle.attr_codec.specs.NodeInfo.{FitsNodeInfo, node_info_in, node_info_bytes, entries_of}
 
--- the entry `e` at index `i` fits its field, if all entries fit theirs
+-- if all entries fit in their fields, the entry `e` at index `i` does
 fits_at : (entries : List Entry) (i : ℕ) (e : Entry) → AllFit entries → slice_get entries i ≡ Some e → e.number
     < 256 ^ e.field.len
 fits_at [] i e fits there = cc
@@ -18,15 +18,15 @@ fits_at (x ∷ entries) zero e fits there = let same : x ≡ e =
     cc in subst (λ (y : Entry). y.number < 256 ^ y.field.len) same fits.0
 fits_at (x ∷ entries) (suc i) e fits there = fits_at entries i e fits.1 there
 
--- the image of `entries` has the number of the entry `e` at index `i` in its field, if all entries fit their fields.
--- The fields must be apart and within 64 bytes
+-- if all entries fit in their fields, the image of `entries` has, in the field of the entry `e` at index `i`, the
+-- number of `e`. The fields must be apart and within 64 bytes
 pub number_in-image : (entries : List Entry) → AllFit entries → (i : ℕ) (e : Entry) → are_all_apart 64 entries ≡ true
     → slice_get entries i ≡ Some e
     → number_in e.field (image entries) ≡ e.number
 number_in-image entries fits i e apart there =
     number_in-with_numbers 64 entries (replicate 64 0) i e refl apart there (fits_at entries i e fits there)
 
--- NodeInfo whose numbers fit their fields is read back from the bytes that spell it
+-- a NodeInfo whose numbers fit in their fields is read back from the bytes that spell it
 pub node_info_reads_back : (info : NodeInfo) → FitsNodeInfo info → node_info_in (node_info_bytes info) ≡ info
 node_info_reads_back info fits =
     λ j. record {
@@ -49,7 +49,7 @@ blank : (info : SmInfo) → get_or (image (sm_info_entries info)) 20 0 ≡ 0
 blank info = sym (byte-number_in 20 (image (sm_info_entries info)))
     ∙ number_in-with_numbers_apart 64 (record { at = 20; len = 1 }) (sm_info_entries info) (replicate 64 0) refl refl
 
--- SMInfo whose numbers fit their fields is read back from the bytes that spell it
+-- an SMInfo whose numbers fit in their fields is read back from the bytes that spell it
 pub sm_info_reads_back : (info : SmInfo) → FitsSmInfo info → sm_info_in (sm_info_bytes info) ≡ info
 sm_info_reads_back info fits =
     let whole = image (sm_info_entries info) in

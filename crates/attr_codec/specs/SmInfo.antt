@@ -1,4 +1,4 @@
--- SMInfo, what a subnet manager says of itself: its fields, the value of 64 bytes, and its spelling. InfiniBand
+-- SMInfo, what a subnet manager reports about itself: its fields, the value of 64 bytes, and its spelling. InfiniBand
 -- Architecture Specification, Volume 1: subnet management, SMInfo.
 use Rattle.std.specs.Prelude.{ℕ, ◌^◌, ◌<◌, List, [], ◌∷◌}
 use Rattle.smp_bytes.specs.Field.{Field, Bits, Entry, number_in, bits_in, with_bits}
@@ -36,7 +36,7 @@ sm_info_in bytes =
       state = bits_in sm_state bytes;
     }
 
--- each field of SMInfo of whole bytes, with its number in `info`; priority and state, which share a byte, are left out
+-- each whole-byte field of SMInfo, with its number in `info`. Priority and state, which share a byte, are left out
 abbrev pub sm_info_entries : SmInfo → List Entry
 sm_info_entries info =
     record { field = guid; number = info.guid } ∷ record { field = sm_key; number = info.sm_key }
@@ -46,7 +46,7 @@ sm_info_entries info =
 abbrev pub sm_info_bytes : SmInfo → List ℕ
 sm_info_bytes info = with_bits sm_state info.state (with_bits priority info.priority (image (sm_info_entries info)))
 
--- each number of `info` fits its field or bits of SMInfo
+-- each number of `info` fits in its field or bits of SMInfo
 pub record FitsSmInfo (info : SmInfo) : Type 0 where
   pub fields : AllFit (sm_info_entries info)
   pub priority : info.priority < 2 ^ 4

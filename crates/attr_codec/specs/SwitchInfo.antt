@@ -1,7 +1,7 @@
 -- SwitchInfo: where its fields are. InfiniBand Architecture Specification, Volume 1: subnet management, SwitchInfo.
 use Rattle.smp_bytes.specs.Field.{Field, Bits}
 
--- LinearFDBCap, a component of SwitchInfo: a switch's table room
+-- LinearFDBCap, a component of SwitchInfo: how many LIDs a switch's table has room for
 abbrev pub linear_fdb_cap : Field
 linear_fdb_cap = record { at = 0; len = 2 }
 
@@ -13,7 +13,7 @@ random_fdb_cap = record { at = 2; len = 2 }
 abbrev pub multicast_fdb_cap : Field
 multicast_fdb_cap = record { at = 4; len = 2 }
 
--- LinearFDBTop, a component of SwitchInfo: a switch's top
+-- LinearFDBTop, a component of SwitchInfo: the greatest LID for which a switch uses its table (its top)
 abbrev pub linear_fdb_top : Field
 linear_fdb_top = record { at = 6; len = 2 }
 

@@ -7,8 +7,8 @@ pub trait Attribute: Sized {
 
     ghost ID: { ℕ };
 
-    /// Each part of the value fits its field. Code can hold no other value. In contracts, whose numbers have no bound,
-    /// it is a premise.
+    /// Each part of the value fits in its field. Code can have no other value. In contracts, where numbers are
+    /// unbounded, this is a premise.
     ghost is_value: { Self → Type 0 };
 
     /// The value that 64 bytes spell.
@@ -27,6 +27,6 @@ pub trait Attribute: Sized {
         ensures bytes { result ≡ bytes_of self.now }
         ensures fits { is_value self.now };
 
-    /// Decoding the bytes that spell a value gives the value, if each part of it fits its field (`is_value`).
+    /// If each part of a value fits in its field (`is_value`), decoding the bytes that spell the value gives the value.
     ghost reads_back: { (value : Self) → is_value value → value_in (bytes_of value) ≡ value };
 }

@@ -13,35 +13,35 @@ use crate::port_info::PortInfo;
 use crate::sm_info::SmInfo;
 use crate::switch_info::SwitchInfo;
 
-/// A value of an attribute is read again from the bytes that spell it, if each part of the value fits its field.
+/// If each part of an attribute's value fits in its field, the value is read back from the bytes that spell it.
 pub fn decode_undoes_encode<A: Attribute>()
     ensures { (value : A) → A.is_value value → A.value_in (A.bytes_of value) ≡ value }
 {}
 
-/// If 64 bytes are decoded as NodeInfo and encoded again, the first 40 stay, which have the fields, and the 24 reserved
-/// bytes become 0.
+/// If 64 bytes are decoded as NodeInfo and encoded again, the first 40 bytes, which contain the fields, stay. The 24
+/// reserved bytes become 0.
 pub fn node_info_keeps_its_fields()
     ensures { KeepsFirstBytes 40
         ⟦<NodeInfo as Attribute>⟧.value_in
         ⟦<NodeInfo as Attribute>⟧.bytes_of }
 {}
 
-/// If 64 bytes are decoded as SMInfo and encoded again, the first 21 stay, which have the fields, and the 43 reserved
-/// bytes become 0.
+/// If 64 bytes are decoded as SMInfo and encoded again, the first 21 bytes, which contain the fields, stay. The 43
+/// reserved bytes become 0.
 pub fn sm_info_keeps_its_fields()
     ensures { KeepsFirstBytes 21
         ⟦<SmInfo as Attribute>⟧.value_in
         ⟦<SmInfo as Attribute>⟧.bytes_of }
 {}
 
-/// If 64 bytes are decoded as PortInfo and encoded again, all bytes stay, even outside the named fields.
+/// If 64 bytes are decoded as PortInfo and encoded again, all bytes stay, even those outside the named fields.
 pub fn port_info_keeps_all_bytes()
     ensures { KeepsAllBytes
         ⟦<PortInfo as Attribute>⟧.value_in
         ⟦<PortInfo as Attribute>⟧.bytes_of }
 {}
 
-/// If 64 bytes are decoded as SwitchInfo and encoded again, all bytes stay, even outside the named fields.
+/// If 64 bytes are decoded as SwitchInfo and encoded again, all bytes stay, even those outside the named fields.
 pub fn switch_info_keeps_all_bytes()
     ensures { KeepsAllBytes
         ⟦<SwitchInfo as Attribute>⟧.value_in
@@ -62,8 +62,8 @@ pub fn node_description_keeps_all_bytes()
         ⟦<NodeDescription as Attribute>⟧.bytes_of }
 {}
 
-/// If each part of a NodeInfo fits, the 64 bytes that spell it hold each part at its offset, and 0 in the last 24
-/// bytes.
+/// If each part of a NodeInfo fits in its field, the 64 bytes that spell it contain each part at its offset. The last
+/// 24 bytes are 0.
 pub fn node_info_is_spelled_by_its_fields()
     ensures { SpellsEachValue 40
         ⟦<NodeInfo as Attribute>⟧.value_in
@@ -71,7 +71,8 @@ pub fn node_info_is_spelled_by_its_fields()
         ⟦<NodeInfo as Attribute>⟧.is_value }
 {}
 
-/// If each part of an SMInfo fits, the 64 bytes that spell it hold each part at its offset, and 0 in the last 43 bytes.
+/// If each part of an SMInfo fits in its field, the 64 bytes that spell it contain each part at its offset. The last 43
+/// bytes are 0.
 pub fn sm_info_is_spelled_by_its_fields()
     ensures { SpellsEachValue 21
         ⟦<SmInfo as Attribute>⟧.value_in

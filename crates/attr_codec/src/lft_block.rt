@@ -6,7 +6,7 @@ use std::marker::Model;
 
 /// A block of a linear forwarding table (subnet management, LinearForwardingTable): an entry for each of 64 LIDs. The
 /// LID of entry `i` in block `b` is `64 * b + i`. An entry is a port number, or 255 if packets for the LID are dropped.
-/// Contracts see the list of ports. Tables, agents and steps hold the entries as packets carry them, `[u8; 64]`, since
+/// Contracts see the list of ports. Tables, agents and steps keep the entries as packets carry them, `[u8; 64]`, since
 /// blocks are read and written whole.
 #[derive(Clone, Copy, Debug, PartialEq, Eq)]
 pub struct LftBlock {

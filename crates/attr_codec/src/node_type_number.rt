@@ -19,7 +19,7 @@ impl Model for NodeTypeNumber {
 }
 
 impl NodeTypeNumber {
-    /// Creates the number of a type, which may be a reserved one.
+    /// Creates the number of a node type. The number may be reserved.
     pub fn new(number: u8) -> Self
         ensures { result ≡ number }
     {

@@ -21,7 +21,7 @@ const STATES: [PortState; 5] = [
 ];
 
 impl PortState {
-    /// Returns the state with the number `number`, or `None` if `number` is reserved, which is 5 and above.
+    /// Returns the state with the number `number`, or `None` if `number` is reserved, that is, at least 5.
     pub fn from_number(number: u8) -> Option<Self>
         ensures { result ≡ state_of_number number }
     {

@@ -1,5 +1,5 @@
--- Choices among candidates that balance the loads of channels. Packets go to ends (adapters), each at a position; for
--- each end, each position chooses one of its candidates.
+-- Choices among candidates that balance the loads of channels. Packets go to ends (adapters), each of which is at a
+-- position. For each end, each position chooses one of its candidates.
 use Rattle.std.specs.Prelude.{ℕ, zero, suc, ◌+◌, ◌*◌, ◌%◌, Bool, not, List, [], ◌-◌, ◌/◌, ◌^◌, min, nat_le, if◌then◌else◌}
 use Rattle.std.specs.Prelude.{◌∷◌, ◌++◌, filter, length, map, replicate, reverse, slice_index, slice_index_or, slice_set}
 use Rattle.port_graph.specs.declared.edge.Edge.{Edge}
@@ -11,12 +11,13 @@ use Rattle.balanced_choices.specs.declared.ways.Change.TheVariants.{Add, Remove}
 use Rattle.balanced_choices.specs.declared.choice_rounds.Destination.{Destination}
 use Rattle.balanced_choices.specs.Ways.{candidates_at, lightest, way_from, with_changes}
 
--- for one end, the number of the candidate that each position chooses; and the loads of channels
+-- for one end, the number of the candidate that each position chooses; and, for all ends together, the loads of
+-- channels
 pub record Chosen : Type 0 where
   pub choices : List ℕ
   pub loads : List ℕ
 
--- `old` once position `p` has chosen the candidate with the number `k`; the packets that `p` sends are added to the
+-- `old` after position `p` has chosen the candidate with the number `k`. The packets that `p` sends are added to the
 -- loads of the channels on their way
 abbrev pub with_choice : List (List Edge) → List ℕ → Chosen → ℕ → ℕ → Chosen
 with_choice ways sent old p k =
@@ -26,54 +27,55 @@ with_choice ways sent old p k =
       loads = with_changes (Add (slice_index sent p)) old.loads (way_from ways choices p);
     }
 
--- the choices once the positions of a list have chosen, one after the other, as `choice` says
+-- the choices after the positions of a list have chosen, one after another, as `choice` says
 abbrev pub choose_each : (Chosen → ℕ → ℕ) → List (List Edge) → List ℕ → Chosen → List ℕ → Chosen
 choose_each choice ways sent old [] = old
 choose_each choice ways sent old (p ∷ ps) =
     choose_each choice ways sent (with_choice ways sent old p (choice old p)) ps
 
--- whether a candidate of position `p` leads up
+-- whether any candidate of position `p` leads up
 abbrev pub is_below : List (List Edge) → ℕ → Bool
 is_below ways p = leads_up p (edges_at ways p)
 
--- all positions: first those without a candidate that leads up, from the last to the first; then the others, from the
--- first to the last. If `ways` are the candidates towards a target, each position comes after those that its candidates
--- lead to
+-- all positions: first those without a candidate that leads up, from the last to the first, and then the others, from
+-- the first to the last. If `ways` are the candidates towards a target, each position comes after the positions that
+-- its candidates lead to
 abbrev pub near_first : List (List Edge) → List ℕ
 near_first ways =
     filter (λ p. not (is_below ways p)) (reverse (numbers_from 0 (length ways)))
     ++ filter (is_below ways) (numbers_from 0 (length ways))
 
--- `n` modulo a count; 0 if the count is 0
+-- `n` modulo the given count; 0 if the count is 0
 abbrev pub in_turn : ℕ → ℕ → ℕ
 in_turn zero n = 0
 in_turn (suc count) n = n % suc count
 
--- `n` divided by a weight, rounded down; `n` itself if the weight is 0
+-- `n` divided by the given weight, rounded down; `n` itself if the weight is 0
 abbrev pub digits_from : ℕ → ℕ → ℕ
 digits_from zero n = n
 digits_from (suc w) n = n / suc w
 
--- the number of the candidate that position `p` chooses at first towards the end with the number `number`: `number`
--- divided by `weights[p]`, rounded down, plus `p`, modulo the number of candidates; 0 if there are none
+-- the number of the candidate that is the first choice of position `p` towards the end with the number `number`. It is
+-- `number` divided by `weights[p]`, rounded down, plus `p`, modulo the number of candidates; 0 if there are no
+-- candidates
 abbrev pub first_choice : List (List Edge) → List ℕ → ℕ → ℕ → ℕ
 first_choice ways weights number p =
     in_turn (length (candidates_at ways p)) (digits_from (slice_index weights p) number + p)
 
--- the first choices of the positions of `order` towards the end with the number `number`, and the loads with the
+-- the first choices of the positions of `order` towards the end with the number `number`; and the loads, with the
 -- packets to that end added
 abbrev pub first_choices : List (List Edge) → List ℕ → List ℕ → List ℕ → ℕ → Chosen → Chosen
 first_choices ways sent weights order number old =
     choose_each (λ now p. first_choice ways weights number p) ways sent old order
 
--- `loads` without the packets that the positions of a list send, given the choices
+-- `loads` without the packets that the positions of a list send by the given choices
 abbrev pub without_packets : List (List Edge) → List ℕ → List ℕ → List ℕ → List ℕ → List ℕ
 without_packets ways sent choices loads [] = loads
 without_packets ways sent choices loads (p ∷ ps) =
     without_packets ways sent choices (with_changes (Remove (slice_index sent p)) loads (way_from ways choices p)) ps
 
--- new choices for an end: the packets to that end are taken off the loads, and then each position of `order`, one after
--- the other, chooses the candidate of least peak
+-- new choices for an end. The packets to that end are taken off the loads. Then each position of `order`, one after
+-- another, chooses the candidate of least peak
 abbrev pub new_choices : List (List Edge) → List ℕ → List ℕ → Chosen → Chosen
 new_choices ways sent order old =
     choose_each (λ now p. lightest ways now.choices now.loads p) ways sent
@@ -83,7 +85,8 @@ new_choices ways sent order old =
     })
     order
 
--- the choices for the end with the number `number` in a round: the first ones in round 0, new ones in later rounds
+-- the choices for the end with the number `number` in a round: first choices in round 0, and new choices in later
+-- rounds
 abbrev pub choices_in : ℕ → List (List Edge) → List ℕ → List ℕ → List ℕ → ℕ → Chosen → Chosen
 choices_in zero ways sent weights order number old = first_choices ways sent weights order number old
 choices_in (suc round) ways sent weights order number old = new_choices ways sent order old
@@ -93,7 +96,7 @@ pub record Balance : Type 0 where
   pub choices : List (List ℕ)
   pub loads : List ℕ
 
--- the balance once choices for `end` are made in a round; `first` is the first end at the position of `end`, and has
+-- the balance after choices for `end` are made in a round. `first` is the first end at the position of `end`, and has
 -- the number `number`
 abbrev pub with_end : ℕ → List (List Edge) → List ℕ → List ℕ → List ℕ → ℕ → ℕ → Balance → ℕ → Balance
 with_end round ways sent weights order number first old end =
@@ -101,8 +104,8 @@ with_end round ways sent weights order number first old end =
     let own = choices_in round ways sent weights order (number + (end - first)) before in
     record { choices = slice_set old.choices end own.choices; loads = own.loads }
 
--- the balance once choices for each end of a list, all at one position, are made in a round; `first` is the first end
--- at that position, and has the number `number`
+-- the balance after choices for each end of a list are made in a round. All these ends are at one position; `first` is
+-- the first end there, and has the number `number`
 abbrev pub with_ends : ℕ → List (List Edge) → List ℕ → List ℕ → List ℕ → ℕ → ℕ → Balance → List ℕ → Balance
 with_ends round ways sent weights order number first old [] = old
 with_ends round ways sent weights order number first old (end ∷ ends) =
@@ -112,7 +115,7 @@ with_ends round ways sent weights order number first old (end ∷ ends) =
 abbrev pub towards : List (List Edge) → ℕ → List (List Edge)
 towards graph t = map (candidates graph t) (numbers_from 0 (length graph))
 
--- the balance once choices for all ends of the destinations are made in a round; the first of these ends has the index
+-- the balance after choices for all ends of the destinations are made in a round. The first of these ends has the index
 -- `end`
 abbrev pub with_all : ℕ → List (List Edge) → List ℕ → List ℕ → Balance → ℕ → List Destination → Balance
 with_all round graph sent weights old end [] = old
@@ -127,7 +130,7 @@ abbrev pub ends_of : ℕ → List Destination → ℕ
 ends_of n [] = n
 ends_of n (d ∷ ds) = ends_of (n + d.ends) ds
 
--- `n` plus the sum of some numbers, at most 2^64 - 1
+-- `n` plus the sum of some numbers, but at most 2^64 - 1
 abbrev pub sum_from : ℕ → List ℕ → ℕ
 sum_from n [] = n
 sum_from n (x ∷ xs) = sum_from (min (n + x) (2 ^ 64 - 1)) xs
@@ -137,12 +140,12 @@ abbrev pub mean : ℕ → ℕ → ℕ
 mean sum zero = 0
 mean sum (suc count) = sum / suc count
 
--- the mean load of the channels of a graph, rounded down; the sum of the loads counts as 2^64 - 1 if it is more; 0 if
--- the graph has no channels
+-- the mean load of the channels of a graph, rounded down; 0 if the graph has no channels. If the sum of the loads is
+-- over 2^64 - 1, it counts as 2^64 - 1
 abbrev pub mean_load : List (List Edge) → List ℕ → ℕ
 mean_load graph loads = mean (sum_from 0 loads) (sum_from 0 (map length graph))
 
--- whether no load exceeds the mean load, rounded down, by more than an eighth of that mean, rounded down too
+-- whether no load exceeds the mean load by more than an eighth of it. The mean and the eighth are rounded down
 abbrev pub are_even : List (List Edge) → List ℕ → Bool
 are_even graph loads = nat_le (greatest 0 loads - mean_load graph loads) (mean_load graph loads / 8)
 
@@ -154,18 +157,18 @@ at_first graph destinations =
       loads = replicate (256 * length graph) 0;
     }
 
--- the balance after the given round; a round after the first changes nothing if the loads of `old` are even
+-- the balance after the given round. A round after the first changes nothing if the loads of `old` are even
 abbrev pub with_round : ℕ → List (List Edge) → List ℕ → List ℕ → List Destination → Balance → Balance
 with_round zero graph sent weights destinations old = with_all zero graph sent weights old 0 destinations
 with_round (suc round) graph sent weights destinations old =
     if are_even graph old.loads then old else with_all (suc round) graph sent weights old 0 destinations
 
--- the balance after a number of rounds
+-- the balance after the given number of rounds
 abbrev pub after_rounds : ℕ → List (List Edge) → List ℕ → List ℕ → List Destination → Balance
 after_rounds zero graph sent weights destinations = at_first graph destinations
 after_rounds (suc round) graph sent weights destinations =
     with_round round graph sent weights destinations (after_rounds round graph sent weights destinations)
 
--- the balanced choices for each end: the first ones and, while loads are not even, new ones, at most twice
+-- the balanced choices for each end: first choices, and then new choices while loads are not even, at most twice
 unfoldable pub balanced_choices : List (List Edge) → List ℕ → List ℕ → List Destination → List (List ℕ)
 balanced_choices graph sent weights destinations = (after_rounds 3 graph sent weights destinations).choices

@@ -1,10 +1,10 @@
--- The turn of a number among candidates, kept while numbers rise: the number divided by a weight, plus an offset,
--- modulo a count.
+-- The turn of a number among candidates: the number divided by a weight, plus an offset, modulo a count. The turn is
+-- kept as numbers rise.
 use Rattle.std.specs.Prelude.{◌≡◌, ◌<◌, ◌+◌, ◌*◌, ◌/◌, ◌%◌, ◌^◌}
 use Rattle.balanced_choices.specs.declared.round_robin.RoundRobin.{RoundRobin}
 
--- `turn.start` is a multiple of the weight, and so the first of `turn.weight` numbers with one turn. `turn.choice` is
--- that turn: the start divided by the weight, plus the offset, modulo the count
+-- `turn.start` is a multiple of the weight, and so the first of `turn.weight` numbers that have the same turn.
+-- `turn.choice` is that turn: the start divided by the weight, plus the offset, modulo the count
 pub record IsTurn (turn : RoundRobin) : Type 0 where
   pub weight : 0 < turn.weight
   pub offset : turn.offset < 2 ^ 63
@@ -12,7 +12,7 @@ pub record IsTurn (turn : RoundRobin) : Type 0 where
   pub whole : turn.start ≡ turn.start / turn.weight * turn.weight
   pub choice : turn.choice ≡ (turn.start / turn.weight + turn.offset) % turn.count
 
--- the turns `old` and `new` have equal weight, offset and count
+-- the turns `old` and `new` have the same weight, the same offset and the same count
 pub record IsOfSame (old new : RoundRobin) : Type 0 where
   pub weight : new.weight ≡ old.weight
   pub offset : new.offset ≡ old.offset

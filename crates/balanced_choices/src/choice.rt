@@ -12,8 +12,11 @@ use crate::ways::{Change, change_way, lightest};
 use port_graph::{Adjacency, Edge};
 use std::alloc::{AllocError, Global};
 
-/// Makes the choices of `round` for the end with the number `number`: first choices in round 0, and new ones in later
-/// rounds. Before new choices, the packets to the end are taken off `loads`.
+/// Makes the choices of `round` for the end with the number `number`: first choices in round 0, and new choices in
+/// later rounds. Before it makes new choices, takes the packets to the end off `loads`. `weights` must have the digit
+/// weight of each position, and `sent` the number of packets that each position sends to the end. `order` must have
+/// only positions of `ways`. `choices` must have a choice for each position, and `loads` 256 loads for each position.
+/// `number` plus the number of positions must fit in 64 bits.
 pub(crate) fn choose(
     alloc: Global,
     round: usize,
@@ -48,7 +51,8 @@ pub(crate) fn choose(
 }
 
 /// Makes the first choices for the end with the number `number`, at each position of `order` in turn. Each position
-/// takes the candidate that `first_choice` gives.
+/// takes the candidate that `first_choice` gives. `taken` must have the edges that positions take by `choices`. The
+/// other preconditions are those of `choose`.
 fn choose_in_turn(
     ways: &Adjacency,
     order: &[usize],
@@ -76,8 +80,9 @@ fn choose_in_turn(
     }
 }
 
-/// Returns the number of the candidate that `position` takes at first towards the end with the number `number`. Returns
-/// 0 if `position` has no candidate.
+/// Returns the number of the candidate that is the first choice of `position` towards the end with the number `number`.
+/// Returns 0 if `position` has no candidate. There must be such a position, and `weights` must have the digit weight of
+/// each position. `number` plus the number of positions must fit in 64 bits.
 pub(crate) fn first_choice(
     ways: &Adjacency,
     weights: &[usize],
@@ -93,7 +98,7 @@ pub(crate) fn first_choice(
     in_turn(ways.at(position).len().min(PORTS), digits + position)
 }
 
-/// Returns `number` without its digits below the digit of weight `weight`, or `number` itself if `weight` is 0.
+/// Returns `number` without the digits below the digit whose weight is `weight`, or `number` itself if `weight` is 0.
 fn digits_from(weight: usize, number: usize) -> usize
     ensures digits { result ≡ digits_from weight number }
     ensures less { result ≤ number }
@@ -114,7 +119,8 @@ fn in_turn(count: usize, number: usize) -> u8
 }
 
 /// Makes new choices for an end, at each position of `order` in turn. Each position takes the candidate whose way has
-/// the least peak load. Ties go to the first.
+/// the least peak load. If peak loads are equal, it takes the first. `taken` must have the edges that positions take by
+/// `choices`. The other preconditions are those of `choose`.
 fn choose_lightest(
     ways: &Adjacency,
     order: &[usize],
@@ -139,7 +145,8 @@ fn choose_lightest(
 }
 
 /// Lets `position` take the candidate with the number `choice`. Adds the packets that `position` sends to the loads of
-/// the channels on their way.
+/// the channels on their way. There must be such a position. `taken` must have the edges that positions take by
+/// `choices`. The other preconditions are those of `choose`.
 fn take(
     ways: &Adjacency,
     sent: &[usize],
@@ -167,7 +174,9 @@ fn take(
     }
 }
 
-/// Takes the packets that each position sends off the loads of the channels on their way.
+/// Takes the packets that each position sends off the loads of the channels on their way. `taken` has the edge that is
+/// taken at each position. `sent` must have the number of packets that each position sends, and `loads` 256 loads for
+/// each position.
 fn remove_packets(taken: &[Option<Edge>], sent: &[usize], loads: &mut [usize])
     requires sent { length sent.now ≡ length taken.now }
     requires loads { length loads.old ≡ 256 * length taken.now }

@@ -6,8 +6,8 @@ ghost use Rattle.balanced_choices.specs.BalancedChoices.{is_below, near_first};
 use port_graph::Adjacency;
 use std::alloc::{AllocError, Global};
 
-/// Returns all positions. If `ways` are the candidates towards one target, each position comes after the positions that
-/// its candidates lead to.
+/// Returns all positions in the order in which they choose. If `ways` are the candidates towards one target, each
+/// position comes after the positions that its candidates lead to.
 pub(crate) fn near_first(alloc: Global, ways: &Adjacency) -> Result<Vec<usize>, AllocError>
     ensures order { IfOk result (λ order. order.items ≡ near_first ways.now) }
     ensures positions { IfOk result (λ order. All (λ p. p < length ways.now) order.items) }
@@ -18,7 +18,7 @@ pub(crate) fn near_first(alloc: Global, ways: &Adjacency) -> Result<Vec<usize>, 
     Ok(order)
 }
 
-/// Appends to `order` the positions without a candidate that leads up, from the last to the first.
+/// Appends to `order` the positions that have no candidate that leads up, from the last to the first.
 fn push_above(ways: &Adjacency, order: &mut Vec<usize>) -> Result<(), AllocError>
     ensures { OnOk result (order.new.items
         ≡ order.old.items ++ filter (λ p. not (is_below ways.now p)) (reverse (numbers_from 0 (length ways.now)))) }
@@ -32,7 +32,7 @@ fn push_above(ways: &Adjacency, order: &mut Vec<usize>) -> Result<(), AllocError
     Ok(())
 }
 
-/// Appends to `order` the positions with a candidate that leads up, from the first to the last.
+/// Appends to `order` the positions that have a candidate that leads up, from the first to the last.
 fn push_below(ways: &Adjacency, order: &mut Vec<usize>) -> Result<(), AllocError>
     ensures { OnOk result (order.new.items
         ≡ order.old.items ++ filter (is_below ways.now) (numbers_from 0 (length ways.now))) }
@@ -45,7 +45,7 @@ fn push_below(ways: &Adjacency, order: &mut Vec<usize>) -> Result<(), AllocError
     Ok(())
 }
 
-/// Returns whether a candidate of `position` leads up.
+/// Returns whether any candidate of `position` leads up.
 fn is_below(ways: &Adjacency, position: usize) -> bool
     ensures { result ≡ is_below ways.now position }
 {

@@ -14,7 +14,7 @@ use port_graph::{Adjacency, Edge};
 use spread_labels::{CandidateSets, TARGETS, TargetSet};
 use std::alloc::{AllocError, Global};
 
-/// The greatest number of rounds: one for the first choices, and two for new ones.
+/// The greatest number of rounds: one for first choices, and two for new choices.
 const ROUNDS: usize = 3;
 
 /// A position at which ends are attached. Packets are sent to these ends.
@@ -24,17 +24,18 @@ pub struct Destination {
     pub position: usize,
     /// The number of ends.
     pub ends: u16,
-    /// The number of the first end. The further ends have the numbers after this one. First choices go by the digits of
+    /// The number of the first end. The other ends have the numbers that follow. First choices go by the digits of
     /// these numbers.
     pub number: u32,
 }
 
 /// Returns, for each end of each of `destinations` in order, the number of the candidate that each position takes.
-/// Position p sends `sent[p]` packets to each end. Its first choice goes by the digits of the end's number from the
-/// digit of weight `weights[p]` on. The candidates of a position are numbered in the order of its edges, from 0 on. A
-/// position without candidates has the number 0. Takes at most three rounds. Each round finds the candidates towards 64
-/// destinations at a time. From the second round on, a round walks the ways of all candidates of each position, for
-/// each end. Keeps a byte for each end and position.
+/// Position p sends `sent[p]` packets to each end. `sent` and `weights` must have an entry for each position, and
+/// destinations must be at positions. For its first choice, it uses the end's number without the digits below the digit
+/// of weight `weights[p]`. The candidates of a position are numbered from 0, in the order of its edges. A position that
+/// has no candidates gets 0. Makes at most three rounds. Each round finds the candidates towards 64 destinations at a
+/// time. From the second round on, a round walks, for each end, the ways of all candidates of each position. Keeps a
+/// byte for each end and position.
 pub fn balanced_choices(
     alloc: Global,
     graph: &Adjacency,
@@ -66,7 +67,7 @@ pub fn balanced_choices(
     Ok(choices)
 }
 
-/// Returns a choice of 0 for each position and each end of each destination.
+/// Returns, for each end of each of `destinations`, a choice of 0 for each position.
 fn no_choices(
     alloc: Global,
     positions: usize,
@@ -103,7 +104,8 @@ fn push_choices(
     Ok(())
 }
 
-/// Makes the choices of `round` for all ends of `destinations`. Makes none if `round` is not 0 and `loads` are even.
+/// Makes the choices of `round` for all ends of `destinations`. Makes no choices if `round` is not 0 and `loads` are
+/// even. `choices` must have choices for each of these ends. The other preconditions are those of `balanced_choices`.
 fn make_round(
     alloc: Global,
     round: usize,
@@ -144,6 +146,7 @@ fn make_round(
 }
 
 /// Makes the choices of `round` for all ends of `destinations`. Finds the candidates towards 64 destinations at a time.
+/// The preconditions are those of `make_round`.
 fn choose_all(
     alloc: Global,
     round: usize,
@@ -188,8 +191,8 @@ fn choose_all(
     Ok(())
 }
 
-/// Makes the choices of `round` for the ends of `destinations`. There must be at most 64 destinations. The first of
-/// these ends has the index `first`. Returns the index after the last of these ends.
+/// Makes the choices of `round` for the ends of `destinations`. There must be at most 64 destinations. `first` is the
+/// index of the first of these ends. Returns the index after the last of them.
 fn choose_some(
     alloc: Global,
     round: usize,
@@ -246,8 +249,8 @@ pub(crate) fn positions_of(
         .collect(alloc)
 }
 
-/// Makes the choices of `round` for the ends at one position, from the index `first` up to, but not including, `last`.
-/// The end at `first` has the number `number`, and the further ends have the numbers after `number`.
+/// Makes the choices of `round` for the ends at one position: those at the indices from `first` up to, but not
+/// including, `last`. The end at `first` has the number `number`, and the further ends have the numbers that follow.
 fn choose_between(
     alloc: Global,
     round: usize,
@@ -281,7 +284,7 @@ fn choose_between(
     Ok(())
 }
 
-/// Returns the candidates of each position towards target `k`, which must be less than 64, by `sets`.
+/// Returns the candidates of each position towards target `k`, as `sets` gives them. `k` must be less than 64.
 pub(crate) fn ways_towards(
     alloc: Global,
     graph: &Adjacency,
@@ -302,7 +305,7 @@ pub(crate) fn ways_towards(
     Ok(ways)
 }
 
-/// Sets `found` to those of `edges` whose set in `sets` has `target`. `target` must be less than 64. There must be a
+/// Sets `found` to those of `edges` whose sets in `sets` have `target`. `target` must be less than 64. There must be a
 /// set for each edge.
 fn find_having(
     edges: &[Edge],

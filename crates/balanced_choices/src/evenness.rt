@@ -5,8 +5,9 @@ ghost use Rattle.balanced_choices.specs.BalancedChoices.{are_even, mean, mean_lo
 use port_graph::Adjacency;
 use spread_labels::greatest_of;
 
-/// Returns whether none of `loads` exceeds the mean load of the channels of `graph` by more than an eighth of the mean.
-/// The mean and the eighth are rounded down. The sum of `loads` counts as at most 2^64 - 1.
+/// Returns whether the loads are even: none of `loads` exceeds the mean load of the channels of `graph` by more than an
+/// eighth of the mean. The mean and the eighth are rounded down. If the sum of `loads` is over 2^64 - 1, it counts as
+/// 2^64 - 1.
 pub fn are_even(graph: &Adjacency, loads: &[usize]) -> bool
     ensures { result ≡ are_even graph.now loads.now }
 {

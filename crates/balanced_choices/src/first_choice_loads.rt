@@ -16,9 +16,10 @@ use port_graph::{Adjacency, Edge};
 use spread_labels::{CandidateSets, TARGETS};
 use std::alloc::{AllocError, Global};
 
-/// Returns the load of each channel if the packets to all ends of all destinations take first choices. Position p sends
-/// `sent[p]` packets to each end, and has the digit weight `weights[p]`. Finds the candidates towards 64 destinations
-/// at a time. For each end, takes time linear in the number of positions.
+/// Returns the load of each channel if the packets to all ends of all destinations go by first choices. Position p
+/// sends `sent[p]` packets to each end, and has the digit weight `weights[p]`. `sent` and `weights` must have an entry
+/// for each position, and destinations must be at positions. Finds the candidates towards 64 destinations at a time.
+/// For each end, takes time linear in the number of positions.
 pub fn first_loads(
     alloc: Global,
     graph: &Adjacency,
@@ -50,7 +51,7 @@ pub fn first_loads(
 }
 
 /// Adds the packets to all ends of `destinations`, by first choices, to the loads of channels. There must be at most 64
-/// destinations.
+/// destinations. `loads` must have 256 loads for each position. The other preconditions are those of `first_loads`.
 fn add_packets(
     alloc: Global,
     graph: &Adjacency,
@@ -78,7 +79,8 @@ fn add_packets(
 }
 
 /// Adds the packets to all ends of `destination`, by first choices, to the loads of channels. `ways` must have the
-/// candidates of each position towards that of `destination`.
+/// candidates of each position towards the position of `destination`. `sent` and `weights` must have an entry for each
+/// position, and `loads` must have 256 loads for each position.
 fn add_packets_to(
     alloc: Global,
     ways: &Adjacency,
@@ -102,8 +104,8 @@ fn add_packets_to(
     Ok(())
 }
 
-/// Returns all positions. If `ways` are candidates towards one target, each position comes before the positions that
-/// its candidates lead to.
+/// Returns all positions. If `ways` are the candidates towards one target, each position comes before the positions
+/// that its candidates lead to.
 fn far_first(alloc: Global, ways: &Adjacency) -> Result<Vec<usize>, AllocError>
     ensures order { IfOk result (λ order. order.items ≡ reverse (near_first ways.now)) }
     ensures positions { IfOk result (λ order. All (λ p. p < length ways.now) order.items) }
@@ -124,9 +126,9 @@ fn copies(alloc: Global, list: &[usize], count: u16) -> Result<Vec<Vec<usize>>, 
     Ok(copies)
 }
 
-/// Lets `position` pass on the packets that it has had for each end of `destination`. `edges` are the candidates of
-/// `position`, and `weight` is its digit weight. Adds the packets to the loads of channels. Does nothing if there is no
-/// candidate.
+/// Passes on, from `position`, the packets that `had` has for it, for each end of `destination`: its own and those that
+/// have reached it. `edges` are the candidates of `position`, and `weight` is its digit weight. Adds the packets to the
+/// loads of channels. Does nothing if there is no candidate.
 fn pass_on(
     edges: &[Edge],
     weight: usize,
@@ -157,7 +159,8 @@ fn pass_on(
     }
 }
 
-/// Passes on, by `edge`, the packets that `position` has had. Adds these packets to the load of the channel of `edge`.
+/// Passes on, by `edge`, the packets that `had` has for `position`. Adds these packets to the load of the channel of
+/// `edge`.
 fn pass_by(edge: Edge, position: usize, had: &mut [usize], loads: &mut [usize])
     requires position { position < length had.old }
     requires loads { 256 * position + 256 ≤ length loads.old }
@@ -171,7 +174,7 @@ fn pass_by(edge: Edge, position: usize, had: &mut [usize], loads: &mut [usize])
     add_at(loads, channel, packets);
 }
 
-/// Adds `packets` to the number at `index`, up to 2^64 - 1. Does nothing if there is no such index.
+/// Adds `packets` to the number at `index`, but to at most 2^64 - 1. Does nothing if there is no such index.
 fn add_at(numbers: &mut [usize], index: usize, packets: usize)
     ensures { numbers.new ≡ with_changes (Add packets) numbers.old (index ∷ []) }
 {

@@ -3,7 +3,7 @@ ghost use Rattle.std.specs.Prelude.{◌≡◌, ◌*◌, IfOk, replicate};
 
 use std::alloc::{AllocError, Global};
 
-/// The number of channels of a vertex, one for each port number.
+/// The number of channels of each vertex, one for each port number.
 pub const PORTS: usize = 256;
 
 /// Returns a load of 0 for each channel of `vertices` vertices.

@@ -1,9 +1,9 @@
-//! The candidate that a number takes, as numbers rise.
+//! Which candidate has its turn, as the numbers that choose rise.
 ghost use Rattle.std.specs.Prelude.{◌≡◌, ◌<◌, ◌+◌, ◌/◌, ◌%◌, ◌^◌, max};
 ghost use Rattle.balanced_choices.specs.RoundRobins.{IsTurn, IsOfSame};
 
-/// The turn of a number among candidates: its digit plus an offset, modulo the number of candidates. Moving to one of
-/// the 2 * `weight` numbers from `start` on takes no division.
+/// The turn of a number among candidates: the number's digit plus an offset, modulo the number of candidates. Moving to
+/// one of the 2 * `weight` numbers from `start` on takes no division.
 #[derive(Clone, Copy)]
 pub struct RoundRobin {
     /// The weight of the digit. The digit of a number is the number divided by the weight, rounded down.
@@ -12,9 +12,9 @@ pub struct RoundRobin {
     offset: usize,
     /// The number of candidates.
     count: usize,
-    /// The least number that has the same digit as the current one.
+    /// The least number that has the same digit as the current number.
     start: usize,
-    /// The turn of the numbers that have this digit: the index of their candidate.
+    /// The turn of the numbers that have this digit: the index of the candidate that they choose.
     choice: usize,
 }
 
@@ -43,7 +43,7 @@ impl RoundRobin {
     }
 
     /// Returns the turn of the number 0 among `count` candidates, with the digit weight `weight` and the offset
-    /// `position` modulo `count`. A `weight` of 0 counts as 1. `count` must be from 1 to 2^63 - 1.
+    /// `position` modulo `count`. If `weight` is 0, the digit weight is 1. `count` must be from 1 to 2^63 - 1.
     pub fn first(weight: usize, position: usize, count: usize) -> Self
         requires { (0 < count) × (count < 2 ^ 63) }
         ensures turn { IsTurn result }
@@ -54,7 +54,7 @@ impl RoundRobin {
         RoundRobin::at(weight.max(1), position % count, count, 0)
     }
 
-    /// Moves to the turn of `number`, which must be less than 2^63.
+    /// Moves to the turn of `number`. `number` must be less than 2^63.
     pub fn go_to(&mut self, number: usize)
         requires turn { IsTurn self.old }
         requires number { number < 2 ^ 63 }
@@ -86,7 +86,8 @@ impl RoundRobin {
     }
 }
 
-/// Returns the candidate after `choice` among `count`, or 0 if `choice` is the last one.
+/// Returns the index of the candidate after `choice` among `count` candidates, or 0 if `choice` is the last one.
+/// `choice` must be less than `count`.
 fn next_round(choice: usize, count: usize) -> usize
     requires { choice < count }
     ensures { result ≡ (choice + 1) % count }

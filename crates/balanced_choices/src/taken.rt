@@ -1,4 +1,4 @@
-//! The edges that positions take, by their choices.
+//! The edges that positions take by their choices.
 ghost use Rattle.std.specs.Prelude.{◌≡◌, IfOk, slice_get, slice_index};
 ghost use Rattle.port_graph.specs.Heads.{edges_at};
 ghost use Rattle.balanced_choices.specs.EdgesTaken.{edges_taken};
@@ -7,7 +7,8 @@ ghost use Rattle.balanced_choices.specs.Ways.{edge_taken};
 use port_graph::{Adjacency, Edge};
 use std::alloc::{AllocError, Global};
 
-/// Returns the edge that each position takes by its choice, or `None` for a position that has no such candidate.
+/// Returns the edge that each position takes by its choice in `choices`, or `None` for a position that has no candidate
+/// with this number.
 pub(crate) fn edges_taken(
     alloc: Global,
     ways: &Adjacency,
@@ -22,7 +23,8 @@ pub(crate) fn edges_taken(
     Ok(taken)
 }
 
-/// Returns the edge that `position` takes by its choice, or `None` if `position` has no such candidate.
+/// Returns the edge that `position` takes by its choice in `choices`, or `None` if `position` has no candidate with
+/// this number.
 pub(crate) fn edge_taken(ways: &Adjacency, choices: &[u8], position: usize) -> Option<Edge>
     ensures { result ≡ edge_taken ways.now choices.now position }
 {
@@ -39,7 +41,7 @@ pub(crate) fn edge_with(ways: &Adjacency, position: usize, number: usize) -> Opt
     }
 }
 
-/// Returns the choice of `position`, or 0 if there is no such position.
+/// Returns the choice of `position`, or 0 if `choices` has none for it.
 fn choice_at(choices: &[u8], position: usize) -> usize
     ensures { result ≡ slice_index choices.now position }
 {

@@ -4,13 +4,13 @@ use Rattle.byte_io.specs.declared.source.ReadError.{ReadError}
 use Rattle.byte_io.specs.declared.source.ReadError.TheVariants.{Failed, Interrupted}
 
 -- the state of a source: the bytes that it has left, if they are known; whether a call of it has failed; and how many
--- of its calls were interrupted. After a failed call every later call fails
+-- of its calls were interrupted
 pub record SourceState : Type 0 where
   pub left : Option (List ℕ)
   pub has_failed : Bool
   pub interruptions : ℕ
 
--- 1 for a call that was interrupted, else 0
+-- 1 for a call that was interrupted, otherwise 0
 abbrev pub interruption : Result ℕ ReadError → ℕ
 interruption (Ok n) = 0
 interruption (Err Failed) = 0

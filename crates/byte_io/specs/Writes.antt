@@ -3,7 +3,8 @@ use Rattle.std.specs.Prelude.{ℕ, ◌↔◌, Bool, List, Option, Result, OnOk, 
 use Rattle.std.specs.Io.KnownBytes.{Appends}
 use Rattle.byte_io.specs.declared.sink.WriteFault.{WriteFault}
 
--- after `Ok`, `text` was appended to the sink's bytes; the result is `Err` exactly if the sink has then failed
+-- if the result is `Ok`, `text` was appended to the sink's bytes. The result is `Err` exactly when the sink has failed
+-- after the call
 pub record Writes {W : Type 0} (written : W → Option (List ℕ)) (has_failed : W
     → Bool) (result : Result (Unit {0}) WriteFault) (old new : W)
     (text : List ℕ) : Type 0 where

@@ -32,8 +32,8 @@ impl Budget {
     }
 
     /// Returns how many bytes the next call may ask for: at least 1, at most `wanted`, and no more than the budget has
-    /// left. The last byte of the budget is asked for on its own. `wanted` must not be 0, and the budget must have a
-    /// byte left.
+    /// left. The last byte of the budget is never asked for together with others. `wanted` must not be 0, and the
+    /// budget must have a byte left.
     pub(crate) fn share(&self, wanted: usize) -> usize
         requires some { 0 < wanted }
         requires left { self.now.bytes < 2 ^ 40 }

@@ -6,7 +6,7 @@ use std::io::Read;
 
 /// A source over any reader. After a failed read every later call fails too. The first 2^64 - 1 errors of kind
 /// `Interrupted` are not failures; every other error is. A reader's contract does not say when a read fails, so no
-/// clause here does.
+/// clause here says it.
 #[derive(Drop)]
 pub struct FromRead<R> {
     reader: R,

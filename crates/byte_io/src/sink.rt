@@ -15,13 +15,13 @@ pub enum WriteFault {
 pub trait Sink {
     ghost use Rattle.std.specs.Io.KnownBytes.{Appends, Keeps};
 
-    // The bytes that the sink holds, if they are known.
+    // The bytes that have been written to the sink, if they are known.
     ghost written: { Self → Option (List ℕ) };
 
-    // Whether a call has failed; then each later call fails too.
+    // Whether a call has failed. If so, each later call fails too.
     ghost has_failed: { Self → Bool };
 
-    // Whether nothing was written since the last flush, so nothing is held back.
+    // Whether nothing has been written since the last flush, so that no bytes are held back.
     ghost is_flushed: { Self → Bool };
 
     /// Writes all of `bytes`, or fails. How many bytes are written before a failure is unspecified.

@@ -21,7 +21,8 @@ pub trait Source {
     ghost state: { Self → SourceState };
 
     /// Reads into the front of `room` and returns the number of bytes read. The number is 0 only at the end of the
-    /// source, or if `room` is empty. The rest of `room` is unspecified. After an error, all of `room` is.
+    /// source, or if `room` is empty. The rest of `room` is unspecified. After an error, the whole of `room` is
+    /// unspecified.
     fn read(&mut self, room: &mut [u8]) -> Result<usize, ReadError>
         ensures within { IfOk result (λ n. n ≤ length room.new) }
         ensures bytes { ReadConsumes (state self.old).left (state self.new).left result room.new }

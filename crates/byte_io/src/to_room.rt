@@ -35,8 +35,7 @@ impl Model for ToRoom {
 }
 
 impl ToRoom {
-    /// Creates an empty sink with room for `room` bytes. Returns an error only if memory runs out, and never if `room`
-    /// is 0.
+    /// Creates an empty sink with room for `room` bytes. Returns an error if memory runs out, but never if `room` is 0.
     pub fn new(alloc: Global, room: usize) -> Result<Self, AllocError>
         ensures written { IfOk result (λ s. s.written ≡ []) }
         ensures room { IfOk result (λ s. s.room ≡ room) }
@@ -53,7 +52,7 @@ impl ToRoom {
         })
     }
 
-    /// Returns the bytes that the sink holds.
+    /// Returns the bytes that have been written to the sink.
     pub fn bytes(&self) -> &[u8]
         ensures { result.now ≡ self.now.written }
     {

@@ -39,8 +39,8 @@ impl<W: Write> Sink for ToWrite<W> {
 
     ghost is_flushed = { λ s. s.is_flushed };
 
-    /// Writes all of `bytes`. A call of the writer that takes no byte counts as failed. So does the 2^40th interrupted
-    /// call of the writer in one write.
+    /// Writes all of `bytes`. A call of the writer that takes none of the bytes counts as failed. So does the 2^40th
+    /// interrupted call of the writer in one write.
     fn write(&mut self, bytes: &[u8]) -> Result<(), WriteFault> {
         if self.has_failed {
             return Err(WriteFault::Write);

@@ -1,4 +1,4 @@
-//! The order by depth.
+//! The order of vertices by depth.
 ghost use Rattle.std.specs.Prelude.{◌≡◌, ◌<◌, length, count_by, IfOk, MatchOption};
 ghost use Rattle.port_graph.specs.Heads.{LeadToVertices};
 ghost use Rattle.spread_labels.specs.KeyOrder.{before_by};
@@ -11,10 +11,11 @@ use port_graph::{Adjacency, Edge};
 use spread_labels::VertexKey;
 use std::alloc::{AllocError, Global};
 
-/// Returns the vertices in their order by depth from `root`. The next vertex is an unplaced neighbor of the last placed
-/// vertex that has unplaced neighbors. Of these neighbors, the one with the most edges to placed vertices comes next.
-/// Of equals, it is the one that `direction` takes by `keys`. If no placed vertex has an unplaced neighbor, the first
-/// unplaced vertex by `keys` and `direction` comes next. There must be a key for each vertex.
+/// Returns the vertices in their order by depth from `root`. `root` is placed first. Then look for the last placed
+/// vertex that has unplaced neighbors. Of these neighbors, the one with the most edges to placed vertices is placed
+/// next. Of equals, it is the one that `direction` prefers by `keys`. If no placed vertex has an unplaced neighbor, the
+/// first unplaced vertex by `keys` and `direction` is placed next. `root` must be a vertex, all edges must lead to
+/// vertices, and there must be a key for each vertex.
 pub fn order_by_depth(
     alloc: Global,
     edges: &Adjacency,
@@ -41,7 +42,7 @@ pub fn order_by_depth(
     Ok(vertices)
 }
 
-/// Returns the vertex that is placed next, or `None` if all are placed.
+/// Returns the vertex that is placed after `vertices`, or `None` if all vertices are placed.
 fn next_by_depth(
     edges: &Adjacency,
     keys: &[VertexKey],
@@ -61,8 +62,8 @@ fn next_by_depth(
     }
 }
 
-/// Returns the first unplaced neighbor, by `goes_before`, of the last of `vertices` that has an unplaced neighbor.
-/// Returns `None` if none of `vertices` has one.
+/// Looks for the last of `vertices` that has an unplaced neighbor. Returns the first unplaced neighbor of this vertex
+/// by `goes_before`, or `None` if none of `vertices` has an unplaced neighbor.
 fn deepest(
     edges: &Adjacency,
     keys: &[VertexKey],
@@ -87,7 +88,8 @@ fn deepest(
     None
 }
 
-/// Returns the first unplaced neighbor, by `goes_before`, of `vertex`, or `None` if no neighbor is unplaced.
+/// Returns the first, by `goes_before`, of the unplaced neighbors of `vertex`. Returns `None` if `vertex` has no
+/// unplaced neighbor.
 fn best_beside(
     edges: &Adjacency,
     keys: &[VertexKey],
@@ -110,7 +112,7 @@ fn best_beside(
     found
 }
 
-/// Returns `vertex` if `found` is `None` or `vertex` goes before `found`, and otherwise `found`.
+/// Returns `vertex` if `found` is `None` or if `vertex` goes before `found` (`goes_before`). Otherwise returns `found`.
 fn better(
     edges: &Adjacency,
     keys: &[VertexKey],
@@ -131,8 +133,8 @@ fn better(
     }
 }
 
-/// Returns whether `one` goes before `other`: more of its edges lead to placed vertices, or equally many do and
-/// `direction` takes `one` by `keys`.
+/// Returns whether `one` goes before `other`. It does if more of its edges lead to placed vertices, or if equally many
+/// do and `direction` prefers `one` by `keys`.
 fn goes_before(
     edges: &Adjacency,
     keys: &[VertexKey],
@@ -177,7 +179,7 @@ fn first_left(keys: &[VertexKey], direction: Direction, placed: &[bool]) -> Opti
     found
 }
 
-/// Returns `vertex` if `found` is `None` or `direction` takes `vertex` rather than `found`. Otherwise returns `found`.
+/// Returns `vertex` if `found` is `None` or if `direction` prefers `vertex` to `found`. Otherwise returns `found`.
 fn earlier(keys: &[VertexKey], direction: Direction, found: Option<usize>, vertex: usize) -> usize
     requires vertex { vertex < length keys.now }
     requires found { MatchOption found (Unit {0}) (λ other. other < length keys.now) }

@@ -4,17 +4,18 @@ ghost use Rattle.depth_orders.specs.DepthOrders.{turned};
 
 use spread_labels::{VertexKey, is_before};
 
-/// The choice between two vertices if nothing else distinguishes them.
+/// The preference between two vertices if nothing else distinguishes them.
 #[derive(Clone, Copy, Debug, PartialEq, Eq)]
 pub enum Direction {
-    /// Takes the vertex with the earlier key.
+    /// Prefers the vertex with the earlier key.
     Forwards,
-    /// Takes the vertex with the later key.
+    /// Prefers the vertex with the later key.
     Backwards,
 }
 
 impl Direction {
-    /// Returns whether `one` is taken rather than `other`, by their `keys`.
+    /// Returns whether `one` is preferred to `other`, by their keys in `keys`. `keys` must have a key for each of the
+    /// two.
     pub(crate) fn takes(self, keys: &[VertexKey], one: usize, other: usize) -> bool
         requires one { one < length keys.now }
         requires other { other < length keys.now }

@@ -1,4 +1,4 @@
-//! Orders of the vertices of a graph by depth.
+//! Orders by depth of the vertices of a graph.
 #![tactic(auto)]
 
 mod depth_order;

@@ -3,7 +3,7 @@ use Rattle.std.specs.Prelude.{◌≡◌, ℕ, ◌≤◌, Bool, ◌&&◌, ◌||�
 use Rattle.fabric_model.specs.declared.cable.NodePort.{NodePort}
 use Rattle.fabric_model.specs.declared.cable.Cable.{Cable}
 
--- whether `a` and `b` are one port
+-- whether `a` and `b` are the same port
 abbrev pub is_same_port : NodePort → NodePort → Bool
 is_same_port a b = a.node == b.node && a.port == b.port
 
@@ -28,7 +28,7 @@ cables_in p cables = count_by (is_cable_in p) cables
 abbrev pub IsOneCableAPort : List Cable → Type 0
 IsOneCableAPort cables = (p : NodePort) → cables_in p cables ≤ 1
 
--- a cable that leads from `p` to `q` also leads from `q` to `p`, if each port has at most one cable
+-- if each port has at most one cable, a cable that leads from `p` to `q` also leads from `q` to `p`
 abbrev pub CablesLeadBack : Type 0
 CablesLeadBack = (cables : List Cable) (p q : NodePort) → IsOneCableAPort cables → other_end cables p ≡ Some q
     → other_end cables q ≡ Some p

@@ -1,4 +1,4 @@
--- A fabric: its nodes, the cables between their ports, and what its agents hold.
+-- A fabric: its nodes, the cables between their ports, and what is set at its agents.
 use Rattle.std.specs.Prelude.{◌≡◌, ℕ, ◌≤◌, Bool, false, List, Option, Some, slice_get, count_by, MatchBool}
 use Rattle.std.specs.Option.{option_map_or}
 use Rattle.smp_bytes.specs.declared.node_type.NodeType.{NodeType}
@@ -6,8 +6,9 @@ use Rattle.fabric_model.specs.declared.cable.NodePort.{NodePort}
 use Rattle.smp_bytes.specs.NodeType.{is_switch}
 use Rattle.smp_bytes.specs.LidRange.{has_lid}
 
--- a node as built: its GUID, its type, its number of ports without port 0, its table room, and the GUID of each port.
--- Only the GUIDs of end ports are read (subnet management chapter, NodeInfo and SwitchInfo)
+-- a node as built: its GUID, its type, its number of ports without port 0, the number of LIDs that its table has room
+-- for, and the GUID of each port. Only the GUIDs of end ports are read (subnet management chapter, NodeInfo and
+-- SwitchInfo)
 pub record Node : Type 0 where
   pub guid : ℕ
   pub kind : NodeType
@@ -15,8 +16,8 @@ pub record Node : Type 0 where
   pub cap : ℕ
   pub port_guid : ℕ → ℕ
 
--- a fabric: its nodes by number; the other end of the cable in each port, None without a cable; the LID and the LMC of
--- each end port; and the forwarding table and the top of each switch
+-- a fabric. It has its nodes by number; the other end of the cable in each port, or None if there is no cable; the LID
+-- and the LMC of each end port; and the forwarding table and the top of each switch
 pub record Fabric : Type 0 where
   pub nodes : List Node
   pub across : NodePort → Option NodePort
@@ -46,7 +47,7 @@ is_switch_at f number = option_map_or (λ node. is_switch node.kind) (slice_get 
 abbrev pub IsCablePort : Fabric → NodePort → Type 0
 IsCablePort f p = (node : Node) × IsNodeAt f p.node node × (1 ≤ p.port) × (p.port ≤ node.ports)
 
--- `port` is 0 if `node` is a switch, or from 1 to its number of ports if not
+-- if `node` is a switch, `port` is 0; otherwise `port` is from 1 to the number of ports of `node`
 abbrev pub IsEndPortNumber : Node → ℕ → Type 0
 IsEndPortNumber node port = MatchBool (is_switch node.kind) (port ≡ 0) ((1 ≤ port) × (port ≤ node.ports))
 
@@ -54,8 +55,8 @@ IsEndPortNumber node port = MatchBool (is_switch node.kind) (port ≡ 0) ((1 ≤
 abbrev pub IsEndPort : Fabric → NodePort → Type 0
 IsEndPort f p = (node : Node) × IsNodeAt f p.node node × IsEndPortNumber node p.port
 
--- each node has 1 to 254 ports; each cable is in ports that nodes have; and a cable that leads from `p` to `q` also
--- leads from `q` to `p`. A cable thus joins two ports or loops one
+-- each node has 1 to 254 ports. Each cable is in ports that nodes have, and a cable that leads from `p` to `q` also
+-- leads from `q` to `p`. Thus a cable joins two ports or loops one
 pub record IsFabric (f : Fabric) : Type 0 where
   pub counts : (number : ℕ) (node : Node) → IsNodeAt f number node → (1 ≤ node.ports) × (node.ports ≤ 254)
   pub cabled : (p q : NodePort) → f.across p ≡ Some q → IsCablePort f p

@@ -5,7 +5,7 @@ use Rattle.fabric_model.specs.Fabric.{Fabric}
 use Rattle.fabric_model.specs.Forwarding.{Hop, IsDelivered, IsLost}
 use Rattle.fabric_model.specs.DirectedWalk.{on_by, directed_end}
 
--- each packet for a LID is delivered at a port or lost at a node, and never both
+-- each packet for a LID is either delivered at a port or lost at a node, and never both
 abbrev pub PacketsEndOnce : Type 0
 PacketsEndOnce = (f : Fabric) (lid : ℕ) (source : NodePort)
     → (((hops : List Hop) × (target : NodePort) × IsDelivered f lid source hops target)
@@ -13,9 +13,9 @@ PacketsEndOnce = (f : Fabric) (lid : ℕ) (source : NodePort)
     × ((hops others : List Hop) (target : NodePort) (node : ℕ) → IsDelivered f lid source hops target
     → IsLost f lid source others node → ⊥)
 
--- a path of at least one port, with the port `out` appended, leads on from the path's end by the cable in `out`
--- (`on_by`). It leads nowhere if the path itself leads nowhere, if its end is not at a switch, or if no cable is in
--- `out` there
+-- if the port `out` is appended to a path of at least one port, the longer path leads on from the end of the path by
+-- the cable in `out` (`on_by`). It leads nowhere if the path itself leads nowhere, if its end is not at a switch, or if
+-- no cable is in `out` there
 abbrev pub WalksGoOn : Type 0
 WalksGoOn = (f : Fabric) (origin : NodePort) (first : ℕ) (path : List ℕ) (out : ℕ)
     → directed_end f origin ((first ∷ path) ++ out ∷ [])

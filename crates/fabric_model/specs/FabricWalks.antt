@@ -4,7 +4,7 @@ use Rattle.std.specs.Prelude.{◌≡◌, ◌≢◌, ◌⊎◌, ℕ, zero, suc, S
 use Rattle.fabric_model.specs.declared.cable.NodePort.{NodePort}
 use Rattle.fabric_model.specs.Fabric.{Fabric, IsEndPort, is_switch_at}
 
--- a cable joins the ports `p` and `q`, which are different
+-- a cable joins the ports `p` and `q`, which are different ports
 pub record IsWire (f : Fabric) (p q : NodePort) : Type 0 where
   pub cable : f.across p ≡ Some q
   pub different : p ≢ q
@@ -26,7 +26,7 @@ abbrev pub Walk : Fabric → NodePort → NodePort → ℕ → Type 0
 Walk f a b zero = a ≡ b
 Walk f a b (suc n) = (c : NodePort) × AreNeighbors f a c × ((n ≡ 0) ⊎ IsTrue (is_switch_at f c.node)) × Walk f c b n
 
--- vertex `a` is joined to vertex `b`: some walk leads from `a` to `b`
+-- in a fabric, vertex `a` is joined to vertex `b`: some walk over wires leads from `a` to `b`
 abbrev pub IsJoinedTo : Fabric → NodePort → NodePort → Type 0
 IsJoinedTo f a b = (n : ℕ) × Walk f a b n
 

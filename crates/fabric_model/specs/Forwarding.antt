@@ -1,4 +1,4 @@
--- What happens to a packet for a LID, wire by wire: it is delivered, leaves by a port, or is dropped. InfiniBand
+-- What happens to a packet for a LID at each node: it is delivered, leaves by a port, or is dropped. InfiniBand
 -- Architecture Specification, Volume 1: switches, unicast forwarding by the linear forwarding table.
 use Rattle.std.specs.Prelude.{◌≡◌, ℕ, ◌+◌, ◌*◌, Bool, true, false, ◌||◌, List, [], ◌∷◌, length, None, Some, ◌==◌, nat_lt, slice_get, if◌then◌else◌, ◌⊎◌}
 use Rattle.std.specs.Option.{option_map_or}
@@ -21,20 +21,23 @@ sent_from p = record { at = p; by_wire = false }
 abbrev pub arrived_at : NodePort → Standing
 arrived_at p = record { at = p; by_wire = true }
 
--- what an adapter port does with a packet at `s`. A packet for one of the port's LIDs (`is_own`) is delivered there.
--- Any other packet is sent out if the port is its sender, and dropped if it arrived by a wire
+-- what an adapter port does with a packet at `s`. If the packet is for one of the port's LIDs (`is_own`), it is
+-- delivered there. Any other packet is dropped if it arrived by a wire, and is otherwise sent out, since the port is
+-- its sender
 abbrev pub adapter_course : Bool → Standing → Course
 adapter_course is_own s = if is_own then Delivers s.at else if s.by_wire then Drops else LeavesBy s.at
 
--- what the switch with the number `number` and `ports` ports does with a packet by `entry`. It drops the packet if
--- `entry` is 255 or a port that it lacks, takes the packet if `entry` is 0, and else sends it out by the port `entry`
+-- what the switch with the number `number` and `ports` ports does with a packet by `entry`. The switch drops the packet
+-- if `entry` is 255 or is a port that the switch does not have. It takes the packet if `entry` is 0. Otherwise it sends
+-- the packet out by the port `entry`
 abbrev pub entry_course : ℕ → ℕ → ℕ → Course
 entry_course ports number entry =
     if entry == 255 || nat_lt ports entry then Drops
     else if entry == 0 then Delivers (record { node = number; port = 0 })
     else LeavesBy (record { node = number; port = entry })
 
--- what a switch does with a packet for `lid`: it goes by `entry` if `lid` is from 1 to `top`, and else drops the packet
+-- what a switch does with a packet for `lid`: if `lid` is from 1 to `top`, what `entry` says; otherwise it drops the
+-- packet
 abbrev pub switch_course : ℕ → ℕ → ℕ → ℕ → ℕ → Course
 switch_course ports number top lid entry = if lid == 0 || nat_lt top lid then Drops else entry_course ports number entry
 
@@ -69,12 +72,12 @@ IsDelivered f lid source hops target =
 abbrev pub IsStuck : Fabric → ℕ → Standing → Type 0
 IsStuck f lid s = (course f lid s ≡ Drops) ⊎ ((p : NodePort) × (course f lid s ≡ LeavesBy p) × (f.across p ≡ None))
 
--- a number of wires; a packet that takes this many wires loops forever
+-- a number of wires. A packet that takes this many wires loops forever
 abbrev pub wire_bound : Fabric → ℕ
 wire_bound f = 2 * switch_count f + 2
 
 -- a packet for `lid` that port `source` sends goes over the wires `hops` to the node with the number `node`, and is
--- lost there. It is dropped, leaves by a port without a cable, or took `wire_bound` wires, so loops forever
+-- lost there. It is dropped, leaves by a port without a cable, or has taken `wire_bound` wires, and so loops forever
 abbrev pub IsLost : Fabric → ℕ → NodePort → List Hop → ℕ → Type 0
 IsLost f lid source hops node =
     (end : Standing) × Goes f lid (sent_from source) hops end × (end.at.node ≡ node)

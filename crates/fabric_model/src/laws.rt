@@ -9,15 +9,15 @@ pub fn cables_lead_back()
     ensures { CablesLeadBack }
 {}
 
-/// A directed path of at least one port, with a port appended, leads on from the path's end by the cable in that port.
-/// The longer path leads nowhere if the path leads nowhere, if the path's end is not at a switch, or if no cable is in
-/// the appended port.
+/// If a port is appended to a directed path of at least one port, the longer path leads on from the end of the shorter
+/// path by the cable in the appended port. It leads nowhere if the shorter path leads nowhere, if the end of the
+/// shorter path is not at a switch, or if no cable is in the appended port.
 #[tactic(auto, using(crate::proofs::DirectedWalks::walks_go_on))]
 pub fn walks_go_on()
     ensures { WalksGoOn }
 {}
 
-/// A packet for a LID that is sent from a port is delivered at a port, or lost at a node, and never both.
+/// A packet for a LID that is sent from a port is either delivered at a port or lost at a node, and never both.
 pub fn packets_end_once()
     ensures { PacketsEndOnce }
 {}

@@ -1,5 +1,5 @@
--- The order of cells, and the join of two cells. A newer cell is above an older one, and a disputed cell above a known
--- one of its generation.
+-- The order of cells, and the join of two cells. A newer cell is above an older one. A disputed cell is above a known
+-- cell of the same generation.
 use Rattle.std.specs.Prelude.{◌≡◌, ℕ, ◌<◌, Bool, ◌⊎◌, nat_lt, if◌then◌else◌}
 use Rattle.fact_join.specs.declared.cell.Cell.{Cell}
 use Rattle.fact_join.specs.declared.cell.Cell.TheVariants.{Known, Disputed}
@@ -18,14 +18,14 @@ IsDisputed (Disputed generation) = Unit {0}
 abbrev pub IsBelow : {V : Type 0} → Cell V → Cell V → Type 0
 IsBelow a b = (generation_of a < generation_of b) ⊎ (a ≡ b) ⊎ ((generation_of a ≡ generation_of b) × IsDisputed b)
 
--- the join of two cells of one generation: the first if both are known with values that `same` calls equal, else
--- disputed in that generation
+-- the join of two cells of the same generation: the first if both are known with values that `same` calls equal,
+-- otherwise disputed in that generation
 abbrev pub joined_alike : {V : Type 0} → (V → V → Bool) → Cell V → Cell V → Cell V
 joined_alike same (Known generation x) (Known other y) = if same x y then Known generation x else Disputed generation
 joined_alike same (Known generation x) (Disputed other) = Disputed generation
 joined_alike same (Disputed generation) b = Disputed generation
 
--- the join of two cells: the newer one; if they have one generation, `joined_alike`
+-- the join of two cells: the newer one; if they have the same generation, `joined_alike`
 abbrev pub joined_by : {V : Type 0} → (V → V → Bool) → Cell V → Cell V → Cell V
 joined_by same a b =
     if nat_lt (generation_of b) (generation_of a) then a else

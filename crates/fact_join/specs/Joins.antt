@@ -1,5 +1,5 @@
--- Laws of the order of cells and of their join: `joined_by` gives the least cell above two, if `same` answers true
--- exactly for equal values.
+-- Laws of the order of cells and of their join. If `same` answers true exactly for equal values, `joined_by` gives the
+-- least cell above two cells.
 use Rattle.std.proofs.Common.{◌≡◌, ◌<◌, ◌≤◌, Bool, true, false, inl, inr, refl, sym, ap, ◌∙◌, subst, arith, cond}
 use Rattle.std.specs.Prelude.{nat_lt}
 use Rattle.std.specs.Cmp.{IsEquivalence}
@@ -25,7 +25,7 @@ disputed_is : {V : Type 0} (a : Cell V) → IsDisputed a → a ≡ Disputed (gen
 disputed_is (Known g x) h = absurd h
 disputed_is (Disputed g) h = refl
 
--- two disputed cells of one generation are equal
+-- two disputed cells of the same generation are equal
 both_disputed : {V : Type 0} (a b : Cell V) → generation_of a ≡ generation_of b → IsDisputed a → IsDisputed b → a ≡ b
 both_disputed a b e p q = disputed_is a p ∙ ap Disputed e ∙ sym (disputed_is b q)
 
@@ -47,8 +47,8 @@ below_trans a b c (inr (inr h)) (inr (inr k)) = inr (inr (h.0 ∙ k.0, k.1))
 
 -- the join ---------------------------------------------------------------------
 
--- the three cases of a join: one of the two cells is newer, and the join is that cell; or both have one generation, and
--- the join is `joined_alike`
+-- the three cases of a join: one of the two cells is newer, and the join is that cell; or both have the same
+-- generation, and the join is `joined_alike`
 pub data JoinCase {V : Type 0} (same : V → V → Bool) (a b : Cell V) : Type 0 where
   first_newer : generation_of b < generation_of a → joined_by same a b ≡ a → JoinCase same a b
   second_newer : generation_of a < generation_of b → joined_by same a b ≡ b → JoinCase same a b
@@ -82,7 +82,7 @@ module _ {V : Type 0} (same : V → V → Bool) (exact : (x y : V) → same x y 
   alike_above_first (Known g x) (Disputed h) = inr (inr (refl, tt))
   alike_above_first (Disputed g) b = inr (inl refl)
 
-  -- `joined_alike` of two cells of one generation is above the second
+  -- `joined_alike` of two cells of the same generation is above the second
   alike_above_second : (a b : Cell V) → generation_of a ≡ generation_of b → IsBelow b (joined_alike same a b)
   alike_above_second (Known g x) (Known h y) e =
       elim (same x y) as (λ t. same x y ≡ t → IsBelow (Known h y) (cond t (Known g x) (Disputed g))) [
@@ -104,7 +104,7 @@ module _ {V : Type 0} (same : V → V → Bool) (exact : (x y : V) → same x y 
   generation-alike (Known g x) (Disputed h) = refl
   generation-alike (Disputed g) b = refl
 
-  -- `joined_alike` of two cells of one generation is below each cell `z` that is above both
+  -- `joined_alike` of two cells of the same generation is below each cell `z` that is above both
   alike_least : (a b z : Cell V) → generation_of a ≡ generation_of b → IsBelow a z → IsBelow b z
       → IsBelow (joined_alike same a b) z
   alike_least a b z e (inl h) k = inl (omega (arith, generation-alike a b))
@@ -141,6 +141,6 @@ module _ {V : Type 0} (same : V → V → Bool) (exact : (x y : V) → same x y 
         | alike h e ↦ subst P (sym e) (alike_least a b z h p q)
       ]
 
--- an equivalence `same` answers true for each value and itself
+-- an equivalence `same` answers true for each value and the value itself
 pub equal_itself : {V : Type 0} {same : V → V → Bool} → IsEquivalence same → (x : V) → same x x ≡ true
 equal_itself laws x = laws.refl x

@@ -3,8 +3,8 @@ ghost use Rattle.fact_join.specs.Cell.{generation_of};
 
 use smp_bytes::Generation;
 
-/// What is known of one fact: the newest generation in which it was reported, and its value, unless different values
-/// were reported in that generation.
+/// What is known of one fact: the newest generation in which it was reported, and its value. There is no value if
+/// different values were reported in that generation.
 #[derive(Clone, Copy, Debug, PartialEq, Eq)]
 pub enum Cell<V> {
     /// The newest generation in which the fact was reported, and the only value that was reported in it.

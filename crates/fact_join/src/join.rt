@@ -2,13 +2,13 @@ ghost use Rattle.std.specs.Prelude.{◌≡◌, true, Bool, IsTrue, ◌↔◌};
 
 use crate::cell::Cell;
 
-/// A type whose `==` distinguishes all its values.
+/// A type whose values are the same whenever `==` says that they are equal.
 pub trait Exact: Eq + Copy {
-    /// Values that are equal by `==` are one value.
+    /// Values that are equal by `==` are the same value.
     ghost exact: { (x y : Self) → Self.eq x y ≡ true → x ≡ y };
 }
 
-/// A type with an order in which any two values have a least value above both.
+/// A type with an order in which any two values have a least value that is above both.
 pub trait Join: Sized {
     /// The first value is below the second, or equal to it.
     ghost below: { Self → Self → Type 0 };
@@ -16,11 +16,11 @@ pub trait Join: Sized {
     /// The least value above the two.
     ghost joined: { Self → Self → Self };
 
-    /// Returns whether this value is below `other`, or equal to it.
+    /// Returns whether this value is below `other` or equal to it.
     fn below(&self, other: &Self) -> bool
         ensures { IsTrue result ↔ below self.now other.now };
 
-    /// Returns the join of this value and `other`.
+    /// Returns the join of this value and `other`: the least value above both.
     fn join(&self, other: &Self) -> Self
         ensures { result ≡ joined self.now other.now };
 
@@ -37,8 +37,8 @@ pub trait Join: Sized {
     ghost least: { (x y z : Self) → below x z → below y z → below (joined x y) z };
 }
 
-/// A cell of a newer generation is above a cell of an older generation. Within a generation, a disputed cell is above
-/// all others, and cells with different values are not ordered.
+/// An order of cells. A cell of a newer generation is above a cell of an older generation. Within a generation, a
+/// disputed cell is above all others, and cells with different values are not ordered.
 impl<V: Exact> Join for Cell<V> {
     ghost use Rattle.fact_join.specs.Cell.{IsBelow, joined_by};
 

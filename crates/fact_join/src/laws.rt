@@ -1,4 +1,4 @@
-//! What follows from the laws of a join: neither order nor repetition of what is joined matters.
+//! What follows from the laws of a join: neither the order nor the repetition of the values that are joined matters.
 ghost use Rattle.std.specs.Prelude.{◌≡◌};
 
 use crate::join::Join;

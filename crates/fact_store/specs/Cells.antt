@@ -10,13 +10,13 @@ use Rattle.reply_facts.specs.Sighting.{IsSighting}
 use Rattle.fact_store.specs.Floor.{is_kept}
 use Rattle.fact_store.specs.Seen.{seen}
 
--- the keys of `cells` rise strictly, and each cell with its key is a sighting
+-- the keys of `cells` are in strictly ascending order, and each cell with its key is a sighting
 pub record AreCells (cells : List (Key × Cell Value)) : Type 0 where
   pub rising : IsTrue (is_sorted key_cmp cells)
   pub in_range : All IsSighting cells
 
--- `cells` can be those of a store with `floor`: their keys rise strictly, each cell with its key is a sighting, none is
--- below `floor`, and `floor` is at least 1
+-- `cells` can be the cells of a store with `floor`. Their keys are in strictly ascending order, each cell with its key
+-- is a sighting, no cell is below `floor`, and `floor` is at least 1
 pub record AreHeld (floor : ℕ) (cells : List (Key × Cell Value)) : Type 0 where
   pub from_one : 1 ≤ floor
   pub are : AreCells cells
@@ -28,8 +28,8 @@ pub record IsIndexFor (key : Key) (cells : List (Key × Cell Value)) (index : �
   pub absent : get (seen cells) key ≡ None
   pub rising : (c : Cell Value) → IsTrue (is_sorted key_cmp (insert cells index (key, c)))
 
--- a search for `key` in `cells` answers `Ok` with the index of the cell of `key`; if `key` has no cell, `Err` with the
--- index at which one would be inserted
+-- the result of a search for `key` in `cells`: `Ok` with the index of the cell of `key`; if `key` has no cell, `Err`
+-- with the index at which a cell of `key` would be inserted
 abbrev pub IsSearched : Key → List (Key × Cell Value) → Result ℕ ℕ → Type 0
 IsSearched key cells (Ok index) = (c : Cell Value) × (slice_get cells index ≡ Some (key, c))
 IsSearched key cells (Err index) = IsIndexFor key cells index

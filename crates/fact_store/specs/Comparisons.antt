@@ -1,4 +1,4 @@
--- How many keys a binary search in a store compares, and how many a walk of two stores in step.
+-- How many keys a binary search in a store compares, and how many comparisons a walk over two stores at once makes.
 use Rattle.std.specs.Prelude.{◌≡◌, ℕ, zero, suc, ◌+◌, ◌<◌, ◌≤◌, ◌^◌, List, [], ◌∷◌, length, slice_get, Some}
 use Rattle.std.specs.declared.cmp.Ordering.{Ordering}
 use Rattle.std.specs.declared.cmp.Ordering.TheVariants.{Less, Equal, Greater}
@@ -9,9 +9,9 @@ use Rattle.reply_facts.specs.Key.{key_cmp}
 
 -- a search: -----------------------------------------------------------------------
 
--- a search for `key` that compared the keys `compared`, latest first, has the indices from `low` up to, but not
--- including, `high` left. Each compared key was at an index that was left then. If it was less than `key`, the indices
--- after it stayed; if it was greater, the indices before it
+-- a search for `key` that has compared the keys `compared`, latest first, is left with the indices from `low` up to,
+-- but not including, `high`. Each compared key was at an index that was left at that time. If it was less than `key`,
+-- the indices after it were left; if it was greater, the indices before it
 pub data Leaves (key : Key) (cells : List (Key × Cell Value)) : List Key → ℕ → ℕ → Type 0 where
   all : Leaves key cells [] 0 (length cells)
   later : (compared : List Key) (low high index : ℕ) (e : Key × Cell Value) → Leaves key cells compared low high → low
@@ -41,29 +41,30 @@ abbrev pub HasDigits : ℕ → ℕ → Type 0
 HasDigits n zero = Unit {0}
 HasDigits n (suc digits) = 2 ^ digits ≤ n
 
--- a search of `n` indices that has made `steps` comparisons may make `left` more; `n` has at least `steps + left`
--- binary digits. These `left` comparisons suffice for `most` indices, which is 2^left - 1
+-- a search of `n` indices that has made `steps` comparisons may make `left` more. `n` has at least `steps + left`
+-- binary digits. `left` comparisons suffice for `most` indices, and `most` is 2^left - 1
 pub record IsBudget (n steps most : ℕ) : Type 0 where
   pub left : ℕ
   pub digits : HasDigits n (steps + left)
   pub full : most + 1 ≡ 2 ^ left
 
--- a walk of two lists in step: -----------------------------------------------------
+-- a walk over two lists at once: ------------------------------------------------
 
--- the number that belongs to an ordering: `less`, `equal` or `greater`
+-- `less`, `equal` or `greater`, whichever belongs to the ordering
 abbrev pub by_order : Ordering → ℕ → ℕ → ℕ → ℕ
 by_order Less less equal greater = less
 by_order Equal less equal greater = equal
 by_order Greater less equal greater = greater
 
--- how many comparisons a walk of two lists makes from cell `x` of the first list on; 0 if the second list is empty. The
--- key of `x` is compared with the next key of the second list, and the lesser key is passed, or both if they are equal.
--- `after` counts the comparisons after `x` is passed
+-- how many comparisons a walk over two lists makes from the cell `x` of the first list on; 0 if the second list is
+-- empty. The key of `x` is compared with the next key of the second list. The lesser key is passed, or both if they are
+-- equal. `after` counts the comparisons after `x` is passed
 abbrev pub compared_at : Key × Cell Value → (List (Key × Cell Value) → ℕ) → List (Key × Cell Value) → ℕ
 compared_at x after [] = 0
 compared_at x after (y ∷ t) = 1 + by_order (key_cmp x.0 y.0) (after (y ∷ t)) (after t) (compared_at x after t)
 
--- how many comparisons a walk of two lists in step makes: the next keys of both are compared until one list ends
+-- how many comparisons a walk over two lists at once makes: the next keys of both lists are compared until one list
+-- ends
 abbrev pub compared_by_walk : List (Key × Cell Value) → List (Key × Cell Value) → ℕ
 compared_by_walk [] t = 0
 compared_by_walk (x ∷ s) t = compared_at x (compared_by_walk s) t

@@ -9,7 +9,7 @@ use Rattle.fact_store.specs.declared.fingers.Fingers.{Fingers}
 abbrev pub hash_of : ℕ → ℕ
 hash_of guid = guid * 0x9E37_79B9_7F4A_7C15 % 2 ^ 64 / 2 ^ 32 % 256
 
--- the slot by the kind of a key: the last one, and the last but one for a link
+-- the slot at which the search for a key begins: the last slot of its kind, or the last but one for a link
 abbrev pub by_kind : Fingers → Key → Option Slot
 by_kind fingers (Node guid) = Some fingers.node
 by_kind fingers (PortGuid guid port) = Some fingers.port_guid
@@ -18,7 +18,7 @@ by_kind fingers (Port guid port) = Some fingers.port
 by_kind fingers (Claim guid port) = Some fingers.claim
 by_kind fingers (Cap guid) = Some fingers.cap
 
--- the last slot by the kind of a key and the hash of its GUID; None if the kind has no such slots
+-- the last slot for the kind of a key and the hash of its GUID; None if the kind has no slots by hash
 abbrev pub by_guid : Fingers → Key → Option Slot
 by_guid fingers (Node guid) = slice_get fingers.nodes (hash_of guid)
 by_guid fingers (PortGuid guid port) = slice_get fingers.port_guids (hash_of guid)
@@ -27,7 +27,7 @@ by_guid fingers (Port guid port) = None
 by_guid fingers (Claim guid port) = None
 by_guid fingers (Cap guid) = None
 
--- the fingers after the cell of a key was put at `slot`
+-- the fingers (remembered slots) after the cell of a key was put at `slot`
 abbrev pub after_put : Fingers → Key → Slot → Fingers
 after_put fingers (Node guid) slot =
     record fingers { node = slot; nodes = slice_set fingers.nodes (hash_of guid) slot }

@@ -1,4 +1,4 @@
--- The floor of facts: the least generation that counts. Cells of lower generations are dropped.
+-- The floor of facts: the least generation that is not forgotten. Cells of lower generations are dropped.
 use Rattle.std.proofs.Common.{◌≡◌, ℕ, Bool, true, false, List, [], ◌∷◌, ◌&&◌, cond, refl, sym, subst, arith}
 use Rattle.std.proofs.lemmas.Bool.{le-leb}
 use Rattle.std.specs.Prelude.{T, nat_le, max, filter, Option, None, Some, if◌then◌else◌}
@@ -20,7 +20,7 @@ is_kept floor c = nat_le floor (max 1 (generation_of c))
 abbrev pub kept : ℕ → List (Key × Cell Value) → List (Key × Cell Value)
 kept floor sightings = filter (λ s. is_kept floor s.1) sightings
 
--- the cell if it is at `floor` or above it; None if it is not, or if there is no cell
+-- the cell, if there is one and it is at `floor` or above it; otherwise None
 abbrev pub kept_there : ℕ → Option (Cell Value) → Option (Cell Value)
 kept_there floor None = None
 kept_there floor (Some c) = if is_kept floor c then Some c else None
@@ -50,7 +50,7 @@ second_true : (a b : Bool) → T (a && b) → T b
 second_true true b h = h
 second_true false b h = absurd h
 
--- if the key `k` comes before all keys of `es`, it comes before all that are kept at `floor`
+-- if the key `k` comes before all keys of `es`, it comes before all keys that are kept at `floor`
 below_kept : (floor : ℕ) (k : Key) (es : List (Key × Cell Value)) → T (below_all key_cmp k es)
     → T (below_all key_cmp k (kept floor es))
 below_kept floor k [] h = tt
@@ -59,7 +59,7 @@ below_kept floor k (e ∷ es) h =
     elim (is_kept floor e.1) as (λ b. T (below_all key_cmp k (cond b (e ∷ kept floor es) (kept floor es))))
     [ true ↦ both_true _ _ (first_true _ _ h) rest | false ↦ rest ]
 
--- if the keys of `es` rise, the keys that are kept at `floor` rise
+-- if the keys of `es` rise, those that are kept at `floor` rise
 pub rising_kept : (floor : ℕ) (es : List (Key × Cell Value)) → T (is_sorted key_cmp es)
     → T (is_sorted key_cmp (kept floor es))
 rising_kept floor [] h = tt
@@ -70,7 +70,7 @@ rising_kept floor (e ∷ es) h =
       | false ↦ rest
     ]
 
--- the entries of a map dropped to `floor` are those of its entries that are kept at `floor`
+-- if a map is dropped to `floor`, its entries are those that are kept at `floor`
 pub entries-dropped : (floor : ℕ) (found : CellMap) → entries (dropped floor found) ≡ kept floor (entries found)
 entries-dropped floor found =
     entries-from_sorted key_cmp (kept floor (entries found)) (rising_kept floor (entries found) (entries_sorted found))
@@ -90,7 +90,7 @@ all_kept floor (e ∷ es) =
 at_least_one : (floor : ℕ) → T (nat_le 1 (max 1 floor))
 at_least_one floor = subst T (sym (le-leb 1 (max 1 floor) (omega arith))) tt
 
--- the map `found` without its cells below the greater of `floor` and 1 has that floor (`has_floor`)
+-- let a floor be the greater of `floor` and 1. The map `found` without the cells below it has that floor (`has_floor`)
 pub dropped_has_floor : (floor : ℕ) (found : CellMap) → T (has_floor (max 1 floor) (dropped (max 1 floor) found))
 dropped_has_floor floor found =
     both_true _ _ (at_least_one floor)

@@ -12,21 +12,23 @@ use Rattle.fact_store.specs.Seen.{CellMap}
 use Rattle.reply_facts.specs.Value.{is_same_value}
 use Rattle.fact_store.specs.View.{Facts, at_floor, cell_for, no_facts, raised, view_at}
 
--- the join of two cells: the newer one; if they have one generation, known if both say one value, else disputed
+-- the join of two cells: the newer one. If both have the same generation, the join is known if both are known with the
+-- same value, and disputed otherwise
 abbrev pub join : Cell Value → Cell Value → Cell Value
 join = joined_by is_same_value
 
--- the cells of two maps: for a key that both have, the join of its cells; for any other key, its only cell
+-- the cells of two maps. For a key that both maps have, it is the join of the two cells; for any other key, it is the
+-- only cell
 abbrev pub merge_maps : CellMap → CellMap → CellMap
 merge_maps x y = from_entries (map (λ e. (e.0, option_map_or (join e.1) (get y e.0) e.1)) (entries x) ++ entries y)
 
--- the merge of `x` and `y`: facts with the greater of both floors, and with the cells of `merge_maps` that are not
+-- the merge of `x` and `y`: facts that have the greater of both floors, and those cells of `merge_maps` that are not
 -- below this floor
 abbrev pub merge : Facts → Facts → Facts
 merge x y = at_floor (max x.floor y.floor) (merge_maps x.found y.found)
 
--- `x` is below `y`: the floor of `y` is not less than that of `x`. For each cell of `x` that is not below the floor of
--- `y`, `y` has a cell above it with the same key
+-- `x` is below `y`. The floor of `y` is not less than that of `x`. For each cell of `x` that is not below the floor of
+-- `y`, `y` has a cell with the same key that is above it
 pub record IsBelowView (x y : Facts) : Type 0 where
   pub floors : x.floor ≤ y.floor
   pub cells : (key : Key) (c : Cell Value) → cell_for x key ≡ Some c → is_kept y.floor c ≡ true → (d : Cell Value)
@@ -38,7 +40,7 @@ pub record IsMerge (x y z : Facts) : Type 0 where
   pub above_second : IsBelowView y z
   pub least : (w : Facts) → IsBelowView x w → IsBelowView y w → IsBelowView z w
 
--- `merge` gives the least facts above two
+-- `merge` gives the least facts that are above both of two facts
 abbrev pub MergeLaw : Type 0
 MergeLaw = (x y : Facts) → IsMerge x y (merge x y)
 
@@ -46,15 +48,16 @@ MergeLaw = (x y : Facts) → IsMerge x y (merge x y)
 abbrev pub MergeIsUnique : Type 0
 MergeIsUnique = (x y z w : Facts) → IsMerge x y z → IsMerge x y w → z ≡ w
 
--- the view of two lists together, at the greater of two floors, is the merge of their views, each at its own floor
+-- the view of two lists together at the greater of two floors is the merge of the views of the lists, each at its own
+-- floor
 abbrev pub ViewOfBoth : Type 0
 ViewOfBoth = (f h : ℕ) (s t : List (Key × Cell Value)) → view_at (max f h) (s ++ t) ≡ merge (view_at f s) (view_at h t)
 
--- the merge of two facts does not depend on their order
+-- the merge of two sets of facts does not depend on their order
 abbrev pub MergeIsCommutative : Type 0
 MergeIsCommutative = (x y : Facts) → merge x y ≡ merge y x
 
--- the merge of three facts does not depend on which two are merged first
+-- the merge of three sets of facts does not depend on which two are merged first
 abbrev pub MergeIsAssociative : Type 0
 MergeIsAssociative = (x y z : Facts) → merge (merge x y) z ≡ merge x (merge y z)
 
@@ -62,7 +65,8 @@ MergeIsAssociative = (x y z : Facts) → merge (merge x y) z ≡ merge x (merge 
 abbrev pub MergeIsIdempotent : Type 0
 MergeIsIdempotent = (x : Facts) → merge x x ≡ x
 
--- how facts came about: from a list of sightings, from other facts by a raised floor, or by a merge of two
+-- how facts came about: from a list of sightings, from other facts by raising the floor, or by merging two sets of
+-- facts
 pub data Merging : Type 0 where
   of_sightings : List (Key × Cell Value) → Merging
   of_raised : Merging → ℕ → Merging
@@ -74,7 +78,7 @@ all_of (of_sightings s) = s
 all_of (of_raised m floor) = all_of m
 all_of (of_two a b) = all_of a ++ all_of b
 
--- the greatest floor to which facts were raised in a `Merging`; 1 if none was greater
+-- the greatest floor to which facts were raised in a `Merging`, or 1 if that is greater
 abbrev pub floor_of : Merging → ℕ
 floor_of (of_sightings s) = 1
 floor_of (of_raised m floor) = max (floor_of m) floor
@@ -90,8 +94,8 @@ merged (of_two a b) = merge (merged a) (merged b)
 abbrev pub GroupingIsFree : Type 0
 GroupingIsFree = (m : Merging) → merged m ≡ view_at (floor_of m) (all_of m)
 
--- views that are merged into empty facts, one after the other, give the view of all their sightings at the greatest of
--- their floors; at floor 1 if there is no view
+-- if views are merged into empty facts, one after another, the result is the view of all their sightings at the
+-- greatest of their floors; at floor 1 if there is no view
 abbrev pub MergingInTurn : Type 0
 MergingInTurn = (views : List (ℕ × List (Key × Cell Value))) → fold merge no_facts (map (λ v. view_at v.0 v.1) views)
     ≡ view_at (fold max 1 (map (λ v. v.0) views)) (flat_map (λ v. v.1) views)

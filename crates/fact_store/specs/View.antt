@@ -9,7 +9,7 @@ use Rattle.reply_facts.specs.Sighting.{IsSighting}
 use Rattle.fact_store.specs.Floor.{dropped, dropped_has_floor, has_floor, kept}
 use Rattle.fact_store.specs.Seen.{CellMap, HaveSameMembers, IsSeen, seen}
 
--- facts: a floor, 1 or more, and a map from keys to cells that are not below the floor
+-- facts: a floor, which is at least 1, and a map from keys to cells that are not below the floor
 pub record Facts : Type 0 where
   pub floor : ℕ
   pub found : CellMap
@@ -23,13 +23,13 @@ cells_of facts = entries facts.found
 abbrev pub cell_for : Facts → Key → Option (Cell Value)
 cell_for facts key = get facts.found key
 
--- facts with the floor `floor`, or 1 if `floor` is 0, and with the cells of `found` that are not below this floor
+-- facts with the floor `floor`, or 1 if `floor` is 0. They have the cells of `found` that are not below this floor
 abbrev pub at_floor : ℕ → CellMap → Facts
 at_floor floor found =
     record { floor = max 1 floor; found = dropped (max 1 floor) found; above = dropped_has_floor floor found }
 
--- `facts` with their floor raised to `floor` if that is greater, and without the cells below the floor that they then
--- have
+-- `facts` with their floor raised to `floor`, if that is greater than the floor that they have. Cells below the new
+-- floor are dropped
 abbrev pub raised : Facts → ℕ → Facts
 raised facts floor = at_floor (max facts.floor floor) facts.found
 
@@ -49,15 +49,15 @@ no_facts = view []
 abbrev pub AreInRange : Facts → Type 0
 AreInRange facts = (key : Key) (c : Cell Value) → cell_for facts key ≡ Some c → IsSighting (key, c)
 
--- some cell of `facts` has `generation`, and none has a greater one
+-- some cell of `facts` has `generation`, and no cell of `facts` has a greater generation
 pub record IsNewestGeneration (facts : Facts) (generation : ℕ) : Type 0 where
   pub held : (key : Key) × (c : Cell Value) × (cell_for facts key ≡ Some c) × (generation_of c ≡ generation)
   pub greatest : (key : Key) (c : Cell Value) → cell_for facts key ≡ Some c → generation_of c ≤ generation
 
 -- the law of a view: -------------------------------------------------------------
 
--- `facts` are the view of the sightings at `floor`: they have that floor, or 1 if it is 0, and the cells that the
--- sightings at the floor or above it give (`IsSeen`)
+-- `facts` are the view of the sightings at `floor`. They have that floor, or 1 if it is 0, and the cells that the
+-- sightings at or above the floor give (`IsSeen`)
 pub record IsView (floor : ℕ) (sightings : List (Key × Cell Value)) (facts : Facts) : Type 0 where
   pub at : facts.floor ≡ max 1 floor
   pub cells : IsSeen (kept floor sightings) facts.found
@@ -66,7 +66,7 @@ pub record IsView (floor : ℕ) (sightings : List (Key × Cell Value)) (facts : 
 abbrev pub ViewLaw : Type 0
 ViewLaw = (floor : ℕ) (sightings : List (Key × Cell Value)) → IsView floor sightings (view_at floor sightings)
 
--- two facts that are the view (`IsView`) of equal sightings at one floor are equal
+-- if two facts are both the view (`IsView`) of the same sightings at the same floor, they are equal
 abbrev pub ViewIsUnique : Type 0
 ViewIsUnique = (floor : ℕ) (sightings : List (Key × Cell Value)) (x y : Facts) → IsView floor sightings x
     → IsView floor sightings y → x ≡ y
@@ -80,7 +80,7 @@ MembersDecideView =
 abbrev pub ViewOfItsCells : Type 0
 ViewOfItsCells = (x : Facts) → view_at x.floor (cells_of x) ≡ x
 
--- a view at `floor`, raised to `greater`, is the view of its sightings at the greater of the two
+-- a view at `floor` that is raised to `greater` is the view of its sightings at the greater of the two floors
 abbrev pub RaisingForgets : Type 0
 RaisingForgets = (floor greater : ℕ) (sightings : List (Key × Cell Value)) → raised (view_at floor sightings) greater
     ≡ view_at (max floor greater) sightings

@@ -18,7 +18,7 @@ use smp_bytes::Generation;
 use std::alloc::AllocError;
 use std::cmp::Ordering;
 
-/// Returns the join of the cells `first` and `second`, which must be of one key.
+/// Returns the join of the cells `first` and `second`. The two must have the same key.
 fn join_cells(first: &Sighting, second: &Sighting) -> Sighting
     requires { first.now.0 ≡ second.now.0 }
     ensures value { result ≡ (first.now.0, join first.now.1 second.now.1) }
@@ -27,8 +27,9 @@ fn join_cells(first: &Sighting, second: &Sighting) -> Sighting
     Sighting::new(first.key(), first.cell().join(&second.cell())).unwrap()
 }
 
-/// Adds the cell of `sighting`: joins it with the cell of its key, or inserts it if the key has no cell. Notes the slot
-/// of the cell in `fingers`. `cells` must have room for one more cell.
+/// Adds the cell of `sighting`. If its key already has a cell, joins the two; otherwise inserts the cell. Notes the
+/// slot of the cell in `fingers`. `cells` must be in the order of keys (`AreCells`), and must have room for one more
+/// cell.
 pub(crate) fn put(cells: &mut PageList<Sighting>, fingers: &mut Fingers, sighting: Sighting)
     requires cells { AreCells cells.old.items }
     requires room { 0 < cells.old.room }
@@ -42,8 +43,8 @@ pub(crate) fn put(cells: &mut PageList<Sighting>, fingers: &mut Fingers, sightin
     fingers.put(&key, slot);
 }
 
-/// Adds the cell of `sighting` at the index of `found`. Joins it with the cell of its key, or inserts it if the key has
-/// no cell. Returns the slot of the cell. `found` must be the result of looking for the key of `sighting`, and `cells`
+/// Adds the cell of `sighting` at the index of `found`. If its key already has a cell, joins the two; otherwise inserts
+/// the cell. Returns the slot of the cell. `found` must be the result of looking for the key of `sighting`, and `cells`
 /// must have room for one more cell.
 fn put_found(cells: &mut PageList<Sighting>, found: Found, sighting: Sighting) -> Slot
     requires cells { AreCells cells.old.items }
@@ -83,9 +84,9 @@ pub(crate) fn put_kept(
     }
 }
 
-/// Returns the merge of the cells of `first` and `second`, by a walk of the two lists in step. Each step passes a key
-/// of one list or of both. Counts the comparisons of keys in `steps`, which must be 0 before. Returns an error if
-/// memory runs out.
+/// Returns the merge of the cells of `first` and `second`, by a walk over both lists at once. Each step passes one key,
+/// in one list or in both. Counts the comparisons of keys in `steps`, which must be 0 at first. Both lists must be in
+/// the order of keys (`AreCells`). Returns an error if memory runs out.
 pub(crate) fn merge_cells(
     first: &PageList<Sighting>,
     second: &PageList<Sighting>,

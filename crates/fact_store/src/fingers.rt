@@ -8,7 +8,7 @@ use smp_bytes::Guid;
 /// The number of hash values of GUIDs.
 const GUIDS: usize = 256;
 
-/// The slots where cells were put last, by the kind of their keys. The next key of a kind is looked for first at the
+/// The slots where cells were put last, by the kind of their keys. The search for the next key of a kind begins at the
 /// slot of that kind. A report has the two ends of a link one after the other, so a link is looked for at the last slot
 /// but one. The neighbors of a switch report it in turn, so nodes, port GUIDs and links also have a last slot for each
 /// hash of a GUID.
@@ -46,7 +46,7 @@ impl Fingers {
         }
     }
 
-    /// Returns the slot where `key` is looked for first: the last one of its kind, or the last but one for a link.
+    /// Returns the slot where the search for `key` begins: the last slot of its kind, or the last but one for a link.
     pub(crate) fn by_kind(&self, key: &Key) -> Slot
         ensures { Some result ≡ by_kind self.now key.now }
     {
@@ -60,7 +60,8 @@ impl Fingers {
         }
     }
 
-    /// Returns the slot where `key` is looked for next, or `None` if its kind has no slots by GUID.
+    /// Returns the slot where the search for `key` goes on: the last slot of its kind for the hash of its GUID. Returns
+    /// `None` if its kind has no slots by GUID.
     pub(crate) fn by_guid(&self, key: &Key) -> Option<Slot>
         ensures { result ≡ by_guid self.now key.now }
     {

@@ -1,12 +1,12 @@
-//! The laws of views and merges. What a store holds depends only on the sightings that were put in, and on the greatest
-//! floor. The order of the sightings, their repetition and the stores that they came through do not matter.
+//! The laws of views and merges. What a store contains depends only on the sightings that were put in, and on the
+//! greatest floor. The order of the sightings, their repetition and the stores that they came through do not matter.
 ghost use Rattle.fact_store.specs.View.{ViewLaw, ViewIsUnique, MembersDecideView, ViewOfItsCells, RaisingForgets};
 ghost use Rattle.fact_store.specs.Merge.{MergeLaw, MergeIsUnique, ViewOfBoth, MergeIsCommutative};
 ghost use Rattle.fact_store.specs.Merge.{MergeIsAssociative, MergeIsIdempotent, GroupingIsFree, MergingInTurn};
 
 /// A view at a floor has a cell for each key that was sighted at the floor or above it, and for no other key. The cell
-/// has the newest generation of the key's sightings. It is known with a value if all sightings of that generation say
-/// that value, and disputed otherwise.
+/// has the newest generation of the key's sightings. If all sightings of that generation say the same value, the cell
+/// is known with this value. Otherwise it is disputed.
 pub fn view_has_its_law()
     ensures { ViewLaw }
 {}
@@ -36,12 +36,12 @@ pub fn view_of_both()
     ensures { ViewOfBoth }
 {}
 
-/// The merge of two facts is above both, and below all facts that are above both.
+/// The merge of two sets of facts is above both, and below all facts that are above both.
 pub fn merge_is_least_above_both()
     ensures { MergeLaw }
 {}
 
-/// Two stores have only one merge: no other facts are above both and below everything that is above both.
+/// Two sets of facts have only one merge: no other facts are above both and below everything that is above both.
 pub fn merge_is_unique()
     ensures { MergeIsUnique }
 {}
@@ -67,8 +67,8 @@ pub fn grouping_is_free()
     ensures { GroupingIsFree }
 {}
 
-/// An empty store that merges any number of stores in turn holds the view of all their sightings at the greatest of
-/// their floors.
+/// An empty store that merges any number of stores in turn has the view of all their sightings at the greatest of their
+/// floors.
 pub fn merging_in_turn()
     ensures { MergingInTurn }
 {}

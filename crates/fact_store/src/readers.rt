@@ -7,7 +7,7 @@ use fact_join::Cell;
 use reply_facts::{Key, Value};
 use smp_bytes::{Guid, Lid, NodeType, PortNum};
 
-// Each reader takes one binary search.
+// Each reader does one binary search.
 impl Store {
     /// Returns the value of `key`, or `None` if `key` has no cell or a disputed one.
     pub fn known(&self, key: Key) -> Option<Value>

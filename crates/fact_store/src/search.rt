@@ -10,7 +10,7 @@ use page_list::{PageList, Slot};
 use reply_facts::{Key, Sighting};
 use std::cmp::Ordering;
 
-/// Compares the key of `held` with `key`, and adds 1 to `steps`, which must be less than 2^127. A store compares keys
+/// Compares the key of `held` with `key`, and adds 1 to `steps`. `steps` must be less than 2^127. A store compares keys
 /// only by this function.
 pub(crate) fn compare(held: &Sighting, key: &Key, steps: &mut u128) -> Ordering
     requires { steps.old < 2 ^ 127 }
@@ -26,12 +26,13 @@ pub(crate) fn compare(held: &Sighting, key: &Key, steps: &mut u128) -> Ordering
 #[derive(Clone, Copy)]
 pub(crate) struct Found {
     pub index: Result<usize, usize>,
-    /// The slot to look at first for the index. It is only a hint.
+    /// The slot at which to look for the index first. It is only a hint.
     pub near: Slot,
 }
 
-/// Returns the index of the cell of `key` or, if `key` has no cell, the index at which it would be inserted. Tries the
-/// fingers, then the end of the list, and then a binary search.
+/// Returns the index of the cell of `key` or, if `key` has no cell, the index at which it would be inserted. `cells`
+/// must be in the order of keys (`AreCells`). Tries the slots of `fingers`, then the end of the list, and then a binary
+/// search.
 pub(crate) fn index_of(cells: &PageList<Sighting>, key: &Key, fingers: &Fingers) -> Found
     requires { AreCells cells.now.items }
     ensures { IsSearched key.now cells.now.items result.index }
@@ -52,8 +53,8 @@ pub(crate) fn index_of(cells: &PageList<Sighting>, key: &Key, fingers: &Fingers)
     find(cells, key).found
 }
 
-/// Looks for `key` at the finger of its kind, and then at the finger of its GUID's hash, if its kind has such fingers.
-/// Returns `None` if neither finger gives the index of `key`.
+/// Looks for `key` at the finger (the remembered slot) of its kind, and then at the finger of its GUID's hash, if its
+/// kind has such fingers. Returns `None` if neither finger gives the index of `key`.
 fn found_by_fingers(cells: &PageList<Sighting>, key: &Key, fingers: &Fingers) -> Option<Found>
     requires { AreCells cells.now.items }
     ensures { IfSome result (λ found. IsSearched key.now cells.now.items found.index) }
@@ -77,8 +78,8 @@ fn found_at_finger(cells: &PageList<Sighting>, key: &Key, finger: Slot) -> Optio
 }
 
 /// Returns `Ok` with the index of the cell of `key` if this cell is the one at `finger` or the next one. Returns `Err`
-/// with the index after `finger` if `key` is greater than the key at `finger`, and less than the next key, if any.
-/// Returns `None` otherwise. Takes at most two comparisons.
+/// with the index after `finger` if `key` is greater than the key at `finger`, and less than the next key, if there is
+/// one. Returns `None` otherwise. Makes at most two comparisons.
 fn index_at_finger(
     cells: &PageList<Sighting>,
     key: &Key,
@@ -101,7 +102,8 @@ fn index_at_finger(
     }
 }
 
-/// Compares the key of the cell at index `i` with `key`. Returns `Greater` if no cell has the index `i`.
+/// Compares the key of the cell at index `i` with `key`. Looks for the index at the slot `near` first. Returns
+/// `Greater` if no cell has the index `i`.
 fn order_at(cells: &PageList<Sighting>, i: usize, near: Slot, key: &Key) -> Ordering
     ensures { result ≡ option_map_or (λ s. key_cmp s.0 key.now) (slice_get cells.now.items i) Greater }
 {
@@ -115,12 +117,13 @@ fn order_at(cells: &PageList<Sighting>, i: usize, near: Slot, key: &Key) -> Orde
 #[derive(Clone, Copy)]
 pub(crate) struct SearchResult {
     pub found: Found,
-    /// The number of keys of cells that were compared with the wanted key.
+    /// The number of cells whose keys were compared with the wanted key.
     pub steps: u32,
 }
 
-/// Searches for the index of the cell of `key` or, if `key` has no cell, for the index at which it would be inserted.
-/// Compares at most as many keys as the number of cells has binary digits.
+/// Searches `cells`, which must be in the order of keys (`AreCells`), for the index of the cell of `key` or, if `key`
+/// has no cell, for the index at which it would be inserted. Compares at most as many keys as there are binary digits
+/// in the number of cells.
 pub(crate) fn find(cells: &PageList<Sighting>, key: &Key) -> SearchResult
     requires { AreCells cells.now.items }
     ensures index { IsSearched key.now cells.now.items result.found.index }

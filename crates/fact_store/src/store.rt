@@ -18,7 +18,7 @@ use std::alloc::{AllocError, Global};
 use std::marker::Model;
 use thiserror::Error;
 
-/// Why an operation on a store, or on what it holds, failed.
+/// Why an operation on a store, or on its contents, failed.
 #[derive(Clone, Copy, Debug, PartialEq, Eq, Error)]
 pub enum Refused {
     /// Memory was refused.
@@ -32,14 +32,14 @@ impl From<AllocError> for Refused {
     }
 }
 
-/// The greatest number of sightings that `add_all` adds one by one. A report has no more.
+/// The greatest number of sightings that `add_all` adds one by one. A report has no more sightings than this.
 const SIGHTINGS_PER_REPORT: usize = 4;
 
 /// What is known of a subnet: at most one cell for each key. Together the cells are the view, at the store's floor, of
-/// all sightings that were put in. What is below the floor is forgotten for good.
+/// all sightings that were put in. Everything below the floor is forgotten for good.
 #[derive(Drop)]
 pub struct Store {
-    /// The least generation that counts.
+    /// The least generation that is not forgotten.
     floor: Generation,
     /// The cells with their keys, in the order of keys.
     cells: PageList<Sighting>,
@@ -62,7 +62,7 @@ impl Model for Store {
 }
 
 impl Store {
-    /// Creates an empty store at floor 1, which allocates from `alloc` once it grows. Does not allocate.
+    /// Creates an empty store at floor 1. Does not allocate. Once the store grows, it allocates from `alloc`.
     pub fn new(alloc: Global) -> Self
         ensures { result ≡ no_facts }
     {
@@ -73,7 +73,7 @@ impl Store {
         }
     }
 
-    /// Returns the least generation that counts. It is 1 for a new store.
+    /// Returns the least generation that is not forgotten. It is 1 for a new store.
     pub fn floor(&self) -> Generation
         ensures { result ≡ self.now.floor }
     {
@@ -93,8 +93,8 @@ impl Store {
     }
 
     /// Adds `sighting`, unless it is below the floor. Looks for its key first at the slots where cells of its kind were
-    /// put last, and then at the end. This takes at most five comparisons. If this does not give the index, does a
-    /// binary search. If memory runs out, returns an error, and nothing changes.
+    /// put last, and then at the end. This takes at most five comparisons. If the key's place is not found there, does
+    /// a binary search. If memory runs out, returns an error, and nothing changes.
     pub fn add(&mut self, sighting: Sighting) -> Result<(), Refused>
         ensures ok { OnOk result (self.new ≡ merge self.old (view (sighting ∷ []))) }
         ensures err { OnErr result (self.new ≡ self.old) }
@@ -104,8 +104,8 @@ impl Store {
         Ok(())
     }
 
-    /// Adds all `sightings` that are not below the floor. If memory runs out, returns an error, and nothing changes.
-    /// More than four sightings are first put into a store of their own, which is then merged.
+    /// Adds all `sightings` that are not below the floor. If memory runs out, returns an error, and nothing changes. If
+    /// there are more than four sightings, first puts them into a separate store, and then merges that store.
     pub fn add_all(&mut self, sightings: &[Sighting]) -> Result<(), Refused>
         ensures ok { OnOk result (self.new ≡ merge self.old (view sightings.now)) }
         ensures err { OnErr result (self.new ≡ self.old) }
@@ -118,7 +118,7 @@ impl Store {
     }
 
     /// Builds a store of `sightings`, and merges it. If memory runs out, returns an error, and nothing changes. This is
-    /// a function of its own because a `Store` is large on the stack and a report has few sightings.
+    /// a separate function because a `Store` is large on the stack and a report has few sightings.
     fn add_many(&mut self, sightings: &[Sighting]) -> Result<(), Refused>
         ensures ok { OnOk result (self.new ≡ merge self.old (view sightings.now)) }
         ensures err { OnErr result (self.new ≡ self.old) }
@@ -177,8 +177,8 @@ impl Store {
         Ok(steps)
     }
 
-    /// Merges `other` as `merge` does. A store without cells takes over the contents of `other` instead, and walks them
-    /// only if its own floor is greater. It then does not allocate.
+    /// Merges `other` as `merge` does. If this store has no cells, takes over the contents of `other` instead, and does
+    /// not allocate. It walks these contents only if the floor of this store is greater than that of `other`.
     pub fn merge_owned(&mut self, other: Store) -> Result<(), Refused>
         ensures ok { OnOk result (self.new ≡ merge self.old other) }
         ensures err { OnErr result (self.new ≡ self.old) }
@@ -257,7 +257,7 @@ impl Store {
         }
     }
 
-    /// Returns the greatest generation of a cell, or `None` if there is no cell. Takes time linear in the number of
+    /// Returns the newest generation of any cell, or `None` if there is no cell. Takes time linear in the number of
     /// cells.
     pub fn newest(&self) -> Option<Generation>
         ensures none { IsNone result ↔ (cells_of self.now ≡ []) }
@@ -281,7 +281,8 @@ fn newer(held: Option<Generation>, other: Generation) -> Generation
     }
 }
 
-/// Creates a store at `floor` of those `sightings` that are not below `floor`. Returns an error if memory runs out.
+/// Creates a store at `floor` with those of `sightings` that are not below `floor`. Returns an error if memory runs
+/// out.
 fn store_of(alloc: Global, floor: Generation, sightings: &[Sighting]) -> Result<Store, Refused>
     ensures { IfOk result (λ store. store ≡ view_at floor sightings.now) }
 {

@@ -1,4 +1,5 @@
--- The keys by which maps and blocks of levels must rise in a text of lanes: a node's GUID and two numbers.
+-- The keys by which maps and blocks of levels must be in ascending order in a text of lanes. A key is a node's GUID and
+-- two numbers.
 use Rattle.std.specs.Prelude.{ℕ, Bool, true, Option, None, Some}
 use Rattle.std.specs.declared.cmp.Ordering.{Ordering}
 use Rattle.std.specs.Ordering.{is_lt, nat_cmp, ordering_then}
@@ -13,12 +14,12 @@ Key = (ℕ × ℕ) × ℕ
 abbrev pub key_cmp : Key → Key → Ordering
 key_cmp a b = ordering_then (ordering_then (nat_cmp a.0.0 b.0.0) (nat_cmp a.0.1 b.0.1)) (nat_cmp a.1 b.1)
 
--- `key` is greater than the key `last` before it, or there is no key before (None)
+-- `key` is greater than `last`, the key before it; true if there is no key before it, so that `last` is None
 abbrev pub is_after : Option Key → Key → Bool
 is_after None key = true
 is_after (Some last) key = is_lt (key_cmp last key)
 
--- the key of a map: its node, then the port that packets come in by, then the one that they leave by
+-- the key of a map: its node, the port by which packets come in, and the port by which they leave
 abbrev pub map_key : LaneMap → Key
 map_key map = ((map.node, map.into), map.out)
 

@@ -4,7 +4,7 @@ use Rattle.lanes_file.specs.declared.lanes_item.LanesItem.{LanesItem}
 use Rattle.lanes_file.specs.declared.lanes_item.LanesItem.TheVariants.{Nothing, Lanes, Map, Level, Block}
 use Rattle.lanes_file.specs.Lanes.{LanesSaid}
 
--- what is said after a line that says an item, if `said` is said before it
+-- what is said after a line that says the given item, if `said` is said before the line
 abbrev pub said_with : LanesSaid → LanesItem → LanesSaid
 said_with said Nothing = said
 said_with said (Lanes lanes) = record said { lanes = lanes }

@@ -5,11 +5,11 @@ use Rattle.text_words.specs.declared.fault.LinesFault.{LinesFault}
 use Rattle.lanes_file.specs.declared.fault.LanesTextError.{LanesTextError}
 use Rattle.lanes_file.specs.declared.fault.LanesTextError.TheVariants.{Syntax, Port, Block, Lane, Level, Repeated}
 
--- a fault of a line, with the line's number
+-- a fault of a line of a text of lanes, with the number of the line
 abbrev pub LanesLineFault : Type 0
 LanesLineFault = LineFault LanesTextError
 
--- why a text of lanes is refused: the fault of a line, or lack of memory
+-- why a text of lanes is refused: the fault of a line, or a lack of memory
 abbrev pub LanesTextFault : Type 0
 LanesTextFault = LinesFault LanesTextError
 

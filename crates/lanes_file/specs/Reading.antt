@@ -21,7 +21,8 @@ use Rattle.lanes_file.specs.LanesLine.{line_of}
 abbrev pub start : LinesBefore
 start = record { has_lanes = false; map = None; has_level = false; block = None }
 
--- the state after a line that says an item, given the state before the line; it says which later lines are refused
+-- the state after a line that says the given item, given the state before the line. The state says which later lines
+-- are refused
 abbrev pub lines_after : LinesBefore → LanesItem → LinesBefore
 lines_after before Nothing = before
 lines_after before (Lanes lanes) = record before { has_lanes = true }
@@ -33,31 +34,31 @@ lines_after before (Block block) = record before { block = Some (block_key block
 abbrev pub fault_at : {T : Type 0} → ℕ → LanesTextError → Result T LanesLineFault
 fault_at number what = Err (record { line = number; wrong = what })
 
--- the byte `b` is no lane: it is over 15
+-- the byte `b` is not a lane: it is over 15
 abbrev pub is_no_lane : ℕ → Bool
 is_no_lane b = nat_lt 15 b
 
--- the byte `b` is neither a service level nor 255, which stands for no level of the LID's own
+-- the byte `b` is not a service level, and is not 255. The byte 255 says that the block gives the LID no level
 abbrev pub is_no_level : ℕ → Bool
 is_no_level b = nat_lt 15 b && not (b == 255)
 
--- the item of a `lanes` line: the lanes of packets that no map is for. The fault is `Lane` if a lane is over 15, else
--- `Repeated` if a `lanes` line came before (`is_second`)
+-- the item of a `lanes` line: the lanes of packets that have no map. The fault is `Lane` if a lane is over 15, and
+-- otherwise `Repeated` if a `lanes` line came before (`is_second`)
 abbrev pub lanes_with : ℕ → Bool → List ℕ → Result LanesItem LanesLineFault
 lanes_with number is_second lanes =
     if list_any is_no_lane lanes then fault_at number wrong.Lane
     else if is_second then fault_at number wrong.Repeated
     else Ok (Lanes lanes)
 
--- the item of a `sl2vl` line: the map. The fault is `Lane` if a lane is over 15. Else it is `Repeated` if the key is
--- not greater than `last`, the key of the map before, which is None if there is no such map
+-- the item of an `sl2vl` line: its map. The fault is `Lane` if a lane is over 15. Otherwise it is `Repeated` if the key
+-- of the map is not greater than `last`, the key of the map before it; `last` is None if there is no such map
 abbrev pub map_after : ℕ → Option Key → LaneMap → Result LanesItem LanesLineFault
 map_after number last map =
     if list_any is_no_lane map.lanes then fault_at number wrong.Lane
     else if is_after last (map_key map) then Ok (Map map)
     else fault_at number wrong.Repeated
 
--- the item of a `sl2vl` line with these numbers: a map; the fault is `Port` if a port is None, which stands for one
+-- the item of an `sl2vl` line with these numbers: a map. The fault is `Port` if a port is None, which stands for a port
 -- over 254
 abbrev pub map_with : ℕ → Option Key → ℕ → Option ℕ → Option ℕ → List ℕ → Result LanesItem LanesLineFault
 map_with number last node None out lanes = fault_at number wrong.Port
@@ -65,30 +66,32 @@ map_with number last node (Some into) None lanes = fault_at number wrong.Port
 map_with number last node (Some into) (Some out) lanes =
     map_after number last (record { node = node; into = into; out = out; lanes = lanes })
 
--- the item of a `level` line: the service level of packets that no block gives one. The fault is `Level` if the level
--- is None, which stands for one over 15; else `Repeated` if a `level` line came before (`is_second`)
+-- the item of a `level` line: the service level of packets that get none from a block. The fault is `Level` if the
+-- level is None, which stands for a level over 15. Otherwise it is `Repeated` if a `level` line came before
+-- (`is_second`)
 abbrev pub level_with : ℕ → Bool → Option ℕ → Result LanesItem LanesLineFault
 level_with number is_second None = fault_at number wrong.Level
 level_with number is_second (Some level) = if is_second then fault_at number wrong.Repeated else Ok (Level level)
 
--- the item of a `levels` line: the block. The fault is `Level` if a byte is over 15 and not 255. Else it is `Repeated`
--- if the key is not greater than `last`, the key of the block before, which is None if there is no such block
+-- the item of a `levels` line: its block. The fault is `Level` if a byte is over 15 and is not 255. Otherwise it is
+-- `Repeated` if the key of the block is not greater than `last`, the key of the block before it; `last` is None if
+-- there is no such block
 abbrev pub block_after : ℕ → Option Key → LevelBlock → Result LanesItem LanesLineFault
 block_after number last block =
     if list_any is_no_level block.levels then fault_at number wrong.Level
     else if is_after last (block_key block) then Ok (Block block)
     else fault_at number wrong.Repeated
 
--- the item of a `levels` line with these numbers: a block. The fault is `Port` if the port is None, which stands for
--- one over 254; else `Block` if the number is None, which stands for one over 767
+-- the item of a `levels` line with these numbers: a block. The fault is `Port` if the port is None, which stands for a
+-- port over 254. Otherwise it is `Block` if the number is None, which stands for a number over 767
 abbrev pub block_with : ℕ → Option Key → ℕ → Option ℕ → Option ℕ → List ℕ → Result LanesItem LanesLineFault
 block_with number last node None block levels = fault_at number wrong.Port
 block_with number last node (Some port) None levels = fault_at number wrong.Block
 block_with number last node (Some port) (Some block) levels =
     block_after number last (record { node = node; port = port; number = block; levels = levels })
 
--- what the line `number` says, after the lines before it; a fault if the grammar has no such line (None), or if the
--- line may not follow those before it
+-- what the line with the number `number` says, after the lines before it. A fault if the grammar does not have such a
+-- line, for which None is given, or if the line may not follow the lines before it
 abbrev pub item_of : ℕ → LinesBefore → Option LanesLine → Result LanesItem LanesLineFault
 item_of number before None = fault_at number wrong.Syntax
 item_of number before (Some line.Empty) = Ok Nothing
@@ -97,12 +100,12 @@ item_of number before (Some (line.Map l)) = map_with number before.map l.node l.
 item_of number before (Some (line.Level level)) = level_with number before.has_level level
 item_of number before (Some (line.Block l)) = block_with number before.block l.node l.port l.number l.levels
 
--- `next` of the item that a line says, or `last` of its fault
+-- what `next` makes of the item that a line says, or what `last` makes of its fault
 abbrev pub then_or : {T : Type 0} → Result LanesItem LanesLineFault → (LanesItem → T) → (LanesLineFault → T) → T
 then_or (Ok item) next last = next item
 then_or (Err fault) next last = last fault
 
--- the first fault of the lines, the first of which has the number `number`; None if they have no fault
+-- the first fault of the lines; None if they have no fault. The first of these lines has the number `number`
 abbrev pub first_fault_from : ℕ → LinesBefore → List (List ℕ) → Option LanesLineFault
 first_fault_from number before [] = None
 first_fault_from number before (l ∷ later) =
@@ -116,7 +119,7 @@ items_from number before (l ∷ later) =
     then_or (item_of number before (line_of l))
     (λ item. item ∷ items_from (number + 1) (lines_after before item) later) (λ fault. [])
 
--- the first fault of a text; None if it has none
+-- the first fault of a text; None if the text has no fault
 unfoldable pub first_fault : List ℕ → Option LanesLineFault
 first_fault text = first_fault_from 1 start (lines text)
 

@@ -1,5 +1,5 @@
--- What is true of all that a text can say: lanes and the level of a line `level` are up to 15, and the maps and the
--- blocks rise by their keys.
+-- What is true of everything that a text of lanes can say. Lanes and the level of a `level` line are up to 15. The maps
+-- and the blocks are in ascending order of their keys.
 use Rattle.std.specs.Prelude.{ℕ, ◌<◌, List, map, IfSome}
 use Rattle.std.specs.List.{AllByRecursion}
 use Rattle.std.specs.List.Sorted.{IsStrictlySortedBy}
@@ -15,8 +15,8 @@ AreLanes lanes = AllByRecursion (λ lane. lane < 16) lanes
 abbrev pub HasLanes : LaneMap → Type 0
 HasLanes map = AreLanes map.lanes
 
--- the lanes of `said` and of its maps, and its level if it has one, are up to 15; its maps and its blocks rise by their
--- keys
+-- the lanes of `said` and of its maps are up to 15, and so is its level, if it has one. Its maps and its blocks are in
+-- ascending order of their keys
 pub record IsWellFormed (said : LanesSaid) : Type 0 where
   pub lanes : AreLanes said.lanes
   pub map_lanes : AllByRecursion HasLanes said.maps

@@ -3,7 +3,7 @@ use text_words::{LineError, LineFault, LinesFault};
 /// What is wrong with a line of a text of lanes.
 #[derive(Clone, Copy, Debug, PartialEq, Eq)]
 pub enum LanesTextError {
-    /// The grammar has no such line.
+    /// The grammar does not have such a line.
     Syntax,
     /// A port is above 254.
     Port,
@@ -11,10 +11,10 @@ pub enum LanesTextError {
     Block,
     /// A lane is above 15.
     Lane,
-    /// A service level is above 15. In a block, `ff` is no fault.
+    /// A service level is above 15. In a block, `ff` is not a fault.
     Level,
-    /// The line is a second `lanes` or `level`. Or it is a `sl2vl` or `levels` whose GUID and next two numbers do not
-    /// come after those of the last line of its kind.
+    /// The line is a second `lanes` or `level` line. Or it is a `sl2vl` or `levels` line whose GUID and next two
+    /// numbers do not come after those of the last line of the same kind.
     Repeated,
 }
 

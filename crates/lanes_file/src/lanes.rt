@@ -12,17 +12,17 @@ use crate::lanes_builder::LanesBuilder;
 use smp_bytes::{Guid, Lid, PortNum};
 use std::marker::Model;
 
-/// The lane of packets for which the text gives no lane.
+/// The lane that packets have if the text gives them no lane.
 const NO_LANE: u8 = 15;
 
 /// The first number above all service levels.
 const LEVEL_END: u8 = 16;
 
-/// The lanes of packets from one port of a switch to another.
+/// The lanes of packets that go from one port of a switch to another.
 #[derive(Clone, Copy, Debug, PartialEq, Eq)]
 pub struct LaneMap {
     pub node: Guid,
-    /// The incoming port of packets, up to 254, or 0 for packets that the switch sends itself.
+    /// The port by which packets come in, up to 254, or 0 for packets that the switch sends itself.
     pub into: PortNum,
     /// The outgoing port of packets, up to 254.
     pub out: PortNum,
@@ -30,7 +30,7 @@ pub struct LaneMap {
     pub lanes: [u8; 16],
 }
 
-/// The service levels of packets from an end port to 64 LIDs.
+/// The service levels of packets that go from an end port to 64 LIDs.
 #[derive(Clone, Copy, Debug, PartialEq, Eq)]
 pub struct LevelBlock {
     pub node: Guid,
@@ -38,11 +38,11 @@ pub struct LevelBlock {
     pub port: PortNum,
     /// The number of the block, up to 767. The block has the levels of the 64 LIDs from 64 times this number on.
     pub number: u16,
-    /// The service level for each LID, up to 15, or 255 if the LID has no level of its own.
+    /// The service level for each of the LIDs, up to 15, or 255 if the block gives the LID no level.
     pub levels: [u8; 64],
 }
 
-/// What a text of lanes says: the lanes of packets in each switch, and their service levels.
+/// What a text of lanes says: the lanes of packets in each switch, and the service levels of packets.
 #[derive(Drop)]
 pub struct Lanes {
     lanes: Option<[u8; 16]>,
@@ -63,7 +63,8 @@ impl Model for Lanes {
 }
 
 impl Lanes {
-    /// Returns what the lines of a text say. Lanes and levels must be in range, and maps and blocks must rise.
+    /// Returns what the lines of a text say. Lanes and levels must be in range, and maps and blocks must be in
+    /// ascending order.
     pub(crate) fn of(said: LanesBuilder) -> Self
         requires { IsWellFormed said }
         ensures { result ≡ said }
@@ -100,9 +101,9 @@ impl Lanes {
         self.level_by(self.block(node, port, lid.block()), lid)
     }
 
-    /// Returns the service level of packets to `lid` from an end port. `block` is the end port's block with this LID,
-    /// or `None` if there is no such block. If no block gives the LID a level, returns the level of the line `level`,
-    /// or `None` without such a line.
+    /// Returns the service level of packets to `lid` from an end port. `block` is the end port's block that has this
+    /// LID, or `None` if there is no such block. If no block gives the LID a level, returns the level of the `level`
+    /// line, or `None` if there is no such line.
     pub fn level_by(&self, block: Option<&LevelBlock>, lid: Lid) -> Option<u8>
         ensures is { result ≡ level_by self.now.level (lid % 64) (option_copied block.entry) }
         ensures within { IfSome result (λ s. s < 16) }
@@ -132,9 +133,9 @@ impl Lanes {
         Some(&self.levels[index])
     }
 
-    /// Returns whether each service level that the text gives to some packets has a lane below 15 by each map and by
-    /// the line `lanes`. If so, each packet with a service level has a lane below 15 in each switch. Takes time linear
-    /// in the numbers of maps and blocks.
+    /// Returns whether each service level that the text gives to any packets has a lane below 15 in each map and in the
+    /// `lanes` line. If so, each packet that has a service level has a lane below 15 in each switch. Takes time linear
+    /// in the number of maps and of blocks.
     pub fn carries_all(&self) -> bool
         ensures is { result ≡ carries_all self.now }
         ensures carried { IsTrue result → CarriesAll self.now }
@@ -147,15 +148,15 @@ impl Lanes {
         )
     }
 
-    /// Returns whether there is a line `level`. If so, each packet has a service level.
+    /// Returns whether there is a `level` line. If so, each packet has a service level.
     pub fn has_level_for_all(&self) -> bool
         ensures { result ≡ has_level_for_all self.now }
     {
         self.level.is_some()
     }
 
-    /// Returns the lane of each service level from port `into` to port `out` of `node`, or an empty list if the text
-    /// gives no lanes.
+    /// Returns the lanes of packets from port `into` to port `out` of `node`, one for each service level. Returns an
+    /// empty list if the text gives no lanes.
     fn lanes_between(&self, node: Guid, into: PortNum, out: PortNum) -> &[u8]
         ensures is { result.now ≡ lanes_between self.now node into out }
         ensures lanes { AreLanes result.now }
@@ -166,8 +167,8 @@ impl Lanes {
         }
     }
 
-    /// Returns the lane of each service level of packets for which there is no map, or an empty list if the text gives
-    /// no lanes.
+    /// Returns the lanes of packets for which there is no map, one for each service level. Returns an empty list if the
+    /// text gives no such lanes.
     fn lanes_without_map(&self) -> &[u8]
         ensures is { result.now ≡ self.now.lanes }
         ensures lanes { AreLanes result.now }
@@ -179,7 +180,7 @@ impl Lanes {
     }
 
     /// Returns the map for packets from port `into` to port `out` of `node`, or `None` if there is no such map. Does a
-    /// binary search.
+    /// binary search among the maps.
     fn map(&self, node: Guid, into: PortNum, out: PortNum) -> Option<&LaneMap>
         ensures is { option_copied result ≡ find (is_map node into out) self.now.maps }
         ensures lanes { IfSome result (λ map. HasLanes map.now) }
@@ -203,30 +204,30 @@ fn lane_at(lanes: &[u8], level: u8) -> u8
     }
 }
 
-/// Returns whether each service level that some packets have gets a lane below 15 from each map and from `lanes`.
-/// `lanes` are for packets without a map. `own` is the level of packets that get none from a block.
+/// Returns whether each service level that any packets have gets a lane below 15 in each of `maps` and in `lanes`.
+/// `lanes` are the lanes of packets that have no map. `own` is the level of packets that get none from a block.
 fn each_is_carried(lanes: &[u8], maps: &[LaneMap], own: Option<u8>, blocks: &[LevelBlock]) -> bool
     ensures { result ≡ each_is_carried lanes.now maps.now own blocks.now }
 {
     (0..LEVEL_END).all(|level| carries(lanes, maps, level) || !gives(own, blocks, level))
 }
 
-/// Returns whether the lane of service level `level` is below 15 by each map, and by `lanes`, which are for packets
-/// without a map.
+/// Returns whether the lane of service level `level` is below 15 in each of `maps` and in `lanes`. `lanes` are the
+/// lanes of packets that have no map.
 fn carries(lanes: &[u8], maps: &[LaneMap], level: u8) -> bool
     ensures { result ≡ carries lanes.now maps.now level }
 {
     has_lane(lanes, level) && each_has_lane(maps, level)
 }
 
-/// Returns whether the lane of service level `level` is below 15 by each map.
+/// Returns whether the lane of service level `level` is below 15 in each of `maps`.
 fn each_has_lane(maps: &[LaneMap], level: u8) -> bool
     ensures { result ≡ list_all (map_has_lane level) maps.now }
 {
     maps.iter().all(|map| has_lane(&map.lanes, level))
 }
 
-/// Returns whether some packets have service level `level`: `level` is `own`, or a block gives `level` to a LID. `own`
+/// Returns whether any packets have service level `level`: `level` is `own`, or a block gives `level` to a LID. `own`
 /// is the level of packets that get none from a block.
 fn gives(own: Option<u8>, blocks: &[LevelBlock], level: u8) -> bool
     ensures { result ≡ gives own blocks.now level }

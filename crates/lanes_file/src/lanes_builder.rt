@@ -7,7 +7,7 @@ use crate::lanes_item::LanesItem;
 use std::alloc::{AllocError, Global};
 use std::marker::Model;
 
-/// What the lines so far say.
+/// What the lines read so far say.
 #[derive(Drop)]
 pub(crate) struct LanesBuilder {
     pub(crate) lanes: Option<[u8; 16]>,
@@ -25,7 +25,7 @@ impl Model for LanesBuilder {
 }
 
 impl LanesBuilder {
-    /// Returns what is said before the first line, which is nothing.
+    /// Returns what is said before the first line: nothing.
     pub(crate) fn new(alloc: Global) -> Self
         ensures { result ≡ nothing_said }
     {
@@ -37,7 +37,7 @@ impl LanesBuilder {
         }
     }
 
-    /// Returns what the lines so far say together with a further line that says `item`.
+    /// Returns what the lines read so far say, together with a further line that says `item`.
     pub(crate) fn with(self, item: LanesItem) -> Result<Self, AllocError>
         ensures { IfOk result (λ said. said ≡ said_with self item) }
     {

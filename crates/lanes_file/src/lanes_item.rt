@@ -4,7 +4,7 @@ use crate::lanes::{LaneMap, LevelBlock};
 #[derive(Clone, Copy)]
 pub(crate) enum LanesItem {
     Nothing,
-    /// The lanes of all packets for which there is no map.
+    /// The lanes of all packets that have no map.
     Lanes([u8; 16]),
     Map(LaneMap),
     /// The level, up to 15, of all packets that get none from a block.

@@ -14,19 +14,19 @@ use smp_bytes::{Guid, PortNum};
 /// The greatest lane, and the greatest service level.
 const MAX_LANE: u8 = 15;
 
-/// The byte of a block for a LID that has no service level of its own.
+/// The byte in a block for a LID to which the block gives no service level.
 const NO_LEVEL: u8 = 0xFF;
 
-/// The facts about the lines so far that are needed to check the next line.
+/// What must be known of the lines read so far to check the next line.
 #[derive(Clone, Copy)]
 pub(crate) struct LinesBefore {
-    /// Whether there is a line `lanes`.
+    /// Whether there is a `lanes` line.
     pub(crate) has_lanes: bool,
-    /// The node and the two ports of the last line `sl2vl`; `None` if there is none.
+    /// The node and the two ports of the last `sl2vl` line, or `None` if there is no such line.
     pub(crate) map: Option<((Guid, PortNum), PortNum)>,
-    /// Whether there is a line `level`.
+    /// Whether there is a `level` line.
     pub(crate) has_level: bool,
-    /// The node, the port and the number of the last line `levels`; `None` if there is none.
+    /// The node, the port and the number of the last `levels` line, or `None` if there is no such line.
     pub(crate) block: Option<((Guid, PortNum), u16)>,
 }
 
@@ -43,7 +43,7 @@ impl LinesBefore {
         }
     }
 
-    /// Returns what the line numbered `number` says, or what is wrong with it.
+    /// Returns what `line` says, or what is wrong with it. `number` is the number of the line.
     pub(crate) fn item(&self, number: usize, line: &[u8]) -> Result<LanesItem, LanesLineFault>
         ensures { result ≡ item_of number self.now (line_of line.now) }
     {
@@ -83,15 +83,15 @@ impl LinesBefore {
     }
 }
 
-/// Returns the fault `wrong` of line number `line`.
+/// Returns the fault `wrong`, at the line with the number `line`.
 fn wrong(line: usize, wrong: LanesTextError) -> Result<LanesItem, LanesLineFault>
     ensures { result ≡ Err (record { line = line; wrong = wrong }) }
 {
     Err(LanesLineFault { line, wrong })
 }
 
-/// Returns what a `lanes` line numbered `number` says, or what is wrong with it. `is_second` says whether there is a
-/// `lanes` line before it.
+/// Returns what a `lanes` line says, or what is wrong with it. `number` is the number of the line, and `lanes` are its
+/// lanes. `is_second` says whether there is a `lanes` line before it.
 fn lanes_item(number: usize, is_second: bool, lanes: [u8; 16]) -> Result<LanesItem, LanesLineFault>
     ensures { result ≡ lanes_with number is_second lanes }
 {
@@ -111,8 +111,8 @@ fn has_no_lane(lanes: &[u8]) -> bool
     lanes.iter().any(|lane| *lane > MAX_LANE)
 }
 
-/// Returns what a `sl2vl` line numbered `number` says, or what is wrong with it. `last` has the node and the ports of
-/// the `sl2vl` line before, if there is one.
+/// Returns what the `sl2vl` line `line` says, or what is wrong with it. `number` is the number of the line. `last` has
+/// the node and the ports of the last `sl2vl` line before it, if there is one.
 fn map_item(
     number: usize,
     last: Option<((Guid, PortNum), PortNum)>,
@@ -136,8 +136,9 @@ fn map_item(
     )
 }
 
-/// Returns what a `sl2vl` line numbered `number` says, or what is wrong with it: its lanes must be up to 15, and it
-/// must come after the `sl2vl` line of `last`, if there is one.
+/// Returns what an `sl2vl` line says, or what is wrong with it. `number` is the number of the line, and `map` is its
+/// map. Its lanes must be up to 15, and the map must come after `last`, which has the node and the ports of the last
+/// `sl2vl` line before it, if there is one.
 fn map_after(
     number: usize,
     last: Option<((Guid, PortNum), PortNum)>,
@@ -164,8 +165,8 @@ fn is_map_after(last: Option<((Guid, PortNum), PortNum)>, key: ((Guid, PortNum),
     }
 }
 
-/// Returns what a `level` line numbered `number` says, or what is wrong with it. `is_second` says whether there is a
-/// `level` line before it.
+/// Returns what a `level` line says, or what is wrong with it. `number` is the number of the line. `is_second` says
+/// whether there is a `level` line before it.
 fn level_item(
     number: usize,
     is_second: bool,
@@ -183,8 +184,8 @@ fn level_item(
     }
 }
 
-/// Returns what a `levels` line numbered `number` says, or what is wrong with it. `last` has the node, the port and the
-/// number of the `levels` line before, if there is one.
+/// Returns what the `levels` line `line` says, or what is wrong with it. `number` is the number of the line. `last` has
+/// the node, the port and the number of the last `levels` line before it, if there is one.
 fn block_item(
     number: usize,
     last: Option<((Guid, PortNum), u16)>,
@@ -211,8 +212,9 @@ fn block_item(
     )
 }
 
-/// Returns what a `levels` line numbered `number` says, or what is wrong with it: its levels must be in range, and it
-/// must come after the `levels` line of `last`, if there is one.
+/// Returns what a `levels` line says, or what is wrong with it. `number` is the number of the line, and `block` is its
+/// block. Its levels must be in range, and the block must come after `last`, which has the node, the port and the
+/// number of the last `levels` line before it, if there is one.
 fn block_after(
     number: usize,
     last: Option<((Guid, PortNum), u16)>,

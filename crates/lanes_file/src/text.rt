@@ -11,9 +11,10 @@ use crate::lines_before::LinesBefore;
 use std::alloc::Global;
 use text_words::{LinesFault, split_line};
 
-/// Reads a text of lanes. It has at most one line `lanes` and one line `level`. It has a line for each map of a switch,
-/// in ascending order of GUID and ports, and a line for each block of the levels of an end port, in ascending order of
-/// GUID, port and number. Lines end with LF or CR LF, empty lines are skipped, and `#` begins a comment:
+/// Reads a text of lanes. It has at most one `lanes` line and at most one `level` line. It has an `sl2vl` line for each
+/// map of a switch, in ascending order of GUID and ports. It has a `levels` line for each block of the levels of an end
+/// port, in ascending order of GUID, port and number. Lines end with LF or CR LF, empty lines are skipped, and `#`
+/// begins a comment:
 ///
 /// ```text
 /// lanes 00000000000000000000000000000000
@@ -41,7 +42,8 @@ pub fn parse(alloc: Global, text: &[u8]) -> Result<Lanes, LanesTextFault>
     }
 }
 
-/// Returns what the lines of `text` say, or their first fault, or `Memory` if memory is refused before.
+/// Returns what the lines of `text` say, or the first fault of the lines. Returns `Memory` if memory is refused before
+/// the first fault.
 #[tactic(auto, using(crate::proofs::Folds::reading))]
 fn read_lines(alloc: Global, text: &[u8]) -> Result<LanesBuilder, LanesTextFault>
     ensures { IsReadAs text.now result }
@@ -60,7 +62,7 @@ fn read_lines(alloc: Global, text: &[u8]) -> Result<LanesBuilder, LanesTextFault
     Ok(said)
 }
 
-/// Returns the first fault of `text`, or `None` if it has none. Does not allocate.
+/// Returns the first fault of `text`, or `None` if `text` has no fault. Does not allocate.
 #[tactic(auto, using(crate::proofs::Folds::judging))]
 fn first_fault(text: &[u8]) -> Option<LanesLineFault>
     ensures { result ≡ first_fault text.now }

@@ -1,6 +1,6 @@
--- When a fabric holds a plan, and how each packet for a LID of the plan then arrives. InfiniBand Architecture
--- Specification, Volume 1: subnet management, PortInfo (LID), SwitchInfo (LinearFDBTop) and LinearForwardingTable;
--- switches, unicast forwarding by the linear forwarding table.
+-- How each packet for a LID of a plan arrives if a fabric holds the plan. InfiniBand Architecture Specification, Volume
+-- 1: subnet management, PortInfo (LID), SwitchInfo (LinearFDBTop) and LinearForwardingTable; switches, unicast
+-- forwarding by the linear forwarding table.
 use Rattle.std.specs.Prelude.{◌≡◌, ◌≢◌, ◌≤◌, ℕ, Bool, not, ◌&&◌, List, [], ◌∷◌, map, filter, length, count_by}
 use Rattle.std.specs.Prelude.{AllPairs, Some, slice_get}
 use Rattle.std.specs.Option.{option_map_or}
@@ -32,15 +32,15 @@ is_between_switches f h = is_switch_at f h.out.node && is_switch_at f h.into.nod
 abbrev pub switch_hops : Fabric → List Hop → List Hop
 switch_hops f hops = filter (is_between_switches f) hops
 
--- the GUIDs of the switches that a packet from `source` meets over `hops`, in turn
+-- the GUIDs of the switches that a packet from `source` passes over `hops`, in order
 abbrev pub switches_met : Fabric → NodePort → List Hop → List ℕ
 switches_met f source hops = map (guid_at f) (filter (λ p. is_switch_at f p.node) (source ∷ map (λ h. h.into) hops))
 
--- the numbers of the channels between switches that a packet takes over `hops`, in turn
+-- the numbers of the channels between switches that a packet takes over `hops`, in order
 abbrev pub channels_taken : Routing → Fabric → List Hop → List ℕ
 channels_taken rule f hops = map (λ h. rule.channel (guid_at f h.out) (guid_at f h.into)) (switch_hops f hops)
 
--- the last of some numbers; `d` if there is none
+-- the last of some numbers; `d` if there are none
 abbrev pub last_or : ℕ → List ℕ → ℕ
 last_or d [] = d
 last_or d (x ∷ xs) = last_or x xs
@@ -51,14 +51,14 @@ IsCostAlong rule [] n = Unit {0}
 IsCostAlong rule (s ∷ switches) n = rule.cost s (last_or s switches) ≡ Some n
 
 -- the hops are a way of `rule`. They take as many wires between switches as the cost from the first switch to the last,
--- and at most two other wires. They meet no switch twice, and the numbers of their channels rise
+-- and at most two other wires. They pass no switch twice, and the numbers of their channels rise
 pub record IsRoutedWay (rule : Routing) (f : Fabric) (source : NodePort) (hops : List Hop) : Type 0 where
   pub at_cost : IsCostAlong rule (switches_met f source hops) (length (switch_hops f hops))
   pub no_switch_twice : AllPairs (λ a b. a ≢ b) (switches_met f source hops)
   pub adapter_wires : count_by (λ h. not (is_between_switches f h)) hops ≤ 2
   pub channels_rise : IsStrictlyIncreasing (channels_taken rule f hops)
 
--- a packet for `lid` from `source` is delivered at the port of the part that is `owner`, over a way of `rule`
+-- a packet for `lid` from `source` is delivered at `owner`, which is a port of the part, over a way of `rule`
 pub record ArrivesBy (rule : Routing) (part : Part) (f : Fabric) (lid : ℕ) (source : NodePort) (owner : EndPort) : Type
     0 where
   pub target : NodePort
@@ -68,13 +68,13 @@ pub record ArrivesBy (rule : Routing) (part : Part) (f : Fabric) (lid : ℕ) (so
   pub delivered : IsDelivered f lid source hops target
   pub way : IsRoutedWay rule f source hops
 
--- a packet for `lid` from `source` is delivered at the port of the part that is `owner`, over a way of a rule that can
+-- a packet for `lid` from `source` is delivered at `owner`, which is a port of the part, over a way of a rule that can
 -- be asked for
 abbrev pub Arrives : RuleValue → Part → Cells → Fabric → ℕ → NodePort → EndPort → Type 0
 Arrives rule part cells f lid source owner = ArrivesBy (routing_by rule cells) part f lid source owner
 
--- a packet from each end port of a part, for each LID of the plan, is delivered at the LID's owner, over a way of
--- `rule`. The part is what an end port is joined to, and the plan is in force there
+-- if the plan is in force in a part, packets arrive there: a packet from each end port of the part, for each LID of the
+-- plan, is delivered at the LID's owner, over a way of `rule`. The part is what an end port is joined to
 abbrev pub EveryPacketArrivesBy : Routing → Cells → PlanValue → Type 0
 EveryPacketArrivesBy rule cells plan =
     (f : Fabric) (origin : NodePort) → IsEndPort f origin → IsInForce (IsJoinedTo f origin) cells plan f
@@ -82,14 +82,16 @@ EveryPacketArrivesBy rule cells plan =
     → (lid : ℕ) (owner : EndPort) → owner_of plan.given lid ≡ Some owner
     → ArrivesBy rule (IsJoinedTo f origin) f lid source owner
 
--- every packet arrives where the plan of facts with room, by any rule of routing, is in force (`EveryPacketArrivesBy`)
+-- if the plan, by any rule of routing, of facts with room for their LIDs is in force in a part, every packet arrives
+-- there (`EveryPacketArrivesBy`)
 abbrev pub PacketsArriveByEachRouting : Type 0
 PacketsArriveByEachRouting = (lmc : ℕ) (facts : Facts) (rule : Routing) → IsRouting (graph_of (cells_of facts)) rule
     → ¬ (IsNoRoom lmc (cells_of facts))
     → EveryPacketArrivesBy rule (cells_of facts) (plan_by rule lmc (cells_of facts))
 
--- a packet for each LID of the plan that an end port of the part owns arrives, whatever else the facts contain. The
--- facts have room and describe the part, which is what an end port is joined to. The part holds their plan
+-- a packet from each end port of a part, for each LID of the plan that an end port of the part owns, arrives, whatever
+-- else the facts contain. The facts have room for their LIDs and describe the part, which is what an end port is joined
+-- to. The part holds the plan
 abbrev pub PacketsArriveWhereCovered : Type 0
 PacketsArriveWhereCovered =
     (lmc : ℕ) (facts : Facts) (rule : Routing) → IsRouting (graph_of (cells_of facts)) rule
@@ -106,15 +108,15 @@ PacketsArriveWhereCovered =
 abbrev pub EveryPacketArrives : RuleValue → Cells → PlanValue → Type 0
 EveryPacketArrives rule cells plan = EveryPacketArrivesBy (routing_by rule cells) cells plan
 
--- a packet from each end port for each LID of the plan arrives, if the plan is in force in the whole of a connected
--- fabric
+-- if the plan is in force in the whole of a connected fabric, a packet from each end port, for each LID of the plan,
+-- arrives
 abbrev pub EveryPacketArrivesIfConnected : RuleValue → Cells → PlanValue → Type 0
 EveryPacketArrivesIfConnected rule cells plan = (f : Fabric) → IsConnected f → IsInForce WholeFabric cells plan f
     → (source : NodePort) → IsEndPort f source
     → (lid : ℕ) (owner : EndPort) → owner_of plan.given lid ≡ Some owner
     → Arrives rule WholeFabric cells f lid source owner
 
--- by the plan of facts with room, every packet arrives in a connected fabric, if the plan is in force in all of it
+-- if facts have room for their LIDs and their plan is in force in the whole of a connected fabric, every packet arrives
 abbrev pub PacketsArriveIfConnected : Type 0
 PacketsArriveIfConnected = (rule : RuleValue) (lmc : ℕ) (facts : Facts) → ¬ (IsNoRoom lmc (cells_of facts))
     → EveryPacketArrivesIfConnected rule (cells_of facts) (plan_of rule lmc (cells_of facts))

@@ -8,25 +8,26 @@ use Rattle.subnet_view.specs.Reading.{Cells, is_usable}
 use Rattle.subnet_view.specs.Wires.{attached}
 use Rattle.lid_assign.specs.Lids.{Given, owner_of}
 
--- the switch and its port at which the end port `e` is attached: port 0 of a usable switch itself, or the port that an
--- adapter port is wired to; None for an adapter port that is wired to no usable switch
+-- the switch, and the port of it, at which the end port `e` is attached. A port of a usable switch is attached at port
+-- 0 of that switch. An adapter port is attached at the port that it is wired to; None if it is not wired to a usable
+-- switch
 abbrev pub attachment_of : Cells → EndPort → Option (ℕ × ℕ)
 attachment_of cells e = if is_usable cells e.node then Some (e.node, 0) else attached cells e.node e.port
 
--- the attachment of the end port that owns `lid`; None if no end port owns it, or if the owner has no attachment
+-- the attachment of the end port that owns `lid`; None if no end port owns `lid`, or if the owner has no attachment
 abbrev pub attachment_of_lid : Cells → Given → ℕ → Option (ℕ × ℕ)
 attachment_of_lid cells given lid = option_and_then (attachment_of cells) (owner_of given lid)
 
--- the port by which a packet for a LID leaves one switch for another; None if there is no such port
+-- the port by which a packet for a LID leaves one switch towards another; None if there is no such port
 abbrev pub Next : Type 0
 Next = ℕ → ℕ → ℕ → Option ℕ
 
--- the port of the attachment if switch `s` is its switch, else the next port towards that switch; 255 if there is no
--- next port
+-- the port of the attachment if switch `s` is its switch, and otherwise the next port towards that switch; 255 if there
+-- is no next port
 abbrev pub port_to : Next → ℕ → ℕ → ℕ × ℕ → ℕ
 port_to next lid s attachment = if attachment.0 == s then attachment.1 else unwrap_or (next lid s attachment.0) 255
 
--- the entry of switch `s` for `lid`; 255 if the LID has no attachment, or there is no next port
+-- the entry of switch `s` for `lid`; 255 if the LID has no attachment, or if there is no next port
 abbrev pub entry : (ℕ → Option (ℕ × ℕ)) → Next → ℕ → ℕ → ℕ
 entry attachments next s lid = option_map_or (port_to next lid s) (attachments lid) 255
 
@@ -34,7 +35,7 @@ entry attachments next s lid = option_map_or (port_to next lid s) (attachments l
 abbrev pub block : (ℕ → Option (ℕ × ℕ)) → Next → ℕ → ℕ → List ℕ
 block attachments next s b = map (λ i. entry attachments next s (64 * b + i)) (range_with_len 0 64)
 
--- the number of blocks that hold all LIDs up to `top`; 0 if `top` is None
+-- the number of blocks that are needed for all LIDs up to `top`; 0 if `top` is None
 abbrev pub block_count : Option ℕ → ℕ
 block_count top = option_map_or (λ lid. suc (lid / 64)) top 0
 

@@ -1,4 +1,4 @@
--- When a fabric holds a plan.
+-- When a part of a fabric holds a plan, and when the plan is in force there.
 use Rattle.std.specs.Prelude.{◌≡◌, ◌<◌, ◌≤◌, ℕ, ◌+◌, ◌*◌, List, Some, IsTrue, slice_get}
 use Rattle.fabric_model.specs.declared.cable.NodePort.{NodePort}
 use Rattle.smp_bytes.specs.NodeType.{is_switch}
@@ -19,8 +19,8 @@ pub record HoldsPlanAt (plan : PlanValue) (f : Fabric) (port : NodePort) (node :
   pub top : IsTrue (is_switch node.kind) → (top : ℕ) → top_of plan.given ≡ Some top → top ≤ f.top port.node
   pub blocks : (b : ℕ) (block : List ℕ) → block_at plan node.guid b ≡ Some block → HoldsBlock f port.node b block
 
--- the part holds the plan: each of its end ports has the LID, and each of its switches has the top and the blocks, as
--- in `HoldsPlanAt`
+-- the part holds the plan: each of its end ports has the LID and the LMC that the plan gives it, and each of its
+-- switches has the top and the blocks, as in `HoldsPlanAt`
 abbrev pub HoldsPlan : Part → PlanValue → Fabric → Type 0
 HoldsPlan part plan f = (port : NodePort) (node : Node) → IsEndPortIn part f port node → HoldsPlanAt plan f port node
 
@@ -30,7 +30,7 @@ pub record IsInForce (part : Part) (cells : Cells) (plan : PlanValue) (f : Fabri
   pub agrees : AgreesOn part cells f
   pub holds : HoldsPlan part plan f
 
--- the facts describe the part, perhaps with more, and the part holds the plan
+-- the facts describe the part, perhaps among other things, and the part holds the plan
 pub record IsInForceWithin (part : Part) (cells : Cells) (plan : PlanValue) (f : Fabric) : Type 0 where
   pub is_fabric : IsFabric f
   pub covers : Covers part cells f

@@ -15,16 +15,16 @@ use Rattle.spread_routes.specs.Adapters.{adapters_of}
 use Rattle.lft_blocks.specs.declared.attachment.Attachment.{Attachment}
 use Rattle.lft_blocks.specs.Entries.{attachment_of_lid}
 
--- what the numbers of LIDs are computed from: the LMC, the leaf number of each switch, and the most adapters that one
--- switch has
+-- what the numbers of LIDs are computed from: the LMC, the leaf number of each switch, and the greatest number of
+-- adapters at any switch
 pub record Numbering : Type 0 where
   pub lmc : ℕ
   pub leaf_numbers : List ℕ
   pub most : ℕ
 
--- the number of `lid`, attached at `port` of the switch at index `switch`: the switch's leaf number times the most
--- adapters of a switch, plus the port. This is multiplied by 2^LMC, and `lid` modulo 2^LMC is added. The number is the
--- result modulo 2^16
+-- the number of `lid`, which is attached at `port` of the switch at index `switch`. The switch's leaf number times the
+-- greatest number of adapters at any switch, plus the port, is multiplied by 2^LMC. Then `lid` modulo 2^LMC is added.
+-- The number is the result modulo 2^16
 abbrev pub number_at : Numbering → ℕ → ℕ → ℕ → ℕ
 number_at by switch port lid =
     ((slice_index by.leaf_numbers switch * by.most + port) * 2 ^ by.lmc + lid % 2 ^ by.lmc) % 2 ^ 16
@@ -43,7 +43,7 @@ indexed_number by attachments lid =
 abbrev pub indexed_numbers : Numbering → List (Option Attachment) → List ℕ
 indexed_numbers by attachments = map (indexed_number by attachments) (range_with_len 0 (length attachments))
 
--- what the numbers of LIDs are computed from, for a graph; `adapters` has the number of adapters of each switch
+-- what the numbers of LIDs are computed from, for a graph; `adapters` has the number of adapters at each switch
 abbrev pub numbering_by : ℕ → List SwitchEdges → List ℕ → Numbering
 numbering_by lmc graph adapters = record {
   lmc = lmc;
@@ -60,6 +60,6 @@ abbrev pub lid_numbers : ℕ → Cells → Given → ℕ → ℕ
 lid_numbers lmc cells given =
     number_of (numbering_of lmc cells) (guids_of (graph_of cells)) (attachment_of_lid cells given)
 
--- the rule that routes each LID as `rule` routes its number
+-- the rule that routes packets for each LID as `rule` routes packets for the LID's number
 abbrev pub numbered : (ℕ → ℕ) → Routing → Routing
 numbered number rule = record rule { next = λ lid. rule.next (number lid) }

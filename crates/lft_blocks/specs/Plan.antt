@@ -9,7 +9,7 @@ use Rattle.lft_blocks.specs.Rules.{RuleValue, routing_by}
 use Rattle.lft_blocks.specs.LidNumbers.{lid_numbers, numbered}
 use Rattle.lft_blocks.specs.Entries.{Next, attachment_of_lid, block_count, blocks}
 
--- the GUID of a switch, and its blocks from block 0 on
+-- the table of a switch: its GUID, and its blocks from block 0 on
 pub record SwitchTable : Type 0 where
   pub guid : ℕ
   pub blocks : List (List ℕ)
@@ -19,11 +19,11 @@ pub record PlanValue : Type 0 where
   pub given : Given
   pub tables : List SwitchTable
 
--- the table of each of the switches `guids`, with `count` blocks
+-- the tables of a plan: the table of each of the switches `guids`, with `count` blocks
 abbrev pub tables_of : (ℕ → Option (ℕ × ℕ)) → Next → ℕ → List ℕ → List SwitchTable
 tables_of attachments next count guids = map (λ s. record { guid = s; blocks = blocks attachments next count s }) guids
 
--- the tables of a view by a rule of routing, if end ports have the LIDs `given`
+-- the tables of the plan of a view by a rule of routing, if end ports have the LIDs `given`
 abbrev pub tables_by : Routing → Cells → Given → List SwitchTable
 tables_by rule cells given =
     tables_of (attachment_of_lid cells given) rule.next (block_count (top_of given)) (switches cells)
@@ -38,7 +38,8 @@ plan_by rule lmc cells =
           tables_of (attachment_of_lid cells given) rule.next (block_count (top_of given)) (switches cells);
     }
 
--- the routing of LIDs by a rule that can be asked for: each LID takes the routes that `rule` has for its number
+-- the routing of LIDs by a rule that can be asked for: packets for a LID take the routes that the rule has for the
+-- LID's number
 abbrev pub lid_routing : RuleValue → ℕ → Cells → Given → Routing
 lid_routing rule lmc cells given = numbered (lid_numbers lmc cells given) (routing_by rule cells)
 
@@ -46,7 +47,7 @@ lid_routing rule lmc cells given = numbered (lid_numbers lmc cells given) (routi
 abbrev pub plan_of : RuleValue → ℕ → Cells → PlanValue
 plan_of rule lmc cells = plan_by (lid_routing rule lmc cells (lids lmc cells)) lmc cells
 
--- block `b` of the switch `guid` in a plan; None if the plan has no such switch or no such block
+-- block `b` of the switch `guid` in a plan; None if the plan does not have this switch or this block
 abbrev pub block_at : PlanValue → ℕ → ℕ → Option (List ℕ)
 block_at plan guid b =
     option_and_then (λ table. slice_get table.blocks b) (find (λ table. table.guid == guid) plan.tables)
@@ -55,7 +56,7 @@ block_at plan guid b =
 abbrev pub switches_of : PlanValue → List ℕ
 switches_of plan = map (λ table. table.guid) plan.tables
 
--- `guids` are the GUIDs of the tables, and rise strictly
+-- `guids` are the GUIDs of the tables, and are in strictly ascending order
 pub record AreTables (guids : List ℕ) (tables : List SwitchTable) : Type 0 where
   pub theirs : guids ≡ map (λ table. table.guid) tables
   pub rising : IsStrictlyIncreasing guids

@@ -1,4 +1,4 @@
--- Laws of plans: when a plan stays as it is, and which blocks it has.
+-- Laws of plans: when a plan stays the same, and which blocks it has.
 use Rattle.std.specs.Prelude.{◌≡◌, ◌<◌, ℕ, ◌+◌, ◌*◌, List, Option, MatchOption, Some, slice_get}
 use Rattle.fact_store.specs.View.{Facts, cells_of}
 use Rattle.subnet_view.specs.declared.end_port.EndPort.{EndPort}
@@ -11,14 +11,15 @@ use Rattle.lft_blocks.specs.Rules.{RuleValue, order_of, spread_in}
 use Rattle.lft_blocks.specs.Entries.{Next, attachment_of_lid, entry, block, block_count, blocks}
 use Rattle.lft_blocks.specs.Plan.{plan_by, plan_of, block_at}
 
--- if `x` has room, `y` has room too, and the plan of `y` is that of `x`. The facts `y` are `x`, except that each end
--- port claims the LID that it has by `x`
+-- if the facts `x` have room for their LIDs, so have `y`, and the plan of `y` is that of `x`. The facts `y` differ from
+-- `x` only in claims: each end port claims the LID that it has by `x` (`IsClaimed`)
 abbrev pub PlansStay : Type 0
 PlansStay = (rule : RuleValue) (lmc : ℕ) (x y : Facts) → ¬ (IsNoRoom lmc (cells_of x)) → IsClaimed lmc x y
     → ¬ (IsNoRoom lmc (cells_of y)) × (plan_of rule lmc (cells_of y) ≡ plan_of rule lmc (cells_of x))
 
--- end ports keep the LIDs of the plan of `x` in the plan of `z`, if `x` and `z` have room. In `z` these end ports claim
--- their LIDs, and others claim nothing (`GrowsFrom`)
+-- if `x` and `z` have room for their LIDs and `z` grows from `x`, end ports keep the LIDs of the plan of `x` in the
+-- plan of `z`. That `z` grows means that in `z` these end ports claim their LIDs, and others claim nothing or 0
+-- (`GrowsFrom`)
 abbrev pub LidsStayInPlans : Type 0
 LidsStayInPlans = (rule : RuleValue) (lmc : ℕ) (x z : Facts) → ¬ (IsNoRoom lmc (cells_of x))
     → ¬ (IsNoRoom lmc (cells_of z)) → GrowsFrom lmc (cells_of x) (cells_of z)
@@ -39,14 +40,14 @@ HasBlock lmc cells g b = IsUsable cells g × (b < block_count (top_of (lids lmc 
 abbrev pub block_of : Routing → ℕ → Cells → ℕ → ℕ → List ℕ
 block_of rule lmc cells g b = block (attachment_of_lid cells (lids lmc cells)) rule.next g b
 
--- a plan by any rule has exactly the blocks of usable switches up to that of the greatest LID, with the switches'
+-- a plan by any rule has exactly the blocks of usable switches up to the block of the greatest LID, with the switches'
 -- entries
 abbrev pub BlocksAreOfSwitches : Type 0
 BlocksAreOfSwitches = (rule : Routing) (lmc : ℕ) (facts : Facts) (g b : ℕ)
     → MatchOption (block_at (plan_by rule lmc (cells_of facts)) g b) (¬ (HasBlock lmc (cells_of facts) g b))
     (λ x. HasBlock lmc (cells_of facts) g b × (x ≡ block_of rule lmc (cells_of facts) g b))
 
--- a list that names the switches in the order of a plan gives that order again, and an equal plan
+-- a list that names the switches in the order of a plan gives that order again, and gives an equal plan
 pub record OrderHolds (order : OrderValue) (lmc : ℕ) (cells : Cells) : Type 0 where
   pub order_stands : order_of (named_in order (order_of order cells)) cells ≡ order_of order cells
   pub plan_stands : plan_of (spread_in (named_in order (order_of order cells))) lmc cells

@@ -12,7 +12,7 @@ use Rattle.lft_blocks.specs.Plan.{SwitchTable, PlanValue}
 abbrev pub lmc_text : ℕ → List ℕ
 lmc_text lmc = if lmc == 0 then [] else codes " lmc " ++ decimal lmc
 
--- the line of a LID, with the end port that has it, and its LMC
+-- the line of a LID, with the end port that has it and the LMC of this port
 abbrev pub lid_line : ℕ × ℕ × EndPort → List ℕ
 lid_line x = codes "lid " ++ decimal x.0 ++ codes " " ++ port_text x.2.node x.2.port ++ lmc_text x.1 ++ codes "\n"
 
@@ -40,10 +40,10 @@ blocks_text blocks = flat_map block_line (enumerate_from 0 blocks)
 abbrev pub table_text : ℕ → SwitchTable → List ℕ
 table_text top table = switch_line top table.guid ++ blocks_text table.blocks
 
--- the lines of all switches and blocks; empty if there is no LID
+-- the lines of all switches and their blocks; empty if the plan has no LID
 abbrev pub tables_text : PlanValue → List ℕ
 tables_text plan = option_map_or (λ top. flat_map (table_text top) plan.tables) (top_of plan.given) []
 
--- the text of a plan: the lines of its LIDs, and then those of its switches
+-- the text of a plan: the lines of its LIDs, and then the lines of its switches and their blocks
 abbrev pub plan_text : PlanValue → List ℕ
 plan_text plan = lids_text plan.given ++ tables_text plan

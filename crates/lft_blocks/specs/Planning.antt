@@ -4,59 +4,58 @@ use Rattle.std.specs.Coded.{Coded, code_by, coded×, coded_bool, coded_ℕ, code
 use Rattle.lft_blocks.specs.Rules.{RuleValue, spread_in, up_and_down}
 use Rattle.spread_routes.specs.SwitchOrders.{OrderValue, as_named, balanced_as, from_roots, least_loaded}
 
--- the LMC of adapter ports and the rule of routing
+-- the LMC of adapter ports, and the rule of routing
 pub record Planning : Type 0 where
   pub lmc : ℕ
   pub rule : RuleValue
 
--- what an order is stored as: whether it names switches, whether loads are then balanced, and the GUIDs; None for
--- `least_loaded`
+-- how an order is stored: whether it names switches, whether loads are balanced, and the GUIDs; None for `least_loaded`
 abbrev guids_in : OrderValue → Option (Bool × (Bool × List ℕ))
 guids_in (from_roots roots) = Some (false, (false, roots))
 guids_in (as_named switches) = Some (true, (false, switches))
 guids_in (balanced_as switches) = Some (true, (true, switches))
 guids_in least_loaded = None
 
--- the order that is stored as this
+-- the order that is stored in this way
 abbrev order_by : Option (Bool × (Bool × List ℕ)) → OrderValue
 order_by (Some (false, (balanced, roots))) = from_roots roots
 order_by (Some (true, (false, switches))) = as_named switches
 order_by (Some (true, (true, switches))) = balanced_as switches
 order_by None = least_loaded
 
--- an order is read back from what it is stored as
+-- an order of switches (`OrderValue`) is read back from what it is stored as
 pub same_order : (order : OrderValue) → order_by (guids_in order) ≡ order
 same_order (from_roots roots) = refl
 same_order (as_named switches) = refl
 same_order (balanced_as switches) = refl
 same_order least_loaded = refl
 
--- a code of orders
+-- the coding of orders
 abbrev order_code : Coded OrderValue
 order_code =
     code_by (Option (Bool × (Bool × List ℕ))) (coded_option (coded× coded_bool (coded× coded_bool (coded_list coded_ℕ))))
     guids_in order_by same_order
 
--- what a rule is stored as: its order; None for up/down routing
+-- how a rule is stored: as its order, or as None for up/down routing
 abbrev order_in : RuleValue → Option OrderValue
 order_in up_and_down = None
 order_in (spread_in order) = Some order
 
--- the rule that is stored as this
+-- the rule that is stored in this way
 abbrev rule_by : Option OrderValue → RuleValue
 rule_by None = up_and_down
 rule_by (Some order) = spread_in order
 
--- a rule is read back from what it is stored as
+-- a rule (`RuleValue`) is read back from what it is stored as
 pub same_rule : (rule : RuleValue) → rule_by (order_in rule) ≡ rule
 same_rule up_and_down = refl
 same_rule (spread_in order) = refl
 
--- a code of rules
+-- the coding of rules
 abbrev rule_code : Coded RuleValue
 rule_code = code_by (Option OrderValue) (coded_option order_code) order_in rule_by same_rule
 
--- a code of plannings, which are stored as the pair of LMC and rule
+-- the coding of plannings. A planning is stored as the pair of its LMC and its rule
 abbrev pub planning_code : Coded Planning
 planning_code =
     code_by (ℕ × RuleValue) (coded× coded_ℕ rule_code)

@@ -16,7 +16,7 @@ pub data RuleValue : Type 0 where
   up_and_down : RuleValue
   spread_in : OrderValue → RuleValue
 
--- the value of a `Rule` of the code
+-- the value of a `Rule` in the code
 abbrev pub value_of : Rule → RuleValue
 value_of UpDown = up_and_down
 value_of (Spread order) = spread_in (order_value_of order)
@@ -30,7 +30,7 @@ routing_by (spread_in order) cells = spread_by (graph_of cells) (adapters_of cel
 abbrev pub order_of : OrderValue → Cells → List ℕ
 order_of order cells = switches_in_order (graph_of cells) (adapters_of cells) order
 
--- the routing by a `Rule` of the code, on the wires of a view
+-- the routing by a `Rule` in the code, on the wires of a view
 abbrev pub rule_of : Rule → Cells → Routing
 rule_of rule cells = routing_by (value_of rule) cells
 
@@ -39,7 +39,8 @@ abbrev pub RulesAreRoutings : Type 0
 RulesAreRoutings =
     (rule : RuleValue) (facts : Facts) → IsRouting (graph_of (cells_of facts)) (routing_by rule (cells_of facts))
 
--- a rule routes alike by facts with equal graphs of switches and equally many adapters at each switch
+-- if two facts have equal graphs of switches and equally many adapters at each switch, a rule routes packets in the
+-- same way by both
 abbrev pub RulesStay : Type 0
 RulesStay = (rule : RuleValue) (x y : Facts) → graph_of (cells_of x) ≡ graph_of (cells_of y)
     → adapters_of (cells_of x) ≡ adapters_of (cells_of y) → routing_by rule (cells_of x) ≡ routing_by rule (cells_of y)

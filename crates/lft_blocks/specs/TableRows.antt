@@ -1,4 +1,4 @@
--- The entries of each switch by LID, as they are written target by target.
+-- The entries of each switch, by LID, as they are written one target after another.
 use Rattle.std.specs.Prelude.{◌≡◌, ◌<◌, ℕ, ◌+◌, ◌*◌, Bool, false, List, [], map, filter, length, Option, None, Some, ◌==◌, nat_lt, unwrap_or, option_map, slice_index, slice_index_or, if◌then◌else◌}
 use Rattle.std.specs.List.{range_with_len}
 use Rattle.spread_labels.specs.Orders.{numbers_from}
@@ -7,7 +7,8 @@ use Rattle.lft_blocks.specs.Entries.{Next}
 use Rattle.lft_blocks.specs.Attachments.{meant}
 use Rattle.lft_blocks.specs.Plan.{SwitchTable}
 
--- the attachment of `lid`, which is stored by index, with the GUID of its switch; None if `lid` has no attachment
+-- the attachment of `lid`, with the GUID of its switch; None if `lid` has no attachment. `attachments` has the switches
+-- by index
 abbrev pub attachment_by_index : List ℕ → List (Option Attachment) → ℕ → Option (ℕ × ℕ)
 attachment_by_index guids attachments lid = option_map (meant guids) (slice_index_or attachments lid None)
 
@@ -16,17 +17,17 @@ abbrev pub is_attachment_at : ℕ → Option Attachment → Bool
 is_attachment_at t None = false
 is_attachment_at t (Some h) = h.switch == t
 
--- the LIDs that are attached to the switch at index `t`, rising
+-- the LIDs that are attached to the switch at index `t`, in ascending order
 abbrev pub lids_at : List (Option Attachment) → ℕ → List ℕ
 lids_at attachments t =
     filter (λ lid. is_attachment_at t (slice_index_or attachments lid None)) (numbers_from 0 (length attachments))
 
--- the LIDs below `n` that are attached to the switch at index `t`, rising
+-- the LIDs below `n` that are attached to the switch at index `t`, in ascending order
 abbrev pub lids_before : List (Option Attachment) → ℕ → ℕ → List ℕ
 lids_before attachments n t =
     filter (λ lid. is_attachment_at t (slice_index_or attachments lid None)) (numbers_from 0 n)
 
--- `lists` has for each of `switches` switches the LIDs below `n` that are attached to it
+-- `lists` has, for each of `switches` switches, the LIDs below `n` that are attached to it
 pub record AreLidsAt (attachments : List (Option Attachment)) (n switches : ℕ) (lists : List (List ℕ)) : Type 0 where
   pub all : length lists ≡ switches
   pub each : (t : ℕ) → t < switches → slice_index_or lists t [] ≡ lids_before attachments n t
@@ -36,13 +37,13 @@ abbrev pub attachment_port : Option Attachment → ℕ
 attachment_port None = 255
 attachment_port (Some h) = h.port
 
--- the entry for `lid`: the port of its attachment if `is_own`, else `port`; 255 if that is None
+-- the entry for `lid`: the port of its attachment if `is_own`, otherwise `port`; 255 if that is None
 abbrev pub entry_by : List (Option Attachment) → Bool → ℕ → Option ℕ → ℕ
 entry_by attachments is_own lid port =
     if is_own then attachment_port (slice_index_or attachments lid None) else unwrap_or port 255
 
--- the entry for `lid`, with the given attachment, of the switch at index `own`; 255 if there is no attachment, if the
--- index of its switch is not below `t`, or if there is no next port
+-- the entry for `lid` of the switch at index `own`, if `lid` has the given attachment. It is 255 if there is no
+-- attachment, if the index of its switch is not below `t`, or if there is no next port
 abbrev pub entry_before : Next → List ℕ → ℕ → ℕ → ℕ → Option Attachment → ℕ
 entry_before next guids t own lid None = 255
 entry_before next guids t own lid (Some h) =
@@ -58,13 +59,13 @@ pub record IsRow (next : Next) (guids : List ℕ) (attachments : List (Option At
   pub entries : (lid : ℕ) → lid < length attachments → slice_index row lid
       ≡ entry_before next guids t own lid (slice_index_or attachments lid None)
 
--- `rows` has for each switch its entries for LIDs that are attached to the first `t` switches, and 255 for other LIDs
+-- for each switch, `rows` has its entries for LIDs that are attached to the first `t` switches, and 255 for other LIDs
 pub record AreRows (next : Next) (guids : List ℕ) (attachments : List (Option Attachment)) (t : ℕ)
     (rows : List (List ℕ)) : Type 0 where
   pub all : length rows ≡ length guids
   pub each : (own : ℕ) → own < length guids → IsRow next guids attachments t own (slice_index_or rows own [])
 
--- block `b` of a row, the entries from the LID 64 `b` on
+-- block `b` of a row: the 64 entries from the LID 64 `b` on
 abbrev pub block_of_row : List ℕ → ℕ → List ℕ
 block_of_row row b = map (λ i. slice_index row (64 * b + i)) (range_with_len 0 64)
 

@@ -1,9 +1,9 @@
--- What a call that writes a part of a text leaves in a sink. The part may be empty.
+-- What a call that writes a part of a text does to a sink. The part may be empty.
 use Rattle.std.specs.Prelude.{ℕ, Bool, List, Option, Result, OnOk, OnErr, IsTrue}
 use Rattle.std.specs.Io.KnownBytes.{Appends}
 use Rattle.byte_io.specs.declared.sink.WriteFault.{WriteFault}
 
--- after `Ok`, the sink's bytes have grown by `text`; after `Err`, the sink has failed
+-- after `Ok`, `text` was appended to the sink's bytes; after `Err`, the sink has failed
 pub record WritesPart {W : Type 0} (written : W → Option (List ℕ)) (has_failed : W
     → Bool) (result : Result (Unit {0}) WriteFault) (old new : W)
     (text : List ℕ) : Type 0 where

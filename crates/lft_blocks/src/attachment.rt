@@ -12,18 +12,18 @@ use smp_bytes::{Guid, Lid, PortNum};
 use std::alloc::{AllocError, Global};
 use subnet_view::{EndPort, Wires, is_usable};
 
-/// The switch and its port at which an end port is attached.
+/// The switch, and the port of it, at which an end port is attached.
 #[derive(Clone, Copy)]
 pub(crate) struct Attachment {
-    /// The index of the switch among the usable ones, in ascending order of GUID.
+    /// The index of the switch among the usable switches, in ascending order of GUID.
     pub(crate) switch: usize,
     /// The port of the switch.
     pub(crate) port: PortNum,
 }
 
-/// Returns, for each LID with an entry in the first `count` blocks, the LID's attachment, or `None` if the LID has
-/// none. The index of an item is its LID. `guids` must be the usable switches, in ascending order of GUID. `count` must
-/// be the number of blocks that hold all LIDs.
+/// Returns the attachment of each LID that has an entry in the first `count` blocks, or `None` if the LID has no
+/// attachment. The index of an item is its LID. `guids` must be the usable switches, in ascending order of GUID.
+/// `count` must be the number of blocks that are needed for all LIDs, and must be at most 1024.
 pub(crate) fn attachments(
     alloc: Global,
     wires: &Wires,
@@ -45,8 +45,8 @@ pub(crate) fn attachments(
     Ok(attachments)
 }
 
-/// Returns the attachment of `lid`. Returns `None` if no end port has `lid`, or its owner is not attached to a usable
-/// switch. `guids` must be the usable switches in ascending order of GUID.
+/// Returns the attachment of `lid`. Returns `None` if no end port has `lid`, or if its owner is not attached to a
+/// usable switch. `guids` must be the usable switches, in ascending order of GUID.
 fn attachment_of_lid(wires: &Wires, guids: &[Guid], lids: &LidMap, lid: Lid) -> Option<Attachment>
     requires { guids.now ≡ switches (cells_of wires.now) }
     ensures { IsIndexed guids.now (attachment_of_lid (cells_of wires.now) lids.now lid) result }
@@ -56,8 +56,8 @@ fn attachment_of_lid(wires: &Wires, guids: &[Guid], lids: &LidMap, lid: Lid) -> 
     Some(Attachment { switch, port })
 }
 
-/// Returns the GUID of the usable switch and its port at which `port` is attached, or `None` if `port` is attached to
-/// none. A port of a usable switch is attached at the switch's own port 0.
+/// Returns the usable switch, and the port of it, at which the end port `port` is attached. Returns `None` if `port` is
+/// not attached to a usable switch. A port of a usable switch is attached at port 0 of that switch.
 fn attachment_of(wires: &Wires, port: EndPort) -> Option<(Guid, PortNum)>
     ensures { result ≡ attachment_of (cells_of wires.now) port }
 {
@@ -68,8 +68,8 @@ fn attachment_of(wires: &Wires, port: EndPort) -> Option<(Guid, PortNum)>
     }
 }
 
-/// Returns the index of `guid` among `guids`, which must rise strictly, or `None` if `guid` is not there. Does a binary
-/// search.
+/// Returns the index of `guid` in `guids`, or `None` if `guids` does not have `guid`. `guids` must be in strictly
+/// ascending order. Does a binary search.
 pub(crate) fn index_of(guids: &[Guid], guid: Guid) -> Option<usize>
     requires { IsStrictlyIncreasing guids.now }
     ensures { IsIndexIn guids.now guid result }

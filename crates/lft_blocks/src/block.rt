@@ -7,7 +7,7 @@ use crate::attachment::Attachment;
 use smp_bytes::{Lid, NO_ENTRY};
 use std::alloc::{AllocError, Global};
 
-/// Returns the number of blocks that hold all LIDs up to `top`, or 0 if `top` is `None`.
+/// Returns the number of blocks that are needed for all LIDs up to `top`, or 0 if `top` is `None`.
 pub fn block_count(top: Option<Lid>) -> usize
     ensures count { result ≡ block_count top }
     ensures few { result ≤ 1024 }
@@ -53,9 +53,9 @@ fn block(attachments: &[Option<Attachment>], row: &[u8], own: usize, b: usize) -
     block
 }
 
-/// Returns the entry for `lid` of the switch at the index `own`: the port of the LID's attachment if the attachment is
-/// at this switch, the port in `row` towards the attachment's switch if that is another one, and 255 if `lid` has no
-/// attachment. `row` must have a port towards the switch of each attachment.
+/// Returns the entry for `lid` of the switch at the index `own`. If the LID's attachment is at this switch, the entry
+/// is the port of the attachment. If it is at another switch, the entry is the port in `row` towards that switch. If
+/// `lid` has no attachment, the entry is 255. `row` must have a port towards the switch of each attachment.
 fn entry(attachments: &[Option<Attachment>], row: &[u8], own: usize, lid: usize) -> u8
     requires { AreWithin (length row.now) attachments.now }
     ensures { result ≡ entry_in attachments.now row.now own lid }

@@ -5,15 +5,15 @@ ghost use Rattle.lft_blocks.specs.PlanLaws.{PlansStay, LidsStayInPlans, BlocksHo
 ghost use Rattle.lft_blocks.specs.PlanLaws.{OrdersHold};
 ghost use Rattle.lft_blocks.specs.Rules.{RulesAreRoutings, RulesStay};
 
-/// If facts with room change only in claims, and each end port claims the LID that it has in their plan, there is still
-/// room and the plan stays.
+/// If the facts of a view with room for its LIDs change only in claims, and each end port claims the LID that it has in
+/// their plan, there is still room and the plan stays.
 pub fn plans_stay()
     ensures { PlansStay }
 {}
 
-/// If end ports claim the LIDs that they have in the plan of a view with room, they keep these LIDs in the plan of each
-/// view with room, as long as the other end ports claim nothing or 0 there and the tables have room for the greatest of
-/// these LIDs.
+/// Suppose end ports claim, in a view with room for its LIDs, the LIDs that they have in the plan of another view with
+/// room. Suppose also that the other end ports there claim nothing or 0, and that the tables there have room for the
+/// greatest of these LIDs. Then the end ports keep these LIDs in the plan.
 pub fn lids_stay_in_plans()
     ensures { LidsStayInPlans }
 {}
@@ -23,41 +23,41 @@ pub fn blocks_hold_entries()
     ensures { BlocksHoldEntries }
 {}
 
-/// A plan has block `b` of a switch exactly if the switch is usable and the greatest LID is in block `b` or a later
+/// A plan has block `b` of a switch exactly when the switch is usable and the greatest LID is in block `b` or a later
 /// one. That block has the switch's entries.
 pub fn blocks_are_of_switches()
     ensures { BlocksAreOfSwitches }
 {}
 
-/// If the plan of a view with room, by a rule of routing, is in force in the part around an end port, a packet from
-/// each end port of the part for each LID of the plan is delivered at the end port that owns the LID. The packet takes
-/// as many wires between switches as the rule's cost, passes no switch twice, and takes channels of rising numbers. The
-/// rule may be any that keeps `IsRouting`.
+/// If the plan of a view with room for its LIDs, by a rule of routing, is in force in the part around an end port,
+/// packets arrive. A packet from each end port of the part, for each LID of the plan, is delivered at the end port that
+/// owns the LID. The packet takes as many wires between switches as the rule's cost, passes no switch twice, and takes
+/// channels of rising numbers. The rule may be any that keeps `IsRouting`.
 pub fn packets_arrive_by_each_routing()
     ensures { PacketsArriveByEachRouting }
 {}
 
-/// If a view with room describes the part around an end port, and the part holds the view's plan by a rule of routing,
-/// a packet from each end port of the part for each LID of the plan that an end port of the part owns is delivered at
-/// the owner. The view may describe more, such as nodes that are gone.
+/// Suppose a view with room for its LIDs describes the part around an end port, and the part holds the view's plan by a
+/// rule of routing. Then a packet from each end port of the part, for each LID of the plan whose owner is an end port
+/// of the part, is delivered at the owner. The view may describe more, such as nodes that are gone.
 pub fn packets_arrive_where_covered()
     ensures { PacketsArriveWhereCovered }
 {}
 
-/// If the plan of a view with room is in force in the whole of a connected fabric, a packet from each end port for each
-/// LID of the plan is delivered at the end port that owns the LID. `Plan::of` promises this for the part around one end
-/// port, in any fabric.
+/// If the plan of a view with room for its LIDs is in force in the whole of a connected fabric, packets arrive. A
+/// packet from each end port, for each LID of the plan, is delivered at the end port that owns the LID. `Plan::of`
+/// promises this for the part around one end port, in any fabric.
 pub fn packets_arrive_if_connected()
     ensures { PacketsArriveIfConnected }
 {}
 
-/// Each rule that can be asked for is a rule of routing, on the wires of any view.
+/// Each rule that can be asked for is a rule of routing on the wires of any view.
 pub fn rules_are_routings()
     ensures { RulesAreRoutings }
 {}
 
 /// If two views agree on the wires between switches and on how many adapters each switch has, each rule that can be
-/// asked for routes packets alike in both, whatever else the views contain.
+/// asked for routes packets in the same way in both. It does not matter what else the views contain.
 pub fn rules_stay()
     ensures { RulesStay }
 {}

@@ -1,4 +1,4 @@
-//! The numbers by which LIDs take turns among the ports of switches.
+//! The numbers of LIDs, by which LIDs take turns among the ports of switches.
 ghost use Rattle.std.specs.Prelude.{◌≡◌, ◌<◌, IfOk, length};
 ghost use Rattle.lft_blocks.specs.Attachments.{AreWithin};
 ghost use Rattle.lft_blocks.specs.LidNumbers.{indexed_number, indexed_numbers, number_at, numbering_by};
@@ -16,7 +16,7 @@ pub(crate) struct Numbering {
     pub(crate) lmc: Lmc,
     /// The leaf number of each switch, in ascending order of GUID.
     pub(crate) leaf_numbers: Vec<u16>,
-    /// The most adapters that one switch has.
+    /// The greatest number of adapters at any switch.
     pub(crate) most: u16,
 }
 
@@ -47,8 +47,8 @@ pub(crate) fn find_numbering(
     })
 }
 
-/// Returns, for each LID with an item in `attachments`, the LID's number, or 0 if the LID has no attachment. The index
-/// of a number is its LID. `by` must have a leaf number for the switch of each attachment.
+/// Returns the number of each LID that has an item in `attachments`, or 0 if the LID has no attachment. The index of a
+/// number is its LID. `by` must have a leaf number for the switch of each attachment.
 pub(crate) fn lid_numbers(
     alloc: Global,
     by: &Numbering,
@@ -76,8 +76,8 @@ fn number_of(by: &Numbering, attachments: &[Option<Attachment>], lid: usize) -> 
     }
 }
 
-/// Returns the number of `lid`, which is attached at `attachment`. `by` must have a leaf number for the attachment's
-/// switch.
+/// Returns the number of `lid`, whose attachment is `attachment`. `by` must have a leaf number for the switch of the
+/// attachment.
 fn number_at(by: &Numbering, attachment: Attachment, lid: usize) -> u16
     requires { attachment.switch < length by.now.leaf_numbers }
     ensures { result ≡ number_at by.now attachment.switch attachment.port lid }

@@ -10,7 +10,8 @@ use spread_routes::{SwitchOrder, adapters_of, switches_in_order};
 use std::alloc::Global;
 use subnet_view::{SwitchGraph, Wires};
 
-/// Returns the usable switches in the order of the rule that spreads by `order`.
+/// Returns the usable switches of the view in `store`, in the order of the rule that spreads by `order`. Returns an
+/// error if memory runs out.
 pub fn switch_order(alloc: Global, store: &Store, order: &SwitchOrder) -> Result<Vec<Guid>, Refused>
     ensures { IfOk result (λ found.
         found.items ≡ order_of (order_value_of order.now) (cells_of store.now)) }

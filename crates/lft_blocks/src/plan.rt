@@ -53,8 +53,8 @@ impl Model for Plan {
 }
 
 impl Plan {
-    /// Plans the view that `store` has by `rule`, with 2^LMC LIDs for each adapter port. If the plan is in force in a
-    /// part, every packet arrives there. The plan takes 64 bytes for each block of each switch.
+    /// Plans the view in `store` by `rule`, with 2^`lmc` LIDs for each adapter port. If the plan is in force in a part,
+    /// every packet arrives there. The plan takes 64 bytes for each block of each switch.
     ///
     /// # Errors
     ///
@@ -76,14 +76,14 @@ impl Plan {
         })
     }
 
-    /// Returns the LIDs of the end ports.
+    /// Returns the LIDs that the plan gives to the end ports.
     pub fn lids(&self) -> &LidMap
         ensures { result.now ≡ self.now.given }
     {
         &self.lids
     }
 
-    /// Returns the greatest LID, or `None` if no end port has a LID.
+    /// Returns the greatest LID of the plan, or `None` if no end port has a LID.
     pub fn top(&self) -> Option<Lid>
         ensures { result ≡ top_of self.now.given }
     {
@@ -98,9 +98,9 @@ impl Plan {
     }
 
     /// Returns block `b` of the switch `guid`. Entry `i` is the port by which packets for the LID `64 * b + i` leave.
-    /// It is 0 if the switch has that LID itself, and 255 if nobody has the LID or no way leads to its owner. Returns
-    /// `None` exactly if `guid` is not the GUID of a usable switch, or `b` is greater than the number of the greatest
-    /// LID's block. Does a binary search among the switches.
+    /// It is 0 if the switch has that LID itself, and 255 if no end port has the LID or no way leads to its owner.
+    /// Returns `None` exactly when `guid` is not a usable switch, no end port has a LID, or block `b` is after the
+    /// block of the greatest LID. Does a binary search among the switches.
     pub fn block(&self, guid: Guid, b: usize) -> Option<&[u8; 64]>
         ensures { option_copied result ≡ block_at self.now guid b }
     {
@@ -155,7 +155,7 @@ fn by_spread(
     Ok((graph.into_switches(), tables))
 }
 
-/// Returns the usable switches, in ascending order of GUID, and the table of each by routes that go up and then down.
+/// Returns the usable switches, in ascending order of GUID, and the table of each by up/down routing.
 fn by_updown(
     alloc: Global,
     wires: &Wires,
@@ -173,7 +173,8 @@ fn by_updown(
 }
 
 /// Returns the table of each switch of `graph`, with `count` blocks, by routes that go up and then down. The GUIDs of
-/// the switches of `graph` must rise strictly. The attachments must be at these switches. `count` must be at most 1024.
+/// the switches of `graph` must be in strictly ascending order. The attachments must be at these switches. `count` must
+/// be at most 1024.
 fn updown_tables(
     alloc: Global,
     graph: &Graph,

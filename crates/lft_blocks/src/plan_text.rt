@@ -1,4 +1,4 @@
-//! A plan as text: a line for each LID, and for each switch a line, followed by a line for each of its blocks.
+//! A plan as text: a line for each LID, then for each switch a line that is followed by a line for each of its blocks.
 ghost use Rattle.std.specs.Prelude.{List, Option, None, Some, IsTrue, OnOk};
 ghost use Rattle.std.specs.Option.{option_map_or};
 ghost use Rattle.std.specs.List.{flat_map};
@@ -17,7 +17,7 @@ use smp_bytes::{Guid, Lid};
 use subnet_view::EndPort;
 
 /// Writes a line for each LID, in ascending order. Then writes, for each usable switch in ascending order of GUID, a
-/// line with the greatest LID and a line for each block. Flushes at the end. Without end ports there are no lines.
+/// line with the greatest LID and a line for each block. Flushes at the end. Writes no lines if there is no end port.
 /// Returns an error only if `sink` has failed. Does not allocate.
 pub fn write_plan<W: Sink>(sink: &mut W, plan: &Plan) -> Result<(), WriteFault>
     ensures writes { Writes W.written W.has_failed result sink.old sink.new (plan_text plan.now) }
@@ -38,7 +38,7 @@ pub fn write_lids<W: Sink>(sink: &mut W, lids: &LidMap) -> Result<(), WriteFault
     Ok(())
 }
 
-/// Writes the line of `lid` if an end port has it, and nothing otherwise.
+/// Writes the line of `lid` if an end port has it, and otherwise nothing.
 fn write_owner<W: Sink>(sink: &mut W, lids: &LidMap, lid: Lid) -> Result<(), WriteFault>
     ensures { WritesPart W.written W.has_failed result sink.old sink.new (owner_line lids.now lid) }
 {
@@ -51,7 +51,8 @@ fn write_owner<W: Sink>(sink: &mut W, lids: &LidMap, lid: Lid) -> Result<(), Wri
     }
 }
 
-/// Writes the line of `lid`: the word `lid`, the number of the LID, the end port `port`, and `lmc` if it is not 0.
+/// Writes the line of `lid`: the word `lid`, the number of the LID, the end port `port`, and the LMC `lmc` if it is not
+/// 0.
 pub fn write_lid<W: Sink>(sink: &mut W, lid: Lid, lmc: Lmc, port: EndPort) -> Result<(), WriteFault>
     ensures { Writes W.written W.has_failed result sink.old sink.new (lid_line (lid, lmc, port)) }
 {
@@ -74,7 +75,7 @@ fn write_lmc<W: Sink>(sink: &mut W, lmc: Lmc) -> Result<(), WriteFault>
     write_number(sink, u64::from(lmc.number()))
 }
 
-/// Writes the lines of all switches and their blocks if the plan has a LID, and nothing otherwise.
+/// Writes the lines of all switches and their blocks if the plan has a LID. Otherwise writes nothing.
 fn write_tables<W: Sink>(sink: &mut W, plan: &Plan) -> Result<(), WriteFault>
     ensures { WritesPart W.written W.has_failed result sink.old sink.new (tables_text plan.now) }
 {
@@ -103,8 +104,8 @@ fn write_table<W: Sink>(sink: &mut W, top: Lid, table: &Table) -> Result<(), Wri
     write_blocks(sink, table.blocks())
 }
 
-/// Writes the line of a switch: the word `switch`, the GUID `guid`, the word `top`, and the number of `top`, the
-/// greatest LID.
+/// Writes the line of the switch `guid`: the word `switch`, the GUID, the word `top`, and the number of the greatest
+/// LID, `top`.
 pub fn write_switch<W: Sink>(sink: &mut W, top: Lid, guid: Guid) -> Result<(), WriteFault>
     ensures { Writes W.written W.has_failed result sink.old sink.new (switch_line top guid) }
 {
@@ -115,7 +116,7 @@ pub fn write_switch<W: Sink>(sink: &mut W, top: Lid, guid: Guid) -> Result<(), W
     sink.write(b"\n")
 }
 
-/// Writes a line for each of `blocks`, numbered from 0 on.
+/// Writes a line for each of `blocks`. They are numbered from 0.
 fn write_blocks<W: Sink>(sink: &mut W, blocks: &[[u8; 64]]) -> Result<(), WriteFault>
     ensures { WritesPart W.written W.has_failed result sink.old sink.new (blocks_text blocks.now) }
 {
@@ -137,7 +138,7 @@ pub fn write_block<W: Sink>(sink: &mut W, b: usize, block: &[u8; 64]) -> Result<
     sink.write(b"\n")
 }
 
-/// Writes the entries of a block, each as two hex digits.
+/// Writes the 64 entries of a block, each as two hex digits.
 fn write_entries<W: Sink>(sink: &mut W, block: &[u8; 64]) -> Result<(), WriteFault>
     ensures { Writes W.written W.has_failed result sink.old sink.new (encode_lower block.now) }
 {

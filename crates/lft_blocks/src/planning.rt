@@ -12,7 +12,7 @@ use fact_store::Store;
 use std::alloc::{AllocError, Global};
 use std::marker::Model;
 
-/// How a manager plans. All managers of a subnet should plan alike.
+/// How a manager plans: its LMC and its rule. All managers of a subnet should plan alike.
 #[derive(Drop)]
 pub struct Planning {
     /// The LMC: an adapter port has 2^LMC LIDs.
@@ -50,7 +50,7 @@ impl Planning {
         })
     }
 
-    /// Plans the view that `store` has. If the plan is in force in a part, every packet arrives there.
+    /// Plans the view in `store`. If the plan is in force in a part, every packet arrives there.
     ///
     /// # Errors
     ///

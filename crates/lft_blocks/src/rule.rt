@@ -7,12 +7,12 @@ use std::alloc::{AllocError, Global};
 /// A rule of routing: how packets are routed between switches.
 #[derive(Drop)]
 pub enum Rule {
-    /// Goes up until a walk down leads to the target, and then down. Of equally good ports, takes the least at each
-    /// switch.
+    /// Goes up until a walk down leads to the target, and then down. Of equally good ports, each switch takes the
+    /// least.
     UpDown,
     /// Spreads packets over the wires, by an order of switches.
     Spread {
-        /// What the order grows by.
+        /// How the order of switches is grown.
         order: SwitchOrder,
     },
 }

@@ -24,8 +24,8 @@ use std::mem;
 use subnet_view::{SwitchGraph, Wires};
 
 /// Returns the table of each switch of `graph`, with `count` blocks, by the rule that spreads by `order`. `count` must
-/// be at most 1024. `graph` must be the graph of `wires`. `attachments` must have `64 * count` items, with attachments
-/// at switches of `graph`.
+/// be at most 1024. `graph` must be the graph of `wires`. `attachments` must have `64 * count` items, and the
+/// attachments must be at switches of `graph`.
 pub(crate) fn spread_tables(
     alloc: Global,
     wires: &Wires,
@@ -90,9 +90,9 @@ fn rows(
     Ok(rows)
 }
 
-/// Writes the entries of all switches for the LIDs that are attached to one of the targets of `towards`. `rows` must
-/// have the entries for LIDs that are attached to earlier switches, and 255 for the others. `lids` must have the LIDs
-/// that are attached to each switch.
+/// Writes the entries of all switches for the LIDs that are attached to the targets of `towards`. `rows` must have the
+/// entries for the LIDs that are attached to earlier switches, and 255 for all other LIDs. `lids` must have the LIDs
+/// that are attached to each switch. `numbers` must have a number for each item of `attachments`.
 fn write_rows<'s>(
     alloc: Global,
     rows: &mut [TableRow],
@@ -128,9 +128,10 @@ fn write_rows<'s>(
     Ok(())
 }
 
-/// Writes the entries of the switch at the index `own` for the LIDs that are attached to one of the targets of
-/// `towards`. `row` must have its entries for LIDs that are attached to earlier switches, and 255 for the others.
-/// `lids` must have the LIDs that are attached to each switch. Replaces the contents of `exits`.
+/// Writes the entries of the switch at the index `own` for the LIDs that are attached to the targets of `towards`.
+/// `row` must have the entries of this switch for the LIDs that are attached to earlier switches, and 255 for all other
+/// LIDs. `lids` must have the LIDs that are attached to each switch. `numbers` must have a number for each item of
+/// `attachments`. Replaces the contents of `exits`.
 fn write_row<'s>(
     row: &mut TableRow,
     own: usize,

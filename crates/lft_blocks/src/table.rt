@@ -5,8 +5,8 @@ use crate::block::blocks;
 use smp_bytes::Guid;
 use std::marker::Model;
 
-/// The forwarding table of a switch, in blocks of 64 entries. A table has at most 1024 blocks, enough for all LIDs that
-/// a packet can name.
+/// The forwarding table of a switch, in blocks of 64 entries. A table has at most 1024 blocks, which is enough for all
+/// LIDs that a packet can name.
 #[derive(Drop)]
 pub struct Table {
     pub(crate) guid: Guid,
@@ -40,7 +40,7 @@ impl Table {
         self.guid
     }
 
-    /// Returns block `b`, or `None` past the last block.
+    /// Returns block `b`, or `None` if `b` is past the last block.
     pub(crate) fn block(&self, b: usize) -> Option<&[u8; 64]>
         ensures { option_copied result ≡ slice_get self.now.blocks b }
     {

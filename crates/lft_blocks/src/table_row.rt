@@ -1,4 +1,4 @@
-//! The entries of switches by LID, written target by target.
+//! The entries of switches, by LID. They are written one target after another.
 ghost use Rattle.std.specs.Prelude.{◌≡◌, ◌<◌, ◌≤◌, ◌+◌, ◌*◌, [], All, IfOk, None, length, map, replicate};
 ghost use Rattle.std.specs.Prelude.{slice_index, slice_index_or};
 ghost use Rattle.spread_routes.specs.Exits.{port_by, with_entries};
@@ -45,8 +45,8 @@ impl TableRow {
 
     /// Writes the entries for `lids`, which are attached to `target` of `exits`. If `is_own`, the entries are the ports
     /// of the attachments. Otherwise they are the ports by which packets leave for `target`, or 255 if no port leads
-    /// there. Each LID chooses by its number in `numbers`. The row must have an entry for each of `lids`. `attachments`
-    /// and `numbers` must be as long as the row. `target` must be below 64.
+    /// there. The port for a LID is chosen by its number in `numbers`. The row must have an entry for each of `lids`.
+    /// `attachments` and `numbers` must be as long as the row. `target` must be below 64.
     pub(crate) fn write(
         &mut self,
         attachments: &[Option<Attachment>],
@@ -123,7 +123,7 @@ fn own_entry(attachments: &[Option<Attachment>], lid: Lid) -> u8
 }
 
 /// Returns, for each of `switches` switches, the LIDs that are attached to the switch, in ascending order.
-/// `attachments` must have at most 65536 items, with attachments at these switches.
+/// `attachments` must have at most 65536 items, and the attachments must be at these switches.
 pub(crate) fn lids_by_switch(
     alloc: Global,
     attachments: &[Option<Attachment>],

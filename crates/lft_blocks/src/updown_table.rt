@@ -11,7 +11,7 @@ use std::alloc::{AllocError, Global};
 use updown_routes::Routes;
 
 /// Returns the table of each of the switches `guids`, with `count` blocks, by `routes`. `count` must be at most 1024.
-/// The attachments must be at these switches.
+/// The attachments must be at switches of `guids`.
 pub(crate) fn tables(
     alloc: Global,
     routes: &Routes,

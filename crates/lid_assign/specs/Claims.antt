@@ -1,4 +1,5 @@
--- Which claim an end port keeps: the range that it says it has, if that fits and no port before it claims it.
+-- Which claim an end port keeps. It keeps the claim if the range from there on fits, and no end port before it claims a
+-- number of that range.
 use Rattle.std.specs.Prelude.{ℕ, Bool, false, List, [], ◌∷◌, min, Option, None, Some, option_map, option_and_then}
 use Rattle.std.specs.Prelude.{if◌then◌else◌}
 use Rattle.std.specs.Option.{option_map_or}
@@ -9,21 +10,21 @@ use Rattle.subnet_view.specs.Reading.{Cells, switches}
 use Rattle.subnet_view.specs.EndPorts.{end_ports}
 use Rattle.lid_assign.specs.Ranges.{Range, range_at, meets, fits}
 
--- the least of some table rooms, at most 0xC000, the first number past the unicast LIDs
+-- the least of some table sizes, but at most 0xC000, the first number past the unicast LIDs
 abbrev pub least_room : List ℕ → ℕ
 least_room [] = 0xC000
 least_room (cap ∷ caps) = min cap (least_room caps)
 
--- the least table room of a usable switch, at most 0xC000, the first number past the unicast LIDs; all LIDs are below
--- it
+-- the room for LIDs: the least table size of a usable switch, but at most 0xC000, the first number past the unicast
+-- LIDs. All LIDs are below it
 abbrev pub room : Cells → ℕ
 room cells = least_room (filter_map (cap_of cells) (switches cells))
 
--- `c` if the range of the end port `e` from `c` on fits, else None
+-- `c` if the range of the end port `e` from `c` on fits, otherwise None
 abbrev pub if_fits : ℕ → ℕ → EndPort → ℕ → Option ℕ
 if_fits room lmc e c = if fits room (range_at lmc e c) then Some c else None
 
--- the number that the end port `e` claims, if the range of `e` from that number on fits; else None
+-- the number that the end port `e` claims, if the range of `e` from that number on fits; otherwise None
 abbrev pub fitting_claim : ℕ → Cells → EndPort → Option ℕ
 fitting_claim lmc cells e = option_and_then (if_fits (room cells) lmc e) (claim_of cells e.node e.port)
 
@@ -32,20 +33,21 @@ abbrev pub claims : ℕ → Cells → Range → EndPort → Bool
 claims lmc cells r e = option_map_or (λ c. meets r (range_at lmc e c)) (fitting_claim lmc cells e) false
 
 -- `c` if no end port of `earlier` claims a range that fits and has a number in common with the range of `e` from `c`
--- on; else None
+-- on; otherwise None
 abbrev pub if_first : ℕ → Cells → List EndPort → EndPort → ℕ → Option ℕ
 if_first lmc cells earlier e c = if list_any (claims lmc cells (range_at lmc e c)) earlier then None else Some c
 
--- the claim that the end port `e` keeps, if `earlier` are the end ports before `e`; None if `e` keeps no claim
+-- the claim that the end port `e` keeps; None if it keeps no claim. `earlier` are the end ports before `e`
 abbrev pub kept_claim : ℕ → Cells → List EndPort → EndPort → Option ℕ
 kept_claim lmc cells earlier e = option_and_then (if_first lmc cells earlier e) (fitting_claim lmc cells e)
 
--- each end port of a list with the claim that it keeps, or None, if `earlier` are the end ports before the list
+-- each end port of a list, with the claim that it keeps, or None if it keeps none. `earlier` are the end ports before
+-- the list
 abbrev pub with_kept : ℕ → Cells → List EndPort → List EndPort → List (EndPort × Option ℕ)
 with_kept lmc cells earlier [] = []
 with_kept lmc cells earlier (e ∷ rest) = (e, kept_claim lmc cells earlier e) ∷ with_kept lmc cells (e ∷ earlier) rest
 
--- each end port in order, with the claim that it keeps, or None
+-- each end port, in order, with the claim that it keeps, or None if it keeps none
 abbrev pub kept : ℕ → Cells → List (EndPort × Option ℕ)
 kept lmc cells = with_kept lmc cells [] (end_ports cells)
 

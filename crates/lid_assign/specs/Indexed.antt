@@ -7,7 +7,8 @@ use Rattle.std.specs.BTreeMap.{BTreeMap, get}
 use Rattle.lid_assign.specs.Ranges.{width_of, Range, is_in}
 use Rattle.lid_assign.specs.Lids.{Given, count_up, owner_of, lid_among, top_of, rising_lids, is_lid}
 
--- `owners` has at each number the end port that owns it, or None if nobody does; numbers past its end have no owner
+-- `owners` has, for each number, the end port that owns it, or None if no end port does. Numbers past the end of
+-- `owners` have no owner
 abbrev pub AreOwners : Given → List (Option EndPort) → Type 0
 AreOwners given owners = (n : ℕ) → slice_index_or owners n None ≡ owner_of given n
 
@@ -16,7 +17,7 @@ pub record AreOwnersMore (e : EndPort) (r : Range) (old new : List (Option EndPo
   pub all : length new ≡ length old
   pub each : (n : ℕ) → slice_index_or new n None ≡ (if is_in r n then Some e else slice_index_or old n None)
 
--- `marks` has true at a number exactly if the number is an end port's LID
+-- `marks` has true at a number exactly when the number is an end port's LID
 abbrev pub AreLidMarks : List (EndPort × ℕ) → List Bool → Type 0
 AreLidMarks given marks = (n : ℕ) → slice_index_or marks n false ≡ is_lid given n
 
@@ -24,7 +25,7 @@ AreLidMarks given marks = (n : ℕ) → slice_index_or marks n false ≡ is_lid 
 abbrev pub marked_from : List Bool → ℕ → List ℕ
 marked_from marks first = filter (λ n. slice_index_or marks n false) (count_up first (length marks - first))
 
--- the last number of each end port's range is below `bound`, under the LMC `lmc`
+-- under the LMC `lmc`, the last number of each end port's range is below `bound`
 abbrev pub AreBelow : ℕ → ℕ → List (EndPort × ℕ) → Type 0
 AreBelow bound lmc given = (e : EndPort) (n : ℕ) → Contains given (e, n) → n + width_of lmc e ≤ bound
 
@@ -37,7 +38,7 @@ abbrev pub ByPort : List (EndPort × ℕ) → BTreeMap (ℕ × ℕ) ℕ → Type
 ByPort given lids = (e : EndPort) → get node_port_cmp lids (e.node, e.port) ≡ lid_among given e
 
 -- the tables are those of `given`: the owner of each number, the LID of each end port, the greatest number, and the
--- rising LIDs; all numbers are below 0xC000, where unicast LIDs end
+-- LIDs in ascending order. All numbers are below 0xC000, where unicast LIDs end
 pub record IsIndexed (given : Given) (owners : List (Option EndPort)) (lids : BTreeMap (ℕ × ℕ) ℕ) (top : Option ℕ)
     (rising : List ℕ) : Type 0 where
   pub owned : AreOwners given owners

@@ -13,17 +13,17 @@ abbrev pub lid_fault_name : LidFault → List ℕ
 lid_fault_name (NoRoom why) = codes "NoRoom"
 lid_fault_name Memory = codes "Memory"
 
--- whether the fault is lack of memory, and not of room
+-- whether the fault is lack of memory, and not lack of room
 abbrev pub is_memory : LidFault → Bool
 is_memory (NoRoom why) = false
 is_memory Memory = true
 
--- the number of end ports and the room if an end port finds no LID, else None
+-- the number of end ports and the room, if some end port finds no LID; otherwise None
 abbrev pub no_room : ℕ → Cells → Option Room
 no_room lmc cells =
     if is_no_room lmc cells then Some (record { endports = length (end_ports cells); room = room cells }) else None
 
--- `NoRoom` if a lack of room is given, else None
+-- `NoRoom` if a lack of room is given, otherwise None
 abbrev pub lid_fault : Option Room → Option LidFault
 lid_fault None = None
 lid_fault (Some why) = Some (NoRoom why)

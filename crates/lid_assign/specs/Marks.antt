@@ -11,7 +11,7 @@ use Rattle.lid_assign.specs.Lids.{count_up}
 abbrev pub is_marked : List Bool → ℕ → Bool
 is_marked marks n = slice_index_or marks n false
 
--- whether a number of the range `r` is marked
+-- whether any number of the range `r` is marked
 abbrev pub any_marked : List Bool → Range → Bool
 any_marked marks r = list_any (is_marked marks) (count_up r.first r.width)
 
@@ -23,12 +23,12 @@ from_on width c = record { first = c; width = width }
 abbrev pub is_in_some : Option Range → ℕ → Bool
 is_in_some r n = option_map_or (λ r. is_in r n) r false
 
--- `new` is as long as `old`, and marks what `old` marks and, if `r` is a range, each number of `r` below that length
+-- `new` is as long as `old`. It marks what `old` marks and, if `r` is a range, each number of `r` below that length
 pub record AreMarkedMore (r : Option Range) (old new : List Bool) : Type 0 where
   pub all : length new ≡ length old
   pub each : (n : ℕ) → n < length old → is_marked new n ≡ (is_in_some r n || is_marked old n)
 
--- `c` if the range of `width` from `c` on fits, else None
+-- `c` if the range of `width` from `c` on fits, otherwise None
 abbrev pub if_within : ℕ → ℕ → ℕ → Option ℕ
 if_within room width c = if fits room (from_on width c) then Some c else None
 
@@ -36,11 +36,11 @@ if_within room width c = if fits room (from_on width c) then Some c else None
 abbrev pub fitting : ℕ → ℕ → Option ℕ → Option ℕ
 fitting room width claim = option_and_then (if_within room width) claim
 
--- `c` if no number of the range of `width` from `c` on is marked, else None
+-- `c` if no number of the range of `width` from `c` on is marked, otherwise None
 abbrev pub if_unmarked : List Bool → ℕ → ℕ → Option ℕ
 if_unmarked marks width c = if any_marked marks (from_on width c) then None else Some c
 
--- `claim` if its range of `width` fits and has no marked number; None if not, or if `claim` is None
+-- `claim` if its range of `width` fits and has no marked number; None otherwise, or if `claim` is None
 abbrev pub unmarked : List Bool → ℕ → Option ℕ → Option ℕ
 unmarked marks width claim = option_and_then (if_unmarked marks width) (fitting (length marks) width claim)
 
@@ -49,11 +49,11 @@ pub record IsUnmarked (marks : List Bool) (width c : ℕ) : Type 0 where
   pub is_fit : fits (length marks) (from_on width c) ≡ true
   pub is_open : any_marked marks (from_on width c) ≡ false
 
--- no number from `low` up to, but not including, `high` begins a range of `width` that fits and has no mark
+-- from no number `c` with `low` ≤ `c` < `high` on does a range of `width` fit and have no mark
 abbrev pub NoneUnmarked : List Bool → ℕ → ℕ → ℕ → Type 0
 NoneUnmarked marks width low high = (c : ℕ) → low ≤ c → c < high → IsUnmarked marks width c → ⊥
 
--- `c` is the least number from `low` on that begins a range of `width` that fits and has no mark
+-- `c` is the least number, from `low` on, from which a range of `width` fits and has no mark
 pub record IsLeastUnmarked (marks : List Bool) (width low c : ℕ) : Type 0 where
   pub unmarked_there : IsUnmarked marks width c
   pub from_low : low ≤ c
@@ -64,20 +64,20 @@ pub record AreTaken (room : ℕ) (ranges : List Range) (marks : List Bool) : Typ
   pub all : length marks ≡ room
   pub each : (n : ℕ) → n < room → is_marked marks n ≡ list_any (λ r. is_in r n) ranges
 
--- no number below `next` begins a range of `width` that fits and has no mark; `next` is a multiple of `width`, not 0,
--- and at most `width` past the end of `marks`
+-- no range of `width` that begins below `next` fits and has no mark. `next` is a multiple of `width` other than 0, and
+-- is at most `width` past the end of `marks`
 pub record IsPassed (marks : List Bool) (width next : ℕ) : Type 0 where
   pub aligned : next % width ≡ 0
   pub not_0 : 1 ≤ next
   pub near : next ≤ length marks + width
   pub none_before : NoneUnmarked marks width 0 next
 
--- `next.switch` is passed (`IsPassed`) for ranges of width 1, as switches have, and `next.adapter` for ranges of width
--- 2^LMC, as adapter ports have
+-- `next` is passed: `next.switch` (`IsPassed`) for ranges of width 1, as switches have, and `next.adapter` for ranges
+-- of width 2^LMC, as adapter ports have
 pub record ArePassed (lmc : ℕ) (marks : List Bool) (next : Next) : Type 0 where
   pub switches : IsPassed marks 1 next.switch
   pub adapters : IsPassed marks (2 ^ lmc) next.adapter
 
--- `found` has the LIDs that `handed` has; `found` is None exactly if `handed` is None
+-- `found` has the LIDs that `handed` has; `found` is None exactly when `handed` is None
 abbrev pub IsFound : {V : Type 0} → (V → List (EndPort × ℕ)) → Option (List (EndPort × ℕ)) → Option V → Type 0
 IsFound items handed found = option_map items found ≡ handed

@@ -1,10 +1,10 @@
--- The LIDs of an end port, as a range: consecutive numbers from its LID on, 2^LMC for an adapter port (addressing
--- chapter, base LID and LMC).
+-- The LIDs of an end port, as a range of consecutive numbers from its LID on: one for a switch, and 2^LMC for an
+-- adapter port (addressing chapter, base LID and LMC).
 use Rattle.std.specs.Prelude.{◌≡◌, ◌↔◌, ◌<◌, ◌≤◌, ◌+◌, ◌%◌, ◌^◌, ℕ, Bool, ◌==◌, ◌&&◌, nat_le, nat_lt, IsTrue, if◌then◌else◌}
 use Rattle.smp_bytes.specs.LidRange.{is_among}
 use Rattle.subnet_view.specs.declared.end_port.EndPort.{EndPort}
 
--- the LMC of the end port `e`: 0 for port 0, which is a switch's, else the subnet's
+-- the LMC of the end port `e`: 0 if it is port 0 of a switch, otherwise the subnet's LMC
 abbrev pub lmc_at : ℕ → EndPort → ℕ
 lmc_at lmc e = if e.port == 0 then 0 else lmc
 
@@ -29,7 +29,7 @@ is_in r n = is_among r.first r.width n
 abbrev pub meets : Range → Range → Bool
 meets a b = nat_lt a.first (b.first + b.width) && nat_lt b.first (a.first + a.width)
 
--- whether an end port can have the range `r`: it begins at a multiple of its width, not at 0, and ends below `room`
+-- whether an end port can have the range `r`: it begins at a multiple of its width other than 0, and ends below `room`
 abbrev pub fits : ℕ → Range → Bool
 fits room r = nat_le 1 r.first && (r.first % r.width == 0 && nat_le (r.first + r.width) room)
 
@@ -43,7 +43,7 @@ IsIn r n = (r.first ≤ n) × (n < r.first + r.width)
 abbrev pub IsInBoth : Range → Range → ℕ → Type 0
 IsInBoth a b n = IsIn a n × IsIn b n
 
--- an end port can have the range `r`: it begins at a multiple of its width, not at 0, and ends below `room`
+-- an end port can have the range `r`: it begins at a multiple of its width other than 0, and ends below `room`
 pub record Fits (room : ℕ) (r : Range) : Type 0 where
   pub not_0 : 1 ≤ r.first
   pub aligned : r.first % r.width ≡ 0

@@ -17,16 +17,17 @@ use smp_bytes::Lid;
 use std::alloc::Global;
 use subnet_view::{EndPort, end_ports};
 
-/// Assigns a LID to each end port of the view. A switch has a range of one number, its LID, and an adapter's port has a
-/// range of 2^`lmc` numbers, from its LID on. A range fits if it begins at a multiple of its width, but not at 0, and
-/// ends below the room. The room is the least table room of a usable switch, but at most 49152, where unicast LIDs end.
-/// An end port keeps its claim if the claim's range fits, and meets no fitting range that an earlier end port claims.
-/// Each other end port, in order, takes the least number whose range fits and has no number that is taken. Unless
-/// memory runs out, walks the cells at most four times.
+/// Assigns a LID to each end port of the view. A switch has a range of one number, its LID. An adapter's port has a
+/// range of 2^`lmc` numbers, from its LID on. A range fits if it begins at a multiple of its width other than 0, and
+/// ends below the room. The room is the least table size of a usable switch, but at most 49152, where unicast LIDs end.
+/// An end port keeps its claim if the claim's range fits, and has no number in common with a fitting range that an
+/// earlier end port claims. Each other end port, in order, takes the least number whose range fits and has no number
+/// that is taken. Unless memory runs out, walks the cells at most four times.
 ///
 /// # Errors
 ///
-/// Returns `NoRoom` if an end port finds no LID, and `Memory` if each would find a LID but memory runs out.
+/// Returns `NoRoom` if some end port finds no LID. Returns `Memory` if each end port would find a LID but memory runs
+/// out.
 pub fn assign(alloc: Global, store: &Store, lmc: Lmc) -> Result<LidMap, LidFault>
     ensures judged { JudgesButFor is_memory result (lid_fault (no_room lmc (cells_of store.now))) }
     ensures lids { IfOk result (λ map. map ≡ lids lmc (cells_of store.now)) }
@@ -38,8 +39,8 @@ pub fn assign(alloc: Global, store: &Store, lmc: Lmc) -> Result<LidMap, LidFault
     }
 }
 
-/// Returns the fault if memory runs out before the LIDs are known: `NoRoom` if an end port finds no LID, otherwise
-/// `Memory`.
+/// Returns the fault to report if memory runs out before the LIDs are known. The fault is `NoRoom` if some end port
+/// finds no LID, and otherwise `Memory`.
 fn out_of_memory(store: &Store, lmc: Lmc) -> LidFault
     ensures { result ≡ unwrap_or (lid_fault (no_room lmc (cells_of store.now))) Memory }
 {
@@ -49,8 +50,8 @@ fn out_of_memory(store: &Store, lmc: Lmc) -> LidFault
     }
 }
 
-/// Returns the end ports in their order, each with its LID, or `None` if an end port finds no LID. Returns an error if
-/// memory runs out.
+/// Returns the end ports in their order, each with its LID, or `None` if some end port finds no LID. Returns an error
+/// if memory runs out.
 fn handed_out(
     alloc: Global,
     store: &Store,

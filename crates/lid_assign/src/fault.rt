@@ -4,22 +4,22 @@ use fact_store::Refused;
 use std::alloc::AllocError;
 use thiserror::Error;
 
-/// An end port finds no LID: no range that fits below the room is left.
+/// Some end port finds no LID, since no range that fits below the room is left.
 #[derive(Clone, Copy, Debug, PartialEq, Eq)]
 pub struct NoRoom {
     /// The number of end ports.
     pub endports: usize,
-    /// The least table room of a usable switch, but at most 49152.
+    /// The room: the least table size of a usable switch, but at most 49152.
     pub room: u16,
 }
 
 /// Why no LIDs are assigned.
 #[derive(Clone, Copy, Debug, PartialEq, Eq, Error)]
 pub enum LidFault {
-    /// An end port finds no LID.
+    /// Some end port finds no LID.
     #[error("NoRoom")]
     NoRoom(NoRoom),
-    /// Memory for the LIDs was refused. Each end port would find a LID.
+    /// Memory for the LIDs was refused. With more memory, each end port would find a LID.
     #[error("Memory")]
     Memory,
 }

@@ -9,9 +9,10 @@ pub fn ranges_law()
     ensures { RangesLaw }
 {}
 
-/// If there is room, each end port has one LID, whose range fits below the room, and no two ranges have a number in
-/// common. An end port keeps its claim if the claim's range fits, and meets no fitting range that an earlier end port
-/// claims. Each other end port has the least number whose range fits and has no number that was taken before.
+/// If each end port finds a LID, each has one LID, whose range fits below the room, and no two ranges have a number in
+/// common. An end port keeps its claim if the claim's range fits, and has no number in common with a fitting range that
+/// an earlier end port claims. Each other end port has the least number whose range fits and has no number that was
+/// taken before.
 pub fn lids_law()
     ensures { LidsLaw }
 {}
@@ -21,22 +22,24 @@ pub fn lids_are_unique()
     ensures { LidsAreUnique }
 {}
 
-/// There is no room exactly if no LIDs satisfy `AreLids`.
+/// Some end port finds no LID exactly when no LIDs satisfy `AreLids`.
 pub fn no_room_law()
     ensures { NoRoomLaw }
 {}
 
-/// Under LMC 0 an end port finds no LID exactly if the view has end ports, and at least as many as the room.
+/// Under LMC 0, some end port finds no LID exactly when the view has an end port and the number of end ports is at
+/// least the room.
 pub fn no_room_at_lmc_0()
     ensures { NoRoomAtLmc0 }
 {}
 
-/// End ports of one width that keep no claim have rising LIDs, in the order of end ports.
+/// The end ports that keep no claim and have the same width have rising LIDs, in the order of end ports.
 pub fn others_rise()
     ensures { OthersRise }
 {}
 
-/// If there is room, an end port is the owner of a number exactly if the end port has a LID whose range has the number.
+/// If each end port finds a LID, an end port is the owner of a number exactly when the end port has a LID whose range
+/// has the number.
 pub fn owners_are_inverse()
     ensures { OwnersAreInverse }
 {}
@@ -46,16 +49,16 @@ pub fn rising_lids_law()
     ensures { RisingLidsLaw }
 {}
 
-/// If the claims of facts with room are replaced by the LIDs that the end ports have, there is still room, and all LIDs
-/// stay. Claims of ports that are no end ports may be anything.
+/// If each end port finds a LID, and claims are replaced by the LIDs that the end ports have, then each still finds a
+/// LID, and all LIDs stay. Ports that are not end ports may claim anything.
 pub fn lids_settle()
     ensures { LidsSettle }
 {}
 
-/// If a later view grows from an earlier view (`GrowsFrom`) and both have room, each end port of the earlier view keeps
-/// its LID. The later view has these end ports, and each claims the LID that it has by the earlier view. All other end
-/// ports claim nothing or 0. The room of the later view is above the greatest number that an end port has by the
-/// earlier view.
+/// If a later view grows from an earlier view (`GrowsFrom`) and all end ports of both find LIDs, each end port of the
+/// earlier view keeps its LID. That the later view grows means: it has the earlier end ports, and each claims the LID
+/// that it has by the earlier view. All other end ports claim nothing or 0. The room of the later view is above the
+/// greatest number that an end port has by the earlier view.
 pub fn lids_stay()
     ensures { LidsStay }
 {}

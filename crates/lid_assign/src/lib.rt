@@ -1,5 +1,5 @@
-//! LIDs for each end port: one for a switch, and 2^LMC for an adapter's port. An end port keeps its claim if it can,
-//! and each other end port takes the least range that is left.
+//! LIDs for end ports: one for each switch, and 2^LMC for each adapter's port. An end port keeps its claim if it can.
+//! Each other end port takes the least range that is left.
 #![tactic(auto)]
 
 mod assignment;

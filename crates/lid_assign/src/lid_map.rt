@@ -18,11 +18,11 @@ pub struct LidMap {
     lmc: Lmc,
     /// The end ports in their order, each with its LID.
     given: Vec<(EndPort, Lid)>,
-    /// For each number up to the greatest that an end port has, the end port whose range has the number, or `None`.
+    /// For each number up to the greatest number in a range, the end port whose range has the number, or `None`.
     owners: Vec<Option<EndPort>>,
     /// The LID of each end port, by node and port.
     by_port: BTreeMap<(Guid, PortNum), Lid>,
-    /// The greatest number that an end port has, or `None` without end ports.
+    /// The greatest number in the range of an end port, or `None` if there are no end ports.
     top: Option<Lid>,
     /// The LIDs that are assigned, each once, rising.
     rising: Vec<Lid>,
@@ -41,7 +41,8 @@ impl Model for LidMap {
 }
 
 impl LidMap {
-    /// Creates a map from the end ports in their order, each with its LID. All ranges must be below 49152.
+    /// Creates a map with the LMC `lmc` from the end ports in their order, each with its LID. All ranges must be below
+    /// 49152. Returns an error if memory runs out.
     pub(crate) fn new(
         alloc: Global,
         lmc: Lmc,
@@ -64,7 +65,7 @@ impl LidMap {
         })
     }
 
-    /// Returns the LMC of `port`: 0 for port 0, which is a switch's, otherwise the map's LMC.
+    /// Returns the LMC of `port`: 0 if `port` is port 0 of a switch, and otherwise the map's LMC.
     pub fn lmc_of(&self, port: &EndPort) -> Lmc
         ensures { result ≡ lmc_of self.now port.now }
     {
@@ -89,8 +90,8 @@ impl LidMap {
             .flatten()
     }
 
-    /// Returns the LID of `port`, the first number of its range, or `None` if `port` has no LID. Takes time logarithmic
-    /// in the number of end ports.
+    /// Returns the LID of `port`, which is the first number of its range, or `None` if `port` has no LID. Takes time
+    /// logarithmic in the number of end ports.
     pub fn lid_of(&self, port: EndPort) -> Option<Lid>
         ensures { result ≡ lid_of self.now port }
     {
@@ -104,7 +105,8 @@ impl LidMap {
         &self.rising
     }
 
-    /// Returns the greatest number that an end port has, or `None` if there are no end ports. Takes constant time.
+    /// Returns the greatest number in the range of an end port, or `None` if there are no end ports. Takes constant
+    /// time.
     pub fn top(&self) -> Option<Lid>
         ensures { result ≡ top_of self.now }
     {
@@ -112,8 +114,9 @@ impl LidMap {
     }
 }
 
-/// Returns, for each number below `end`, the end port whose range has the number, or `None`. All ranges must be below
-/// `end`. Writes the entries of the first end port last, so that the first owner of a number wins.
+/// Returns, for each number below `end`, the end port whose range has the number, or `None` if no range has it. All
+/// ranges must be below `end`. Writes the entries of the first end port last, so that if several ranges have a number,
+/// the first end port is its owner.
 fn owners(
     alloc: Global,
     lmc: Lmc,
@@ -131,7 +134,7 @@ fn owners(
     Ok(owners)
 }
 
-/// Writes the end port of `given` at each number of its range, which must be within `owners`.
+/// Writes the end port of `given` at each number of its range. The range must be within `owners`.
 fn own(owners: &mut Vec<Option<EndPort>>, lmc: Lmc, given: &(EndPort, Lid))
     requires { given.now.1 + width_of lmc given.now.0 ≤ vec_len owners.old }
     ensures owned { AreOwnersMore given.now.0 (range_at lmc given.now.0 given.now.1)
@@ -144,7 +147,7 @@ fn own(owners: &mut Vec<Option<EndPort>>, lmc: Lmc, given: &(EndPort, Lid))
     }
 }
 
-/// Returns, for each number below `end`, whether the number is an end port's LID. All ranges must be below `end`.
+/// Returns, for each number below `end`, whether it is the LID of an end port. All ranges must be below `end`.
 fn lid_marks(
     alloc: Global,
     lmc: Lmc,
@@ -162,7 +165,7 @@ fn lid_marks(
     Ok(marks)
 }
 
-/// Returns the marked numbers, rising. `marks` must have at most 2^16 entries.
+/// Returns the marked numbers, in ascending order. `marks` must have at most 2^16 entries.
 fn rising(alloc: Global, marks: &[bool]) -> Result<Vec<Lid>, AllocError>
     requires { length marks.now ≤ 2 ^ 16 }
     ensures { IfOk result (λ lids. lids.items ≡ marked_from marks.now 0) }
@@ -187,7 +190,7 @@ fn end(top: &Option<Lid>) -> usize
 }
 
 /// Returns the LID of each end port, by node and port. Writes the entry of the first end port last, so that the first
-/// LID wins.
+/// LID of an end port counts.
 fn by_port(
     alloc: Global,
     given: &[(EndPort, Lid)],
@@ -201,8 +204,8 @@ fn by_port(
     Ok(lids)
 }
 
-/// Returns the greatest number that an end port has, or `None` if there are no end ports. All ranges must be below
-/// 49152.
+/// Returns the greatest number in the range of an end port, or `None` if there are no end ports. All ranges must be
+/// below 49152.
 fn top(lmc: Lmc, given: &[(EndPort, Lid)]) -> Option<Lid>
     requires { AreBelow 0xC000 lmc given.now }
     ensures { result ≡ top_among lmc given.now }
@@ -214,7 +217,7 @@ fn top(lmc: Lmc, given: &[(EndPort, Lid)]) -> Option<Lid>
     top
 }
 
-/// Returns the last number of the range of `port` from `lid` on, which must be below 49152.
+/// Returns the last number of the range of `port` that begins at `lid`. This number must be below 49152.
 fn last(lmc: Lmc, port: EndPort, lid: Lid) -> Lid
     requires { lid + width_of lmc port ≤ 0xC000 }
     ensures { result ≡ last_of lmc (port, lid) }

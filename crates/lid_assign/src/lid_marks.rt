@@ -6,7 +6,7 @@ ghost use Rattle.lid_assign.specs.Marks.{any_marked, from_on, AreMarkedMore};
 use attr_codec::Lmc;
 use subnet_view::EndPort;
 
-/// Returns the LMC of `port`: 0 for port 0, which is a switch's, otherwise `lmc`.
+/// Returns the LMC of `port`: 0 if `port` is port 0 of a switch, and otherwise `lmc`.
 pub(crate) fn lmc_at(lmc: Lmc, port: EndPort) -> Lmc
     ensures { result ≡ lmc_at lmc port }
 {
@@ -17,7 +17,7 @@ pub(crate) fn lmc_at(lmc: Lmc, port: EndPort) -> Lmc
     }
 }
 
-/// Returns the number of LIDs of `port`, from 1 to 128.
+/// Returns the number of LIDs of `port` if the subnet has the LMC `lmc`: from 1 to 128.
 pub(crate) fn width(lmc: Lmc, port: EndPort) -> usize
     ensures value { result ≡ width_of lmc port }
     ensures some { 1 ≤ result }
@@ -26,8 +26,8 @@ pub(crate) fn width(lmc: Lmc, port: EndPort) -> usize
     usize::from(lmc_at(lmc, port).width())
 }
 
-/// Returns whether the range of `width` numbers from `first` on begins at a multiple of its width, not at 0, and ends
-/// below `room`.
+/// Returns whether the range of `width` numbers from `first` on fits: it begins at a multiple of its width other than
+/// 0, and ends below `room`. `first` must be less than 2^16, and `width` must be from 1 to 128.
 pub(crate) fn fits(room: usize, first: usize, width: usize) -> bool
     requires first { first < 2 ^ 16 }
     requires some { 1 ≤ width }
@@ -50,7 +50,7 @@ pub(crate) fn any_marked(marks: &[bool], first: usize, width: usize) -> bool
     false
 }
 
-/// Marks the `width` numbers from `first` on, which must be within `marks`. All other marks stay.
+/// Marks the `width` numbers from `first` on. All these numbers must be within `marks`. All other marks stay.
 pub(crate) fn mark(marks: &mut [bool], first: usize, width: usize)
     requires { first + width ≤ length marks.old }
     ensures { AreMarkedMore (Some (from_on width first)) marks.old marks.new }

@@ -13,10 +13,10 @@ use fact_store::{Sighting, Store};
 use smp_bytes::Lid;
 use subnet_view::{count_end_ports, usable_guid};
 
-/// Returns the room and the number of end ports if an end port of the view finds no LID, otherwise `None`. Takes at
-/// most four walks over the cells if the end ports are at least as many as the room. The same holds if their number
-/// plus 1, times 2^`lmc`, is at most the room. Under LMC 0 one of the two is always so. Otherwise the number of walks
-/// is linear in the number of end ports. Does not allocate.
+/// Returns the room and the number of end ports if some end port of the view finds no LID. Otherwise returns `None`.
+/// Walks the cells at most four times in two cases. In the first, the number of end ports is at least the room. In the
+/// second, one more than this number, times 2^`lmc`, is at most the room. Under LMC 0 one of the two cases always
+/// applies. Otherwise the number of walks is linear in the number of end ports. Does not allocate.
 pub fn no_room(store: &Store, lmc: Lmc) -> Option<NoRoom>
     ensures { result ≡ no_room lmc (cells_of store.now) }
 {
@@ -27,7 +27,7 @@ pub fn no_room(store: &Store, lmc: Lmc) -> Option<NoRoom>
     }
 }
 
-/// Returns whether an end port of the view finds no LID.
+/// Returns whether some end port of the view finds no LID.
 fn lacks_room(store: &Store, lmc: Lmc) -> bool
     ensures { result ≡ is_no_room lmc (cells_of store.now) }
 {
@@ -53,8 +53,8 @@ pub(crate) fn room_and_end_ports(store: &Store) -> NoRoom
     }
 }
 
-/// Returns the least table room of a usable switch, but at most the first number past the unicast LIDs. Walks the
-/// cells, with at most two binary searches for each switch.
+/// Returns the room: the least table size of a usable switch, but at most 49152, the first number past the unicast
+/// LIDs. Walks the cells, with at most two binary searches for each switch.
 pub(crate) fn room(store: &Store) -> u16
     ensures { result ≡ room (cells_of store.now) }
 {
@@ -67,8 +67,8 @@ pub(crate) fn room(store: &Store) -> u16
     least
 }
 
-/// Returns the table room of the node whose type `sighting` reports, if this node is a usable switch, otherwise `None`.
-/// `sighting` must be a cell of `store`.
+/// Returns the table size of the node whose type `sighting` reports, if this node is a usable switch. Otherwise returns
+/// `None`. `sighting` must be a cell of `store`.
 fn usable_cap(store: &Store, sighting: &Sighting) -> Option<u16>
     requires { cell_for store.now sighting.now.0 ≡ Some sighting.now.1 }
     ensures { result ≡ usable_cap (cells_of store.now) sighting.now }

@@ -1,4 +1,4 @@
-//! Finds out without allocating whether LIDs run out, by searching all cells for each next end port.
+//! Finds out, without allocating, whether LIDs run out: searches all cells for each next end port.
 ghost use Rattle.std.specs.Prelude.{◌≡◌, ◌≤◌, false, replicate};
 ghost use Rattle.std.specs.List.{filter_map};
 ghost use Rattle.fact_store.specs.View.{cells_of};
@@ -18,7 +18,7 @@ use subnet_view::next_end_port;
 /// The number of LIDs up to the last unicast LID, including 0.
 const NUMBERS: usize = Lid::UNICAST_END as usize;
 
-/// Returns whether an end port finds no LID. The number of walks over the cells is linear in the number of end ports.
+/// Returns whether some end port finds no LID. The number of walks over the cells is linear in the number of end ports.
 /// Does not allocate.
 pub(crate) fn runs_out(store: &Store, lmc: Lmc) -> bool
     ensures { result ≡ is_no_room lmc (cells_of store.now) }
@@ -26,7 +26,8 @@ pub(crate) fn runs_out(store: &Store, lmc: Lmc) -> bool
     runs_out_below::<NUMBERS>(store, lmc, usize::from(room(store)))
 }
 
-/// Returns whether an end port finds no LID. `most` must be the room, and at most `N`, which must be at most 49152.
+/// Returns whether some end port finds no LID. `most` must be the room, and must be at most `N`. `N` must be at most
+/// 49152.
 fn runs_out_below<const N: usize>(store: &Store, lmc: Lmc, most: usize) -> bool
     requires room { most ≡ room (cells_of store.now) }
     requires within { most ≤ N }
@@ -38,7 +39,7 @@ fn runs_out_below<const N: usize>(store: &Store, lmc: Lmc, most: usize) -> bool
     runs_out_after(store, lmc, &mut [false; N][..most], &mut taken[..most])
 }
 
-/// Marks the ranges of kept claims in `taken`. `claimed` and `taken` must be as long as the room, and without marks.
+/// Marks the ranges of kept claims in `taken`. `claimed` and `taken` must be as long as the room, and have no marks.
 fn keep_in_turn(store: &Store, lmc: Lmc, claimed: &mut [bool], taken: &mut [bool])
     requires claimed { claimed.old ≡ replicate (room (cells_of store.now)) false }
     requires taken { taken.old ≡ replicate (room (cells_of store.now)) false }
@@ -52,8 +53,8 @@ fn keep_in_turn(store: &Store, lmc: Lmc, claimed: &mut [bool], taken: &mut [bool
     }
 }
 
-/// Returns whether an end port that keeps no claim finds no LID. In `taken` the ranges of kept claims, and no others,
-/// must be marked. In `claimed`, which must be as long as the room, no number may be marked.
+/// Returns whether some end port that keeps no claim finds no LID. In `taken` the ranges of kept claims must be marked,
+/// and no others. `claimed` must be as long as the room, and have no marks.
 fn runs_out_after(store: &Store, lmc: Lmc, claimed: &mut [bool], taken: &mut [bool]) -> bool
     requires claimed { claimed.old ≡ replicate (room (cells_of store.now)) false }
     requires taken { AreTaken (room (cells_of store.now))

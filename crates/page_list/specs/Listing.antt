@@ -1,7 +1,7 @@
 -- What a caller sees of a list in pages.
 use Rattle.std.specs.Prelude.{ℕ, List}
 
--- the items of a list in pages, in order, and for how many more items there is memory
+-- a list in pages, as a caller sees it: its items, in order, and the number of further items for which there is memory
 pub record Listing (T : Type 0) : Type 0 where
   pub items : List T
   pub room : ℕ

@@ -1,8 +1,8 @@
 -- An index that splits a part of a list in two.
 use Rattle.std.specs.Prelude.{ℕ, ◌+◌, ◌<◌, ◌≤◌}
 
--- `index` is at least `low` and below `high`. Of the part of a list from `low` to `high`, at most `most` items come
--- before `index`, and at most `most` after it
+-- `index` is at least `low` and below `high`. In the part of a list from `low` up to, but not including, `high`, at
+-- most `most` items come before `index`, and at most `most` after it
 pub record IsSplit (low high most index : ℕ) : Type 0 where
   pub from : low ≤ index
   pub until : index < high

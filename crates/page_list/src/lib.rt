@@ -1,4 +1,4 @@
-//! A list in pages: an insertion moves at most the items of one page, and the directory of pages.
+//! A list in pages. An insertion moves at most the items of one page and the list of pages.
 #![tactic(auto)]
 
 mod iter;

@@ -21,9 +21,9 @@ pub(crate) fn insert_within<T>(page: &mut Vec<T>, index: usize, item: T)
     }
 }
 
-/// Moves the second half of the full page `page` to the empty page `tail`, and inserts `item` at `index` of the two
-/// together. Returns the number of items in `page` then. `index` must be at most `PAGE`. Each of the two pages must
-/// have room for `PAGE` items.
+/// Moves the second half of the full page `page` to the empty page `tail`, and inserts `item` at `index`, counted over
+/// both pages. Returns the number of items that `page` has then. `index` must be at most `PAGE`. Each of the two pages
+/// must have room for `PAGE` items.
 pub(crate) fn insert_halved<T: Copy>(
     page: &mut Vec<T>,
     tail: &mut Vec<T>,

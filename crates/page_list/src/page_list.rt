@@ -10,7 +10,8 @@ use crate::starts::Starts;
 use std::alloc::{AllocError, Global};
 use std::marker::Model;
 
-/// A list in pages of at most 256 items each. Contracts see the items, and for how many further items there is room.
+/// A list in pages of at most 256 items each. Contracts see the items, and the number of further items for which there
+/// is room.
 #[derive(Drop)]
 pub struct PageList<T> {
     /// The pages that have the items, in order.
@@ -38,7 +39,7 @@ impl<T> Model for PageList<T> {
 }
 
 impl<T: Copy> PageList<T> {
-    /// Creates an empty list, which allocates from `alloc` later.
+    /// Creates an empty list. The list later allocates from `alloc`.
     pub fn new(alloc: Global) -> Self
         ensures { result ≡ record { items = []; room = 0 } }
     {
@@ -64,7 +65,7 @@ impl<T: Copy> PageList<T> {
     }
 
     /// Returns the item at index `i`, or `None` if `i` is not an index of the list. Takes constant time if the first or
-    /// the last page contains the item, otherwise a binary search among the pages.
+    /// the last page contains the item. Otherwise does a binary search among the pages.
     pub fn get(&self, i: usize) -> Option<T>
         ensures { result ≡ slice_get self.now.items i }
     {
@@ -72,7 +73,7 @@ impl<T: Copy> PageList<T> {
     }
 
     /// Returns the item at index `i`, or `None` if `i` is not an index of the list. Takes constant time if the page of
-    /// `near` or the last page contains the item, otherwise a binary search among the pages.
+    /// `near` or the last page contains the item. Otherwise does a binary search among the pages.
     pub fn get_near(&self, i: usize, near: Slot) -> Option<&T>
         ensures { option_copied result ≡ slice_get self.now.items i }
     {
@@ -83,7 +84,7 @@ impl<T: Copy> PageList<T> {
         Some(&self.pages[at.page][at.offset])
     }
 
-    /// Returns the index that `slot` stands for, or `None` if the list has no such page or no such index. Takes
+    /// Returns the index that `slot` stands for, or `None` if the list does not have this page or this index. Takes
     /// constant time.
     pub fn index_at(&self, slot: Slot) -> Option<usize>
         ensures { IfSome result (λ i. i < length self.now.items) }
@@ -106,8 +107,9 @@ impl<T: Copy> PageList<T> {
         }
     }
 
-    /// Replaces the item at index `i`, which must exist, with `item`, and returns the slot of `item`. Takes constant
-    /// time if the page of `near` or the last page contains the item, otherwise a binary search among the pages.
+    /// Replaces the item at index `i` with `item`, and returns the slot of `item`. The list must have an item at index
+    /// `i`. Takes constant time if the page of `near` or the last page contains this index. Otherwise does a binary
+    /// search among the pages.
     pub fn set_near(&mut self, i: usize, item: T, near: Slot) -> Slot
         requires { i < length self.old.items }
         ensures items { self.new.items ≡ slice_set self.old.items i item }
@@ -118,8 +120,8 @@ impl<T: Copy> PageList<T> {
         at
     }
 
-    /// Inserts `item` at index `i`, before the item that is there, or at the end. `i` must be at most the length of the
-    /// list, and the list must have room for one more item.
+    /// Inserts `item` at index `i`, before the item that was at `i`, or at the end. `i` must be at most the length of
+    /// the list, and the list must have room for one more item.
     pub fn insert(&mut self, i: usize, item: T)
         requires index { i ≤ length self.old.items }
         requires room { 0 < self.old.room }
@@ -129,11 +131,11 @@ impl<T: Copy> PageList<T> {
         self.insert_near(i, item, Slot::first());
     }
 
-    /// Inserts `item` at index `i`, before the item that is there, or at the end, and returns the slot of `item`. `i`
+    /// Inserts `item` at index `i`, before the item that was at `i`, or at the end, and returns the slot of `item`. `i`
     /// must be at most the length of the list, and the list must have room for one more item. Looks for the page of
-    /// index `i` first in the page of `near`. Moves the later items of that page. Increments the start indices of at
-    /// most 64 pages, and one number for each later group of 64. If that page is full, halves it, which takes time
-    /// linear in the number of pages.
+    /// index `i` first in the page of `near`. Moves the later items of the page that has index `i`. Increments the
+    /// start indices of at most 64 pages, and one number for each later group of 64. If the page is full, halves it,
+    /// which takes time linear in the number of pages.
     pub fn insert_near(&mut self, i: usize, item: T, near: Slot) -> Slot
         requires index { i ≤ length self.old.items }
         requires room { 0 < self.old.room }
@@ -160,7 +162,8 @@ impl<T: Copy> PageList<T> {
     }
 
     /// Reserves memory for `n` further items, each of which may need a page of its own. Returns an error if memory runs
-    /// out, or if the length of the list plus `n` is over `usize::MAX`. The room then stays as it was.
+    /// out, or if the length of the list plus `n` is over `usize::MAX`. After an error, the list has no less room than
+    /// before.
     pub fn reserve(&mut self, n: usize) -> Result<(), AllocError>
         ensures ok { OnOk result (n ≤ self.new.room) }
         ensures room { self.old.room ≤ self.new.room }
@@ -197,7 +200,8 @@ impl<T: Copy> PageList<T> {
     }
 
     /// Appends `item`. Opens a new page if the list has no page, or if the last page is at least three quarters full.
-    /// Returns an error if memory runs out, or if the list has `usize::MAX` items. The items then stay as they are.
+    /// Returns an error if memory runs out, or if the list has `usize::MAX` items. After an error, the items are
+    /// unchanged.
     pub fn push(&mut self, item: T) -> Result<(), AllocError>
         ensures ok { OnOk result (self.new.items ≡ self.old.items ++ item ∷ []) }
         ensures err { OnErr result (self.new.items ≡ self.old.items) }
@@ -216,7 +220,7 @@ impl<T: Copy> PageList<T> {
         Ok(())
     }
 
-    /// Appends a new page with `item` alone. The list must have room for one more item.
+    /// Appends a new page whose only item is `item`. The list must have room for one more item.
     fn open(&mut self, item: T)
         requires room { 0 < self.old.room }
         ensures items { self.new.items ≡ self.old.items ++ item ∷ [] }
@@ -231,8 +235,9 @@ impl<T: Copy> PageList<T> {
     }
 }
 
-/// Returns the slot of an item that was inserted at `at` into a full page, after the page was halved: `at` itself, or
-/// the slot in the next page if the offset is over 128.
+/// Returns the slot of an item that was inserted into a full page, after the page was halved. `at` is the slot of the
+/// item before the page was halved. The result is `at` itself if the offset of `at` is at most 128, and otherwise the
+/// slot in the next page.
 fn slot_in_halves(at: Slot) -> Slot
     ensures first { at.offset ≤ 128 → result ≡ at }
     ensures page { 128 < at.offset → at.page + 1 < 2 ^ 64 → result.page ≡ at.page + 1 }

@@ -4,8 +4,8 @@ ghost use Rattle.page_list.specs.Split.{IsSplit};
 use crate::page_list::PageList;
 use crate::slot::{Slot, slot_near};
 
-/// The pages that contain a part of a list. A search looks in these pages first. They are only a hint: a split is fair
-/// whatever they are.
+/// The pages that contain a part of a list. A search looks in these pages first. The pages are only a hint: whichever
+/// they are, a split leaves at most the required number of items on either side.
 #[derive(Clone, Copy)]
 pub struct Pages {
     first: usize,
@@ -40,10 +40,10 @@ impl<T: Copy> PageList<T> {
         }
     }
 
-    /// Returns an item at an index from `low` up to, but not including, `high`, with at most `most` items of this part
-    /// on either side. The part must end within the list, and have at least one item and at most 2 * `most` + 1.
-    /// Prefers the first item of the page in the middle of `pages`, so that searches read the same few items; otherwise
-    /// takes the item in the middle. Takes at most a binary search among the pages.
+    /// Returns an item at an index from `low` up to, but not including, `high`. On either side of the item, at most
+    /// `most` items of this part are left. The part must end within the list, and must have from 1 to 2 * `most` + 1
+    /// items. Prefers the first item of the page in the middle of `pages`, so that searches read the same few items.
+    /// Otherwise takes the item in the middle of the part. Does at most a binary search among the pages.
     pub fn split(&self, low: usize, high: usize, most: usize, pages: Pages) -> Split<T>
         requires part { low < high }
         requires within { high ≤ length self.now.items }
@@ -72,9 +72,9 @@ impl<T: Copy> PageList<T> {
     }
 }
 
-/// Returns `wished` if it is from `low` up to, but not including, `high`, with at most `most` indices of this part on
-/// either side. Otherwise returns the index in the middle. The part must have at least one index, and at most 2 *
-/// `most` + 1.
+/// Returns `wished` if it is from `low` up to, but not including, `high`, and at most `most` indices of this part are
+/// on either side of it. Otherwise returns the index in the middle of the part. The part must have from 1 to 2 * `most`
+/// + 1 indices.
 fn fair_index(low: usize, high: usize, most: usize, wished: usize) -> usize
     requires part { low < high }
     requires halves { high ≤ low + 2 * most + 1 }

@@ -37,7 +37,7 @@ impl Model for Starts {
 }
 
 impl Starts {
-    /// Creates an empty list without room.
+    /// Creates an empty list with no reserved memory.
     pub(crate) fn new(alloc: Global) -> Self
         ensures { result ≡ record { items = []; room = 0 } }
     {
@@ -54,7 +54,7 @@ impl Starts {
         self.starts.len()
     }
 
-    /// Returns the index of the first item of `page`, which must exist.
+    /// Returns the index of the first item of `page`. There must be a page with this number.
     pub(crate) fn at(&self, page: usize) -> usize
         requires { page < length self.now.items }
         ensures { result ≡ slice_index self.now.items page }
@@ -85,8 +85,8 @@ impl Starts {
         count_up(&mut self.added, group + 1, groups);
     }
 
-    /// Inserts `start` at `page`, which must be at most the number of pages. The list must have room for one more
-    /// index. Takes time linear in the number of pages.
+    /// Inserts `start` as the index of page `page`. `page` must be at most the number of pages. The list must have room
+    /// for one more index. Takes time linear in the number of pages.
     pub(crate) fn insert(&mut self, page: usize, start: usize)
         requires page { page ≤ length self.old.items }
         requires room { 0 < self.old.room }
@@ -97,8 +97,8 @@ impl Starts {
         insert_within(&mut self.starts, page, start);
     }
 
-    /// Appends `start`. The list must have room for one more index. Takes constant time if the number for the group of
-    /// the new index is 0, and otherwise time linear in the number of pages.
+    /// Appends `start`. The list must have room for one more index. Takes constant time if nothing is to be added to
+    /// the indices of the new index's group. Otherwise takes time linear in the number of pages.
     pub(crate) fn push(&mut self, start: usize)
         requires room { 0 < self.old.room }
         ensures items { self.new.items ≡ self.old.items ++ start ∷ [] }
@@ -177,7 +177,7 @@ fn settle(numbers: &mut Vec<usize>, added: &mut Vec<usize>)
     }
 }
 
-/// Returns whether any number is not 0.
+/// Returns whether any of `numbers` is not 0.
 fn has_any(numbers: &[usize]) -> bool
     ensures { (result ≡ false → (i : ℕ) → slice_index numbers.now i ≡ 0)
         × (result ≡ true → (i : ℕ) × (0 < slice_index numbers.now i)) }
@@ -190,8 +190,8 @@ fn has_any(numbers: &[usize]) -> bool
     false
 }
 
-/// Adds to each index in `numbers` the number of its group in `added`. `added` must have a number for each group, and
-/// all sums must fit in 64 bits.
+/// Adds to the start of each page in `numbers` the number of its group in `added`. `added` must have a number for each
+/// group, and all sums must fit in 64 bits.
 fn add_all(numbers: &mut [usize], added: &[usize])
     requires grouped { length numbers.old ≤ 64 * length added.now }
     requires fits { All (λ n. n < 2 ^ 64) (raised added.now 0 numbers.old) }

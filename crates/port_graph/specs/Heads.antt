@@ -3,7 +3,7 @@ use Rattle.std.specs.Prelude.{◌≡◌, ◌<◌, ℕ, List, [], map, length, Co
 use Rattle.port_graph.specs.declared.edge.Edge.{Edge}
 use Rattle.port_graph.specs.Walks.{shortest, IsShortest, HasNoWalk}
 
--- the edges of vertex `a`; none if `a` is no vertex
+-- the edges of vertex `a`; none if `a` is not a vertex
 abbrev pub edges_at : List (List Edge) → ℕ → List Edge
 edges_at edges a = slice_index_or edges a []
 
@@ -15,15 +15,15 @@ heads edges a = map (λ e. e.to) (edges_at edges a)
 abbrev pub LeadToVertices : List (List Edge) → Type 0
 LeadToVertices edges = (a : ℕ) (e : Edge) → Contains (edges_at edges a) e → e.to < length edges
 
--- `distances` has for each vertex the length of a shortest walk to it from vertex `from`; None if no walk of fewer
--- edges than the graph has vertices leads there
+-- `distances` has, for each vertex, the length of a shortest walk to it from vertex `from`. None if no walk leads there
+-- that has fewer edges than the graph has vertices
 pub record AreDistances (edges : List (List Edge)) (from : ℕ) (distances : List (Option ℕ)) : Type 0 where
   pub all : length distances ≡ length edges
   pub shortest : (a : ℕ) → a < length edges → slice_index_or distances a None
       ≡ shortest (heads edges) (length edges) from a
 
--- each number of `distances` is the length of a shortest walk from `from`; if it is None, no walk leads to that vertex.
--- All edges must lead to vertices, and `from` must be a vertex
+-- if all edges lead to vertices and `from` is a vertex, each number of `distances` (`AreDistances`) is the length of a
+-- shortest walk from `from`. If it is None, no walk leads to that vertex
 abbrev pub DistancesLaw : Type 0
 DistancesLaw = (edges : List (List Edge)) (from : ℕ) (distances : List (Option ℕ)) → LeadToVertices edges → from
     < length edges → AreDistances edges from distances

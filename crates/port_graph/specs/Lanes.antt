@@ -1,4 +1,4 @@
--- Costs and next ports towards 16 targets at once, in 16 lanes, one for each target.
+-- Costs and next ports towards 16 targets at once. Each target has one of 16 lanes.
 use Rattle.std.specs.Prelude.{◌≡◌, ◌<◌, ◌+◌, ◌-◌, ℕ, suc, true, Bool, List, [], ◌∷◌, length, min, Option, None, Some, ◌&&◌, option_map, nat_lt, slice_index, slice_index_or, if◌then◌else◌}
 use Rattle.port_graph.specs.declared.edge.Edge.{Edge}
 use Rattle.port_graph.specs.Slopes.{cost, next_port}
@@ -8,7 +8,7 @@ use Rattle.port_graph.specs.NextPorts.{indexed}
 abbrev pub EachLane : (ℕ → Type 0) → Type 0
 EachLane P = (k : ℕ) → k < 16 → P k
 
--- `P` holds for one of the 16 lanes
+-- `P` is true of at least one of the 16 lanes
 abbrev pub AnyLane : (ℕ → Type 0) → Type 0
 AnyLane P = (k : ℕ) × (k < 16) × P k
 
@@ -16,7 +16,7 @@ AnyLane P = (k : ℕ) × (k < 16) × P k
 abbrev pub at : List (List ℕ) → ℕ → ℕ → ℕ
 at rows a k = slice_index (slice_index_or rows a []) k
 
--- the number that the value `x` of a lane stands for: `x` itself if it is below 255, else None
+-- the number that the value `x` of a lane stands for: `x` itself if it is below 255, otherwise None
 abbrev pub number_in : ℕ → Option ℕ
 number_in x = if nat_lt x 255 then Some x else None
 
@@ -24,44 +24,46 @@ number_in x = if nat_lt x 255 then Some x else None
 abbrev pub port_in : ℕ → ℕ → Option ℕ
 port_in x port = if nat_lt 0 x && nat_lt x 255 then Some port else None
 
--- the value `more` of a lane stands for one more than the number of the value `x`, or for no number if `x` stands for
--- none
+-- the value `more` of a lane stands for one more than the number that the value `x` stands for; if `x` stands for no
+-- number, so does `more`
 abbrev pub IsOneMore : ℕ → ℕ → Type 0
 IsOneMore x more = number_in more ≡ option_map suc (number_in x)
 
--- the lesser number with its port: `x` with `port` if `x` is less than the number of `found`, else `found`
+-- the lesser of two numbers, with its port: `x` with `port` if `x` is less than the number of `found`; otherwise
+-- `found`
 abbrev pub nearer : ℕ × ℕ → ℕ → ℕ → ℕ × ℕ
 nearer found x port = if nat_lt x found.0 then (x, port) else found
 
--- the least number with its port, of `found` and of the vertices that the edges lead to, whose numbers `x` gives; of
--- equal numbers the first
+-- the least number with its port, among `found` and the vertices that the edges lead to. `x` gives the number of each
+-- vertex. If numbers are equal, the first counts
 abbrev pub nearest_from : (ℕ → ℕ) → ℕ × ℕ → List Edge → ℕ × ℕ
 nearest_from x found [] = found
 nearest_from x found (e ∷ edges) = nearest_from x (nearer found (x e.to) e.port) edges
 
 -- the least number that `x` gives for a vertex that the edges lead to, with the port of the first edge to such a
--- vertex; 255 with port 0 if no number is below 255
+-- vertex. 255 and port 0 if no number is below 255
 abbrev pub nearest_by : (ℕ → ℕ) → List Edge → ℕ × ℕ
 nearest_by x edges = nearest_from x (255, 0) edges
 
--- `x` is a vertex's down distance: 0 at the target, else one more than the number of `nearest`, the nearest vertex that
--- an edge down leads to; no number if `nearest` has none. `its_port` is the port of `nearest`
+-- `x` is a vertex's down distance. It is 0 at the target, and otherwise one more than the number of `nearest`, the
+-- nearest vertex that an edge down leads to. `x` stands for no number if `nearest` has none. `its_port` is the port of
+-- `nearest`
 pub record IsStepDown (is_target : Bool) (nearest : ℕ × ℕ) (x its_port : ℕ) : Type 0 where
   pub number : number_in x ≡ (if is_target then Some 0 else option_map suc (number_in nearest.0))
   pub port : its_port ≡ nearest.1
 
--- `x` and `its_port` are a vertex's cost and port: its down distance `y` and `port_down`, if `y` is below 255. Else `x`
--- is one more than the number of `nearest`, the vertex of least cost that an edge up leads to, and `its_port` is the
--- port of `nearest`. `x` is no number if `nearest` has none either
+-- `x` and `its_port` are a vertex's cost and port. They are its down distance `y` and `port_down` if `y` is below 255.
+-- Otherwise `x` is one more than the number of `nearest`, the vertex of least cost that an edge up leads to, and
+-- `its_port` is the port of `nearest`. `x` stands for no number if `nearest` has none either
 pub record IsStepUp (y port_down : ℕ) (nearest : ℕ × ℕ) (x its_port : ℕ) : Type 0 where
   pub number : number_in x ≡ (if nat_lt y 255 then number_in y else option_map suc (number_in nearest.0))
   pub port : its_port ≡ (if nat_lt y 255 then port_down else nearest.1)
 
--- the target of lane `k`: the vertex at index `first` plus `k`, or the last vertex if there are fewer
+-- the target of lane `k`: the vertex at index `first` plus `k` of `vertices`, or their last vertex if there are fewer
 abbrev pub target_in : List ℕ → ℕ → ℕ → ℕ
 target_in vertices first k = slice_index vertices (first + min k (length vertices - 1 - first))
 
--- lane `k` of `numbers` and `ports` has the cost of each vertex to vertex `t`, and its next port towards `t`
+-- lane `k` of `numbers` and `ports` has, for each vertex, its cost to vertex `t` and its next port towards `t`
 pub record AreRouted (ups downs : List (List Edge)) (t k : ℕ) (numbers ports : List (List ℕ)) : Type 0 where
   pub cost : (a : ℕ) → a < length ups → number_in (at numbers a k) ≡ cost (indexed ups downs) a t
   pub next : (a : ℕ) → a < length ups → port_in (at numbers a k) (at ports a k) ≡ next_port (indexed ups downs) a t

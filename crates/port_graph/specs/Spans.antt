@@ -1,4 +1,4 @@
--- Lists of edges that are kept end to end in one list, each by its span.
+-- Edges of vertices that are kept end to end in one list. A span gives the part of each vertex.
 use Rattle.std.specs.Prelude.{◌≤◌, List, map, length, All, slice_range}
 use Rattle.port_graph.specs.declared.edge.Edge.{Edge}
 use Rattle.port_graph.specs.declared.adjacency.Span.{Span}

@@ -61,7 +61,8 @@ impl Adjacency {
         Ok(())
     }
 
-    /// Returns the edges of `vertex` in their order, or no edges if `vertex` is no vertex. Takes constant time.
+    /// Returns the edges of `vertex` in their order, or no edges if `vertex` is not a vertex of the graph. Takes
+    /// constant time.
     pub fn at(&self, vertex: usize) -> &[Edge]
         ensures { result.now ≡ slice_index_or self.now vertex [] }
     {

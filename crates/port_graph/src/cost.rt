@@ -9,9 +9,10 @@ use crate::edge::Edge;
 use std::alloc::{AllocError, Global};
 
 /// Returns the cost of each vertex. The cost of a vertex with a distance is its distance. The cost of any other vertex
-/// is one more than the least cost of the vertices up from it. If no vertex up from it has a cost, its cost is `None`.
-/// Each edge of `ups` must lead to a lesser vertex. `distances` must have one entry for each vertex, `None` or less
-/// than the number of vertices. Takes time linear in the number of vertices and edges.
+/// is one more than the least cost of the vertices that its edges up lead to, or `None` if none of these has a cost.
+/// Each edge of `ups` must lead to a lesser vertex. `distances` must have one entry for each vertex. Each entry must be
+/// `None` or less than the number of vertices. Takes time linear in the number of vertices and edges. Returns an error
+/// if memory runs out.
 pub(crate) fn costs(
     alloc: Global,
     ups: &Adjacency,
@@ -31,7 +32,7 @@ pub(crate) fn costs(
 }
 
 /// Returns the cost of a vertex with the distance `distance` and the edges up `ups`. `costs` must have an entry for
-/// each vertex that `ups` lead to, `None` or less than `usize::MAX`.
+/// each vertex that `ups` lead to. Each entry must be `None` or less than `usize::MAX`.
 fn cost(distance: Option<usize>, ups: &[Edge], costs: &[Option<usize>]) -> Option<usize>
     requires known { All (λ edge. edge.to < length costs.now) ups.now }
     requires room { AreLess usize.MAX costs.now }
@@ -57,8 +58,8 @@ fn least_cost(edges: &[Edge], costs: &[Option<usize>]) -> Option<usize>
     least
 }
 
-/// Returns the lesser of `one` and `other`. If only one of the two is a number, returns that number; if neither is,
-/// `None`.
+/// Returns the lesser of `one` and `other`. If only one of the two is a number, returns that number. If neither is,
+/// returns `None`.
 fn lesser(one: Option<usize>, other: Option<usize>) -> Option<usize>
     ensures { result ≡ lesser_of one other }
 {

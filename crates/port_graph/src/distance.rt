@@ -29,8 +29,8 @@ pub fn distances(
     Ok(distances)
 }
 
-/// Gives the distance `distance` to each vertex that `edges` lead to and that has no distance yet, and appends the
-/// vertex to `queue`. `distances` must have an entry for each of these vertices.
+/// Gives the distance `distance` to each vertex that `edges` lead to and that has no distance yet, and appends each
+/// such vertex with its distance to `queue`. `distances` must have an entry for each of these vertices.
 fn reach_all(
     edges: &[Edge],
     distance: usize,

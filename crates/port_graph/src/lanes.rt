@@ -4,7 +4,7 @@ ghost use Rattle.port_graph.specs.Lanes.{AnyLane, EachLane, IsOneMore, at, neare
 use crate::edge::Edge;
 use smp_bytes::PortNum;
 
-/// The number of targets to which routes are computed at a time.
+/// The number of targets to which routes are computed at a time. Each of these targets has a lane.
 pub(crate) const LANES: usize = 16;
 
 /// The value of a lane that has no number.
@@ -17,9 +17,9 @@ pub(crate) struct Hops {
     pub(crate) ports: [u8; LANES],
 }
 
-/// Returns for each lane the least number of the vertices that `edges` lead to. The port is that of the first edge to a
-/// vertex with this number. A lane gets `NONE` and port 0 if none of these vertices has a number in the lane. `numbers`
-/// must have an entry for each of these vertices.
+/// Returns for each lane the least number that any vertex that `edges` lead to has in the lane. The port is that of the
+/// first edge to a vertex with this number. A lane gets `NONE` and port 0 if none of these vertices has a number in the
+/// lane. `numbers` must have an entry for each of these vertices.
 pub(crate) fn nearest(edges: &[Edge], numbers: &[[u8; LANES]]) -> Hops
     requires { All (λ edge. edge.to < length numbers.now) edges.now }
     ensures { EachLane (λ k. (slice_index result.numbers k, slice_index result.ports k)
@@ -35,8 +35,8 @@ pub(crate) fn nearest(edges: &[Edge], numbers: &[[u8; LANES]]) -> Hops
     nearest
 }
 
-/// Replaces the number of `found` by the number of `numbers`, and its port by `port`, in each lane where the number of
-/// `numbers` is less.
+/// In each lane in which `numbers` has a lesser number than `found`, sets the number in `found` to that number and the
+/// port in `found` to `port`.
 fn take_nearer(found: &mut Hops, numbers: &[u8; LANES], port: u8)
     ensures { EachLane (λ k. (slice_index found.new.numbers k, slice_index found.new.ports k)
         ≡ nearer (slice_index found.old.numbers k, slice_index found.old.ports k) (slice_index numbers.now k) port) }
@@ -53,8 +53,8 @@ fn take_nearer(found: &mut Hops, numbers: &[u8; LANES], port: u8)
     }
 }
 
-/// Returns `numbers` with 1 added in each lane that has a number, or `None` if a number is 254, so that the
-/// sum is too great for a lane.
+/// Returns `numbers` with 1 added in each lane that has a number. Returns `None` if a number is 254, since one more is
+/// too great for a lane.
 pub(crate) fn one_more(numbers: &[u8; LANES]) -> Option<[u8; LANES]>
     ensures { MatchOption result (AnyLane (λ k. slice_index numbers.now k ≡ 254))
         (λ more. EachLane (λ k. IsOneMore (slice_index numbers.now k) (slice_index more k))) }
@@ -83,7 +83,7 @@ pub(crate) fn set_at_target(numbers: &mut [u8; LANES], targets: &[usize; LANES],
     }
 }
 
-/// Copies the number and the port of `others` into each lane of `hops` that has no number.
+/// Copies into each lane of `hops` that has no number the number and the port that `others` has in this lane.
 pub(crate) fn fill_in(hops: &mut Hops, others: &Hops)
     ensures numbers { EachLane (λ k. slice_index hops.new.numbers k
         ≡ cond (nat_lt (slice_index hops.old.numbers k) 255) (slice_index hops.old.numbers k)
@@ -107,7 +107,7 @@ pub(crate) fn fill_in(hops: &mut Hops, others: &Hops)
     }
 }
 
-/// Returns `port`, the port of a lane, or `None` if the lane's `number` is 0 or `NONE`.
+/// Returns `port` as the port of a lane whose number is `number`. Returns `None` if `number` is 0 or `NONE`.
 pub(crate) fn port_in(number: u8, port: u8) -> Option<PortNum>
     ensures { result ≡ port_in number port }
 {

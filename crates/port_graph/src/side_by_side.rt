@@ -13,9 +13,9 @@ use smp_bytes::PortNum;
 use std::alloc::{AllocError, Global};
 
 /// Returns the next ports between `vertices`: row `i` has the next port of each of `vertices` towards `vertices[i]`.
-/// The edges must be slopes (`AreSlopes`), and `vertices` be vertices. Goes over all vertices and edges once down and
-/// once up for every 16 targets. If the numbers that this computes do not fit in the lanes, also searches the graph for
-/// each of these targets.
+/// The edges must be slopes (`AreSlopes`), and each of `vertices` must be a vertex. Goes over all vertices and edges
+/// once down and once up for every 16 targets. If a number that this computes does not fit in a lane, also searches the
+/// graph for each of these 16 targets. Returns an error if memory runs out.
 pub fn next_ports_between(
     alloc: Global,
     ups: &Adjacency,
@@ -54,12 +54,11 @@ fn targets_from(vertices: &[usize], first: usize) -> [usize; LANES]
     targets
 }
 
-/// The target of each lane, and for each vertex its costs and its next ports towards the targets.
+/// The target of each lane, and, for each vertex, its costs and its next ports towards these targets.
 #[derive(Drop)]
 struct Block {
     targets: [usize; LANES],
-    /// Whether `numbers` and `ports` have the costs and the next ports towards `targets`. If not, `numbers` and `ports`
-    /// have no meaning.
+    /// Whether `numbers` and `ports` have the costs and the next ports towards `targets`. If not, they have no meaning.
     is_routed: bool,
     numbers: Vec<[u8; LANES]>,
     ports: Vec<[u8; LANES]>,
@@ -80,7 +79,8 @@ impl Block {
     }
 
     /// Computes the costs of all vertices and their next ports towards `targets`. Sets `is_routed` to whether all
-    /// numbers that this computes fit in the lanes.
+    /// numbers that this computes fit in the lanes. The edges must be slopes (`AreSlopes`), and the block must be for
+    /// as many vertices as the graph has. Each of `targets` must be a vertex.
     fn route(&mut self, ups: &Adjacency, downs: &Adjacency, targets: [usize; LANES])
         requires slopes { AreSlopes ups.now downs.now }
         requires numbers { length self.old.numbers.items ≡ length ups.now }
@@ -94,7 +94,9 @@ impl Block {
         self.is_routed = route_in_lanes(ups, downs, &targets, &mut self.numbers, &mut self.ports);
     }
 
-    /// Returns the next ports of `vertices` towards the target of `lane`.
+    /// Returns the next ports of `vertices` towards the target of `lane`. The block must be for this graph, `lane` must
+    /// be less than 16, its target must be a vertex, and so must each of `vertices`. Returns an error if memory runs
+    /// out.
     fn row(
         &self,
         alloc: Global,
@@ -127,7 +129,8 @@ impl Block {
 
 /// Computes, for each lane, the costs of all vertices and their next ports towards the lane's target. Computes down
 /// distances first, from the last vertex to the first, and then costs, from the first to the last. Returns `false` if a
-/// number that is computed for this is too great for a lane, which is over 254.
+/// number that is computed for this is over 254, and so too great for a lane. The edges must be slopes (`AreSlopes`),
+/// each target must be a vertex, and `numbers` and `ports` must have an entry for each vertex.
 fn route_in_lanes(
     ups: &Adjacency,
     downs: &Adjacency,
@@ -175,8 +178,9 @@ fn route_in_lanes(
     true
 }
 
-/// Returns the down distances of `vertex` and its ports down. `numbers` has the down distances of the vertices down
-/// from `vertex`. Returns `None` if the least of these is 254 in a lane, since one more is too great for a lane.
+/// Returns the down distances of `vertex` and its ports down, for each lane. `downs` are its edges down, and `numbers`
+/// must have the down distances of the vertices that these lead to. Returns `None` if the least of these is 254 in a
+/// lane, since one more is too great for a lane.
 fn down_from(
     downs: &[Edge],
     numbers: &[[u8; LANES]],
@@ -197,10 +201,10 @@ fn down_from(
     })
 }
 
-/// Returns the hops of a vertex with the edges `ups`. A lane in which `down` has a down distance keeps this distance
-/// and its port. Any other lane gets one more than the least cost of the vertices up from the vertex. Its port is that
-/// of the first edge to a vertex of that cost. `numbers` has the costs of these vertices. Returns `None` if the least
-/// of these is 254 in a lane, since one more is too great for a lane.
+/// Returns the hops of a vertex with the edges up `ups`. A lane in which `down` has a down distance keeps this distance
+/// and its port. Any other lane gets one more than the least cost of the vertices that `ups` lead to. Its port is that
+/// of the first edge to a vertex of that cost. `numbers` must have the costs of these vertices. Returns `None` if the
+/// least of these is 254 in a lane, since one more is too great for a lane.
 fn up_from(ups: &[Edge], numbers: &[[u8; LANES]], down: Hops) -> Option<Hops>
     requires { All (λ edge. edge.to < length numbers.now) ups.now }
     ensures { MatchOption result (AnyLane (λ k. (nearest_by (λ a. at numbers.now a k) ups.now).0 ≡ 254))
@@ -217,7 +221,8 @@ fn up_from(ups: &[Edge], numbers: &[[u8; LANES]], down: Hops) -> Option<Hops>
     Some(hops)
 }
 
-/// Returns the ports of `vertices` in `lane`. The port is `None` if the vertex is the target or has no route.
+/// Returns the ports of `vertices` in `lane`. The port is `None` if the vertex is the target of the lane or has no
+/// route. `lane` must be less than 16, and `numbers` and `ports` must have an entry for each of `vertices`.
 fn ports_in_lane(
     alloc: Global,
     numbers: &[[u8; LANES]],
@@ -238,7 +243,7 @@ fn ports_in_lane(
     Ok(found)
 }
 
-/// Returns the entries of `ports` for `vertices`.
+/// Returns the entries of `ports` for `vertices`. `ports` must have an entry for each of these.
 fn ports_at(
     alloc: Global,
     ports: &[Option<PortNum>],

@@ -1,4 +1,4 @@
--- What absorbing a source does to the source and to the store, and what it returns.
+-- What absorbing a source returns, and what it does to the source and to the store.
 use Rattle.std.specs.Prelude.{◌≡◌, ◌⊎◌, ℕ, true, nat_eq, ◌+◌, ◌<◌, ◌≤◌, ◌^◌, List, [], ◌∷◌, ◌++◌, Option, None, Result, Ok, Err, IfSome, length}
 use Rattle.std.specs.List.{concat, starts_with}
 use Rattle.std.specs.Io.KnownBytes.{Consumes, IsAtEnd}
@@ -11,14 +11,14 @@ use Rattle.record_file.specs.declared.format.Format.{Format}
 use Rattle.record_file.specs.Head.{IsFormat, floored_magic, format_in, head_bytes}
 use Rattle.record_file.specs.Reading.{AreGoodRecords, Judgement, facts_in, fault_in, outcome}
 
--- what absorbing one record does. The sightings of a good record are merged into the store, unless memory runs out;
--- then the store stays. For a bad record the result is the record's fault at `index`, and the store stays
+-- what absorbing one record does. The sightings of a good record are merged into the store. If memory runs out, the
+-- store stays. For a bad record, the result is the record's fault with `index`, and the store stays
 abbrev pub AbsorbsJudged : {K : Type 0} → Judgement → ℕ → Result K FileFault → Facts → Facts → Type 0
 AbsorbsJudged (Ok sightings) index (Ok key) old new = new ≡ merge old (view sightings)
 AbsorbsJudged (Ok sightings) index (Err f) old new = (f ≡ Memory) × (new ≡ old)
 AbsorbsJudged (Err fault) index result old new = (result ≡ Err (fault index)) × (new ≡ old)
 
--- `taken` is a head, at least one good record, and fewer than 4096 bytes after the last good record
+-- `taken` is a head, at least one good record, and fewer than 4096 further bytes after the last of these records
 pub record EndsBehindRecord (taken : List ℕ) : Type 0 where
   pub format : Format
   pub records : List (List ℕ)
@@ -30,14 +30,14 @@ pub record EndsBehindRecord (taken : List ℕ) : Type 0 where
   pub near : length behind < 4096
 
 -- `new` is `old` with the facts in the bytes `taken` merged into it. If memory ran out, only the facts in the head and
--- in the records before the one that needed memory were merged
+-- in the records before the record that needed memory were merged
 abbrev pub HoldsKept : Result (Unit {0}) FileFault → Facts → Facts → List ℕ → Type 0
 HoldsKept (Err Memory) old new taken =
     (wanted : EndsBehindRecord taken) × (new ≡ merge old (facts_in (head_bytes wanted.format ++ concat wanted.records)))
 HoldsKept _ old new taken = new ≡ merge old (facts_in taken)
 
--- the answer is the outcome of `bytes`, except that `Read` and `Memory` may be the answer whatever the outcome is, and
--- `TooLong` if `interrupted` is true
+-- the answer is the outcome of `bytes`, with these exceptions: it may be `Read` or `Memory` whatever the outcome is,
+-- and it may be `TooLong` if `interrupted` is true
 abbrev pub AnswersOutcome : Result (Unit {0}) FileFault → List ℕ → Type 0 → Type 0
 AnswersOutcome (Ok u) bytes interrupted = outcome bytes ≡ Ok u
 AnswersOutcome (Err Read) bytes interrupted = Unit {0}
@@ -50,17 +50,17 @@ AnswersOutcome (Err f) bytes interrupted = outcome bytes ≡ Err f
 abbrev pub HasNoHeadYet : List ℕ → Type 0
 HasNoHeadYet taken = (length taken < 8) ⊎ ((starts_with nat_eq taken floored_magic ≡ true) × (length taken < 16))
 
--- `taken` is shorter than its head, or has a sound head and no bad record
+-- `taken` is shorter than its head, or has a good head and no bad record
 abbrev pub HasNoFaultYet : List ℕ → Type 0
 HasNoFaultYet taken =
     HasNoHeadYet taken ⊎ ((format : Format) × (format_in taken ≡ Ok format) × (fault_in format taken ≡ None))
 
--- `taken` has no fault yet, or it ends fewer than 4096 bytes after a good record, with only good records before that
+-- `taken` has no fault yet, or has a head and only good records, followed by fewer than 4096 further bytes
 abbrev pub HasNoFaultBefore : List ℕ → Type 0
 HasNoFaultBefore taken = HasNoFaultYet taken ⊎ EndsBehindRecord taken
 
--- after success, `Truncated`, or `Magic` with fewer than 8 bytes taken, the source is at its end; after `Read` or
--- `TooLong`, the bytes `taken` have no fault yet
+-- when the answer is final. After success, after `Truncated`, and after `Magic` with fewer than 8 bytes taken, the
+-- source is at its end. After `Read` or `TooLong`, the bytes `taken` have no fault yet
 abbrev pub IsDecided : Result (Unit {0}) FileFault → List ℕ → Type 0 → Type 0
 IsDecided (Ok u) taken at_end = at_end
 IsDecided (Err Magic) taken at_end = length taken < 8 → at_end
@@ -69,13 +69,14 @@ IsDecided (Err Read) taken at_end = HasNoFaultYet taken
 IsDecided (Err TooLong) taken at_end = HasNoFaultYet taken
 IsDecided _ taken at_end = Unit {0}
 
--- the bytes taken, which are `bytes` without `rest`, and the calls interrupted meanwhile are together at least 2^40
+-- the number of bytes taken plus the number of calls interrupted meanwhile is at least 2^40. The bytes taken are
+-- `bytes` without `rest`
 abbrev pub WasInterruptedTooOften : List ℕ → List ℕ → ℕ → ℕ → Type 0
 WasInterruptedTooOften bytes rest interruptions interruptions' =
     (2 ^ 40 + interruptions) + length rest ≤ length bytes + interruptions'
 
--- fewer than 2^40 bytes were taken, and fewer than 2^40 calls were interrupted; if the answer is `TooLong`, at most
--- 2^40 of each
+-- fewer than 2^40 bytes were taken, and fewer than 2^40 calls were interrupted. If the answer is `TooLong`, each number
+-- is at most 2^40
 abbrev pub IsBounded : Result (Unit {0}) FileFault → ℕ → ℕ → ℕ → Type 0
 IsBounded (Err TooLong) bytes interruptions interruptions' =
     (bytes ≤ 2 ^ 40) × (interruptions' ≤ 2 ^ 40 + interruptions)
@@ -99,8 +100,8 @@ Absorbs state answer source source' old new =
     AbsorbsFrom (state source).left (state source').left (state source).interruptions (state source').interruptions
     answer old new
 
--- the answer is the outcome of the bytes that the source had before, with the exceptions of `AnswersOutcome`, if these
--- bytes and the bytes that the source has left are known
+-- if the bytes that the source had before and the bytes that it has left are known, the answer is the outcome of the
+-- bytes that it had before, with the exceptions of `AnswersOutcome`
 abbrev pub AnswersKnown : {S : Type 0} → (S → SourceState) → Result (Unit {0}) FileFault → S → S → Type 0
 AnswersKnown state answer source source' =
     IfSome (state source).left (λ bytes. IfSome (state source').left

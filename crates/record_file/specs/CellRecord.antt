@@ -1,4 +1,4 @@
--- A cell as 32 bytes: kind, state, port, a zero byte, generation, GUID and 16 value bytes.
+-- A cell as 32 bytes: the kind, the state, the port, a zero byte, the generation, the GUID and 16 value bytes.
 use Rattle.std.specs.Prelude.{ℕ, Bool, true, false, List, [], ◌∷◌, ◌++◌, ◌-◌, ◌==◌, Option, None, Some, length, replicate, take, drop, find}
 use Rattle.std.specs.Prelude.{slice_index, option_map, option_and_then, if◌then◌else◌}
 use Rattle.std.specs.Int.{to_be_bytes, from_be_bytes, w16, w32, w64}
@@ -48,7 +48,8 @@ record_bytes e =
     key_kind e.0 ∷ state_byte e.1 ∷ key_port e.0 ∷ 0 ∷
     (to_be_bytes w32 (generation_of e.1) ++ to_be_bytes w64 (key_guid e.0) ++ filled_up 16 (cell_value_bytes e.1))
 
--- the six keys, one of each kind, with the GUID `guid`; they have the port `port`, except for a node and a table's room
+-- the six keys, one of each kind, with the GUID `guid`. They have the port `port`, except for the keys of a node and of
+-- a table's size
 abbrev pub keys_of : ℕ → ℕ → List Key
 keys_of guid port = Node guid ∷ PortGuid guid port ∷ Link guid port ∷ Port guid port ∷ Claim guid port ∷ Cap guid ∷ []
 
@@ -66,14 +67,14 @@ value_of (Port g p) bytes = Some (Up (slice_index bytes 0 == 1))
 value_of (Claim g p) bytes = Some (Lid (from_be_bytes w16 (take 2 bytes)))
 value_of (Cap g) bytes = Some (Count (from_be_bytes w16 (take 2 bytes)))
 
--- the cell of `key` in `generation`: if `state` is 1, known with the value in `bytes`, else disputed; None if `state`
--- is 1 and `bytes` have no value
+-- the cell of `key` in `generation`: if `state` is 1, known with the value in `bytes`; otherwise disputed. None if
+-- `state` is 1 and `bytes` do not have a value
 abbrev pub state_of : Key → ℕ → ℕ → List ℕ → Option (Cell Value)
 state_of key state generation bytes =
     if state == 1 then option_map (Known generation) (value_of key bytes) else Some (Disputed generation)
 
--- the key and the cell that a record spells, whatever its other bytes are; None if its kind is reserved, or if it is of
--- a known node and the node's type is reserved
+-- the key and the cell that a record spells, whatever its other bytes are. None if its kind is reserved, or if it is of
+-- a known node whose type is reserved
 abbrev pub candidate : List ℕ → Option (Key × Cell Value)
 candidate bytes =
     option_and_then (λ key. option_map (λ cell. (key, cell))
@@ -88,6 +89,6 @@ if_sighting e = if is_sighting e then Some e else None
 abbrev pub if_spelled : List ℕ → Key × Cell Value → Option (Key × Cell Value)
 if_spelled bytes e = if bytes_eq (record_bytes e) bytes then Some e else None
 
--- the sighting whose record `bytes` are; None if they are the record of no sighting
+-- the sighting whose record is `bytes`; None if `bytes` are not the record of any sighting
 unfoldable pub cell_of : List ℕ → Option (Key × Cell Value)
 cell_of bytes = option_and_then (if_spelled bytes) (option_and_then if_sighting (candidate bytes))

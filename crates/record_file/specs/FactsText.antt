@@ -1,4 +1,4 @@
--- Facts as text, a line for each: the floor, and each key with its cell.
+-- Facts as text. The floor has a line, and so has each key with its cell.
 use Rattle.std.specs.Prelude.{ℕ, List, [], ◌++◌, nat_le, codes, decimal, if◌then◌else◌}
 use Rattle.std.specs.List.{flat_map}
 use Rattle.smp_bytes.specs.Text.{guid_text, port_text, type_word}
@@ -50,6 +50,6 @@ line_text cell = fact_text cell ++ codes "\n"
 abbrev pub floor_line : ℕ → List ℕ
 floor_line floor = if nat_le floor 1 then [] else codes "floor " ++ decimal floor ++ codes "\n"
 
--- the text of `facts`: the line of their floor, if that is over 1, and a line for each cell, in the order of keys
+-- the text of `facts`: the line of their floor, if the floor is over 1, and a line for each cell, in the order of keys
 abbrev pub facts_text : Facts → List ℕ
 facts_text facts = floor_line facts.floor ++ flat_map line_text (cells_of facts)

@@ -1,4 +1,4 @@
--- What is printed about the fault of a file: words, a number, and the fault of a report.
+-- What is printed about the fault of a file: its words, its number, and the fault of a report.
 use Rattle.std.specs.Prelude.{ℕ, Bool, true, false, List, Option, None, Some, codes}
 use Rattle.reply_facts.specs.declared.report_fault.ReportFault.{ReportFault}
 use Rattle.record_file.specs.declared.file_fault.FileFault.{FileFault}
@@ -16,7 +16,7 @@ fault_words Memory = codes "out of memory"
 fault_words TooLong = codes "too long"
 fault_words BadFloor = codes "bad floor"
 
--- the offset or the index of the record that a fault names; None if it names none
+-- the offset in a fault, or the index of the record that it names; None if it has neither
 abbrev pub fault_number : FileFault → Option ℕ
 fault_number (Truncated offset) = Some offset
 fault_number (BadReport index fault) = Some index
@@ -24,12 +24,12 @@ fault_number (BadCell index) = Some index
 fault_number (CellOrder index) = Some index
 fault_number _ = None
 
--- the report's fault in a `BadReport`; None for other faults
+-- the fault of the report in a `BadReport`; None for other faults
 abbrev pub fault_of_report : FileFault → Option ReportFault
 fault_of_report (BadReport index fault) = Some fault
 fault_of_report _ = None
 
--- whether the fault lies with the file: any but `Memory`
+-- whether the fault lies with the file or its source; false only for `Memory`
 abbrev pub is_of_file : FileFault → Bool
 is_of_file Memory = false
 is_of_file _ = true

@@ -1,4 +1,4 @@
--- The head of a file: its magic and, after the magic of newer store files, a header with their floor.
+-- The head of a file: its magic and, in newer store files, a header with the floor after the magic.
 use Rattle.std.specs.Prelude.{ℕ, Bool, true, ◌&&◌, List, [], ◌∷◌, ◌++◌, Option, None, Some, Result, Ok, Err, IsTrue, length}
 use Rattle.std.specs.Prelude.{take, drop, codes, nat_eq, nat_lt, unwrap_or, if◌then◌else◌}
 use Rattle.std.specs.Int.{to_be_bytes, from_be_bytes, w32}
@@ -10,7 +10,7 @@ use Rattle.record_file.specs.declared.file_fault.FileFault.TheVariants.{Magic, T
 use Rattle.record_file.specs.declared.format.Format.{Format}
 use Rattle.record_file.specs.declared.format.Format.TheVariants.{Reports, Cells}
 
--- the magic that a header with a floor follows
+-- the magic of store files that have a header with a floor after it
 abbrev pub floored_magic : List ℕ
 floored_magic = codes "IBSMSTO2"
 
@@ -45,26 +45,26 @@ abbrev pub floor_of : Format → ℕ
 floor_of Reports = 1
 floor_of (Cells head_floor) = unwrap_or head_floor 1
 
--- `floor` if it is a generation and `bytes` are its header, else None
+-- `floor` if it is a generation and `bytes` are its header; otherwise None
 abbrev pub if_header : List ℕ → ℕ → Option ℕ
 if_header bytes floor = if is_generation floor && bytes_eq (header floor) bytes then Some floor else None
 
--- the floor whose header `bytes` are; None if they are no header
+-- the floor whose header is `bytes`; None if `bytes` are not a header
 abbrev pub floor_told : List ℕ → Option ℕ
 floor_told bytes = if_header bytes (from_be_bytes w32 (take 4 bytes))
 
--- the format of a store file with this floor in its head; `BadFloor` if there is none
+-- the format of a store file that has this floor in its head; `BadFloor` if no floor is given
 abbrev pub floored : Option ℕ → Result Format FileFault
 floored None = Err BadFloor
 floored (Some floor) = Ok (Cells (Some floor))
 
--- the format of bytes that begin with `floored_magic`, by the header after it; `Truncated` at 8 if the header is
--- incomplete, `BadFloor` if it is bad
+-- the format of bytes that begin with `floored_magic`, according to the header after it. `Truncated` at 8 if the header
+-- is incomplete, and `BadFloor` if it is bad
 abbrev pub behind_floored : List ℕ → Result Format FileFault
 behind_floored bytes =
     if nat_lt (length bytes) 16 then Err (Truncated 8) else floored (floor_told (take 8 (drop 8 bytes)))
 
--- the format of a file by its first bytes, or the fault of its head
+-- the format of a file according to its first bytes, or the fault of its head
 abbrev pub format_in : List ℕ → Result Format FileFault
 format_in bytes =
     if starts_with nat_eq bytes (head_bytes Reports) then Ok Reports

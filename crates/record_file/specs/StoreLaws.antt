@@ -14,13 +14,13 @@ use Rattle.record_file.specs.Head.{IsFormat, floor_of, floored_magic, format_in}
 use Rattle.record_file.specs.Reading.{facts_in, kept, outcome}
 use Rattle.record_file.specs.StoreFile.{cells_file}
 
--- `bytes` spell `e` exactly if `e` is a sighting and `bytes` are the record of `e`
+-- `bytes` spell `e` exactly when `e` is a sighting and `bytes` are the record of `e`
 abbrev pub RecordsAreSpellings : Type 0
 RecordsAreSpellings =
     (bytes : List ℕ) (e : Key × Cell Value) → (cell_of bytes ≡ Some e) ↔ (IsSighting e × (bytes ≡ record_bytes e))
 
 -- `bytes` are the store file of `facts` in range, and are fewer than 2^40 bytes. `head_floor` is the floor of `facts`;
--- if this floor is 1, `head_floor` may be None instead
+-- it may be None instead if this floor is 1
 pub record IsStoreFile (head_floor : Option ℕ) (bytes : List ℕ) (facts : Facts) : Type 0 where
   pub whole : bytes ≡ cells_file head_floor (cells_of facts)
   pub sound : IsFormat (Cells head_floor)
@@ -28,7 +28,8 @@ pub record IsStoreFile (head_floor : Option ℕ) (bytes : List ℕ) (facts : Fac
   pub in_range : AreInRange facts
   pub short : length bytes < 2 ^ 40
 
--- bytes have the head of a store file and are accepted exactly if they are the store file of some facts (`IsStoreFile`)
+-- bytes have the head of a store file and are accepted exactly when they are the store file of some facts
+-- (`IsStoreFile`)
 abbrev pub StoreFilesAreAccepted : Type 0
 StoreFilesAreAccepted =
     (head_floor : Option ℕ) (bytes : List ℕ) → ((format_in bytes ≡ Ok (Cells head_floor)) × (outcome bytes ≡ Ok tt))
@@ -50,13 +51,13 @@ pub record IsFlooredFile (bytes : List ℕ) : Type 0 where
   pub accepted : outcome bytes ≡ Ok tt
   pub begins : starts_with nat_eq bytes floored_magic ≡ true
 
--- two accepted files with floors in their heads are equal if they contain equal facts
+-- if two accepted files have floors in their heads and contain equal facts, the files are equal
 abbrev pub FactsHaveOneSpelling : Type 0
 FactsHaveOneSpelling = (bytes others : List ℕ) → IsFlooredFile bytes → IsFlooredFile others → facts_in bytes
     ≡ facts_in others → bytes ≡ others
 
--- if a source with the bytes of a store file is absorbed into an empty store with `Ok`, the store then holds the facts
--- of that file. The bytes that the source has left must be known
+-- if a source with the bytes of a store file is absorbed into an empty store with `Ok`, the store then has the facts of
+-- that file. The bytes that the source has left must be known
 abbrev pub AbsorbingReadsBack : {S : Type 0} → (S → SourceState) → Type 0
 AbsorbingReadsBack {S} state =
     (source source' : S) (head_floor : Option ℕ) (bytes rest : List ℕ) (facts new : Facts)

@@ -5,21 +5,22 @@ use Rattle.byte_io.specs.Source.{SourceState}
 use Rattle.record_file.specs.declared.file_fault.FileFault.{FileFault}
 use Rattle.record_file.specs.declared.file_fault.FileFault.TheVariants.{Read, Memory, TooLong}
 
--- the source was read to its end, no call failed, and it gave `bytes`, fewer than 2^40
+-- the source was read to its end, no call failed, and it gave `bytes`, which are fewer than 2^40 bytes
 pub record IsReadWhole {S : Type 0} (state : S → SourceState) (old new : S) (bytes : List ℕ) : Type 0 where
   pub consumed : Consumes (state old).left (state new).left bytes
   pub at_end : IsAtEnd (state new).left
   pub works : (state new).has_failed ≡ false
   pub short : length bytes < 2 ^ 40
 
--- `taken` has at least 2^40 bytes, or its bytes and the calls interrupted meanwhile are together at least 2^40
+-- `taken` has at least 2^40 bytes, or the number of its bytes plus the number of calls interrupted meanwhile is at
+-- least 2^40
 abbrev pub IsTooLong : List ℕ → ℕ → ℕ → Type 0
 IsTooLong taken interruptions interruptions' =
     (2 ^ 40 ≤ length taken) ⊎ (2 ^ 40 + interruptions ≤ length taken + interruptions')
 
--- why reading stops after the bytes `taken`: `Read` if a call failed, `TooLong` if no call failed and the source is too
--- long (`IsTooLong`). It is `Memory` only if no call failed, fewer than 2^40 bytes were taken and fewer than 2^40 calls
--- were interrupted; it is no other fault
+-- why reading stops after the bytes `taken`. It is `Read` if a call failed, and `TooLong` if no call failed and the
+-- source is too long (`IsTooLong`). It is `Memory` only if no call failed, fewer than 2^40 bytes were taken and fewer
+-- than 2^40 calls were interrupted. It is never another fault
 abbrev pub IsReadFault : FileFault → List ℕ → Bool → ℕ → ℕ → Type 0
 IsReadFault Read taken has_failed interruptions interruptions' = IsTrue has_failed
 IsReadFault TooLong taken has_failed interruptions interruptions' =

@@ -10,10 +10,10 @@ use fact_store::Store;
 /// The number of bytes that `absorb` reads at a time.
 const READ_LEN: usize = 4096;
 
-/// Reads one file, of reports or of a store's cells, from `source` into `store`, record by record. Allocates only what
-/// `store` needs. The header of a store file raises the store's floor before the first record. After a fault, the store
-/// keeps the floor, and the facts of the records before the fault. To add all or nothing, absorb the file into a new
-/// store and merge that store.
+/// Reads one file from `source` into `store`, record by record. The file is a file of reports or of a store's cells.
+/// Allocates only what `store` needs. The header of a store file raises the store's floor before the first record.
+/// After a fault, the store keeps the floor, and the facts of the records before the fault. To add all or nothing,
+/// absorb the file into a new store and merge that store.
 pub fn absorb<S: Source>(source: &mut S, store: &mut Store) -> Result<(), FileFault>
     ensures read { (result ≡ Err FileFault.Read) ↔ IsTrue (S.state source.new).has_failed }
     ensures absorbs { Absorbs S.state result

@@ -14,8 +14,8 @@ use std::marker::Model;
 /// The bytes of the awaited part that came with earlier pieces. No part is longer than a record of a report.
 type Part = ArrayVec<u8, RECORD_LEN>;
 
-/// A reader of a file that comes in pieces. Judges each record once its last byte has come. A record that is whole
-/// within a piece is judged there; any other record is put together first. Allocates only what the store needs.
+/// A reader of a file that comes in pieces. Judges each record once its last byte has come. A record that lies whole
+/// within a piece is judged in place; any other record is put together first. Allocates only what the store needs.
 #[derive(Drop)]
 pub struct Absorber {
     awaited: Result<Awaited, FileFault>,
@@ -46,9 +46,9 @@ impl Absorber {
     /// # Errors
     ///
     /// Returns `Magic` if the first 8 bytes are not a magic, and `BadFloor` if the header is bad. Returns `BadReport`,
-    /// `BadCell` or `CellOrder` if a record has such a fault, and `Memory` if memory runs out at a record. Returns
-    /// `TooLong` at the 2^40th byte. The first fault counts. The store then holds the floor and the records before the
-    /// fault. Every later call returns this error and changes nothing.
+    /// `BadCell` or `CellOrder` if a record has such a fault, and `Memory` if memory runs out while a record is added.
+    /// Returns `TooLong` at the 2^40th byte. The first fault counts. The store then has the floor and the contents of
+    /// the records before the fault. Every later call returns this error and changes nothing.
     pub fn feed(&mut self, piece: &[u8], store: &mut Store) -> Result<(), FileFault>
         ensures feeds { FeedsPiece self.old piece.now result self.new store.old store.new }
     {
@@ -81,7 +81,7 @@ impl Absorber {
 }
 
 /// Takes the bytes of `piece` up to the file's 2^40th byte. Returns the part that is awaited after these bytes, or the
-/// first fault. If the bytes reach the 2^40th and have no other fault, the fault is `TooLong`.
+/// first fault. If the file reaches its 2^40th byte without another fault, the fault is `TooLong`.
 fn take_piece(
     awaited: Awaited,
     part: &mut Part,
@@ -108,9 +108,9 @@ fn take_piece(
     Ok(next)
 }
 
-/// Takes those of `bytes` that belong to the awaited part. Returns the part that is awaited after them, and how many
-/// bytes were taken, or the fault of the awaited part. `bytes` must not be empty, and `part` must not be complete. All
-/// bytes must be among the file's first 2^40.
+/// Takes those of `bytes` that belong to the awaited part. Returns the part that is awaited after the taken bytes, and
+/// how many bytes were taken. Returns the fault instead if the awaited part has one, or if memory runs out. `bytes`
+/// must not be empty, and `part` must not be complete. All bytes must be among the file's first 2^40.
 fn take_front(
     awaited: Awaited,
     part: &mut Part,

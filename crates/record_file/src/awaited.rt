@@ -15,8 +15,8 @@ pub(crate) enum Awaited {
     Magic,
     /// The header after the magic of a store file that has a floor.
     Header,
-    /// The record at `index` of a file in `format`. `last` is the key of the cell before it, or `None` for the first
-    /// record and in a file of reports.
+    /// The record at `index` of a file in `format`. `last` is the key of the cell in the record before it. `last` is
+    /// `None` for the first record, and in a file of reports.
     Record {
         format: Format,
         index: u64,
@@ -52,7 +52,8 @@ impl Awaited {
         }
     }
 
-    /// Returns the outcome if the file ends after `count` bytes of the part, whose offset must be less than 2^40.
+    /// Returns the outcome if the file ends after `count` bytes of the part. The offset of the part must be less than
+    /// 2^40.
     pub(crate) fn end(&self, count: usize) -> Result<(), FileFault>
         requires { offset_of self.now < 2 ^ 40 }
         ensures { result ≡ ending_at self.now count }
@@ -66,9 +67,9 @@ impl Awaited {
         }
     }
 
-    /// Judges `bytes`, which must be all of the part, adds its contents to `store`, and returns the part that is
-    /// awaited after them. Returns the part's fault if the part has one, and `Memory` if memory runs out. The part's
-    /// offset must be less than 2^40.
+    /// Judges `bytes`, adds the contents of the part to `store`, and returns the part that is awaited next. `bytes`
+    /// must be the whole part. Returns the part's fault if the part has one, and `Memory` if memory runs out. The
+    /// part's offset must be less than 2^40.
     pub(crate) fn absorb(self, bytes: &[u8], store: &mut Store) -> Result<Awaited, FileFault>
         requires whole { length bytes.now ≡ awaited_size self }
         requires in_reach { offset_of self < 2 ^ 40 }
@@ -94,8 +95,8 @@ impl Awaited {
     }
 }
 
-/// Returns the part that is awaited after the first 8 bytes of a file, or the fault `Magic` if these bytes are not a
-/// magic.
+/// `front` must be the first 8 bytes of a file. Returns the part that is awaited after these bytes, or the fault
+/// `Magic` if they are not a magic.
 fn behind_magic(front: &[u8]) -> Result<Awaited, FileFault>
     requires { length front.now ≡ 8 }
     ensures { result ≡ behind_magic_of (format_in front.now) }
@@ -111,8 +112,8 @@ fn behind_magic(front: &[u8]) -> Result<Awaited, FileFault>
     }
 }
 
-/// Raises the store's floor to the floor of the header `bytes`, and returns the part that is awaited after the header.
-/// Returns `BadFloor` if the bytes are not a header.
+/// Raises the store's floor to the floor in the header `bytes`, which must have 8 bytes, and returns the part that is
+/// awaited after the header. Returns `BadFloor` if the bytes are not a header.
 fn absorb_header(bytes: &[u8], store: &mut Store) -> Result<Awaited, FileFault>
     requires { length bytes.now ≡ 8 }
     ensures takes { TakesAwaited Awaited.Header bytes.now result store.old store.new }

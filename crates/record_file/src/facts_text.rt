@@ -1,4 +1,4 @@
-//! The facts of a store as text: a line for its floor, if that is over 1, and a line for each cell.
+//! The facts of a store as text. The text has a line for the floor, if the floor is over 1, and a line for each cell.
 ghost use Rattle.std.specs.Prelude.{◌≡◌, IsTrue, OnOk};
 ghost use Rattle.byte_io.specs.Writes.{Writes};
 ghost use Rattle.fact_store.specs.View.{AreInRange};
@@ -24,7 +24,8 @@ fn write_subject<W: Sink>(sink: &mut W, key: &Key) -> Result<(), WriteFault>
     }
 }
 
-/// Writes what `key` is about: `node`, `portguid`, `link`, `port`, `claim` or `cap`, and the node or the port.
+/// Writes the word for the kind of `key` (`node`, `portguid`, `link`, `port`, `claim` or `cap`), and then the node or
+/// the port that `key` is about.
 fn write_key<W: Sink>(sink: &mut W, key: &Key) -> Result<(), WriteFault>
     ensures writes { Writes W.written W.has_failed result sink.old sink.new (key_text key.now) }
 {
@@ -64,7 +65,7 @@ fn write_state<W: Sink>(sink: &mut W, cell: &Cell<Value>) -> Result<(), WriteFau
     write_number(sink, u64::from(cell.generation().number()))
 }
 
-/// Writes the key of `cell`, its value or `disputed`, and `@` with its generation.
+/// Writes the key of `cell`, the cell's value or `disputed`, and `@` with the cell's generation.
 fn write_fact<W: Sink>(sink: &mut W, cell: &Sighting) -> Result<(), WriteFault>
     ensures writes { Writes W.written W.has_failed result sink.old sink.new (fact_text cell.now) }
 {
@@ -81,8 +82,8 @@ fn write_line<W: Sink>(sink: &mut W, cell: &Sighting) -> Result<(), WriteFault>
     sink.write(b"\n")
 }
 
-/// Writes the line of a cell: its key, its value or `disputed`, and `@` with its generation. A line of at most 64 bytes
-/// is written in one call.
+/// Writes the line of a cell: its key, its value or `disputed`, and `@` with its generation. If the line has at most 64
+/// bytes, writes it in one call.
 pub fn write_cell<W: Sink>(sink: &mut W, cell: &Sighting) -> Result<(), WriteFault>
     ensures writes { Writes W.written W.has_failed result sink.old sink.new (line_text cell.now) }
 {
@@ -106,8 +107,8 @@ fn write_floor<W: Sink>(sink: &mut W, floor: Generation) -> Result<(), WriteFaul
     sink.write(b"\n")
 }
 
-/// Writes the line of the floor, if it is over 1, and the line of each cell in the order of keys, and flushes. Does not
-/// allocate.
+/// Writes the line of the floor, if the floor is over 1, and the line of each cell in the order of keys. Then flushes.
+/// Does not allocate.
 pub fn write_facts<W: Sink>(sink: &mut W, store: &Store) -> Result<(), WriteFault>
     ensures writes { Writes W.written W.has_failed result sink.old sink.new (facts_text store.now) }
     ensures flushed { OnOk result (IsTrue (W.is_flushed sink.new)) }

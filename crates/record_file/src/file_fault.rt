@@ -24,10 +24,11 @@ pub enum FileFault {
     Read,
     #[error("out of memory")]
     Memory,
-    /// 2^40 bytes were read without an end, or 2^40 calls were made that gave bytes or were interrupted.
+    /// 2^40 bytes were read and the file had not ended, or 2^40 calls were made, each of which gave bytes or was
+    /// interrupted.
     #[error("too long")]
     TooLong,
-    /// The header of a store file has floor 0, or a byte other than 0 after its floor.
+    /// The header of a store file has floor 0, or has a byte other than 0 after the floor.
     #[error("bad floor")]
     BadFloor,
 }
@@ -65,7 +66,8 @@ impl FileFault {
         }
     }
 
-    /// Returns the offset or the index of the record that the fault names, or `None` if the fault names neither.
+    /// Returns the offset in the fault, or the index of the record that the fault names. Returns `None` if the fault
+    /// has neither.
     pub fn number(&self) -> Option<u64>
         ensures { result ≡ fault_number self.now }
     {

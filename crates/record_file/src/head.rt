@@ -1,4 +1,4 @@
-//! The head of a file: its magic and, after the magic of newer store files, a header with their floor.
+//! The head of a file: its magic and, in newer store files, a header with the floor after the magic.
 ghost use Rattle.std.specs.Prelude.{◌≡◌, length, Some};
 ghost use Rattle.record_file.specs.Head.{floor_told as floor_in_header, head_bytes, header};
 ghost use Rattle.record_file.specs.declared.format.Format.TheVariants.{Cells};
@@ -22,7 +22,7 @@ pub(crate) fn head_of(floor: Generation) -> [u8; MAGIC_LEN + HEADER_LEN]
     bytes
 }
 
-/// Returns the floor that the 8 `bytes` spell, or `None` if they are not a header.
+/// Returns the floor that the 8 bytes `bytes` spell, or `None` if `bytes` are not a header.
 pub(crate) fn floor_told(bytes: &[u8]) -> Option<Generation>
     requires { length bytes.now ≡ 8 }
     ensures { result ≡ floor_in_header bytes.now }

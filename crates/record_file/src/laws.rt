@@ -8,46 +8,46 @@ ghost use Rattle.record_file.specs.PieceLaws.{CutsChangeNothing, FaultsStay, Pie
 
 use byte_io::Source;
 
-/// If bytes have a bad header or a bad record, their fault, their floor and what is kept of them stay, whatever
-/// follows.
+/// If bytes have a bad header or a bad record, then their fault, their floor and the facts that are kept of them stay
+/// the same, whatever follows.
 pub fn bad_part_stays()
     ensures { BadPartStays }
 {}
 
-/// A file of good records that ends within a further record, in fewer than 2^40 bytes, is rejected as truncated at that
-/// record's offset.
+/// If a file has only good records and ends within a further record, after fewer than 2^40 bytes, it is rejected as
+/// truncated at the offset of that record.
 pub fn truncation_is_told()
     ensures { TruncationIsTold }
 {}
 
-/// If the first bad record of a file ends within 2^40 bytes, the file is rejected for it, with its index.
+/// If a file has a bad record after good records, and the bad record ends within the first 2^40 bytes, the file is
+/// rejected for this record, with the record's index.
 pub fn first_bad_record_is_told()
     ensures { FirstBadRecordIsTold }
 {}
 
-/// A record of 272 bytes spells a report that fits a record exactly if its bytes are those that are written for that
-/// report.
+/// If a report fits in a record, 272 bytes spell this report exactly when they are the bytes that are written for it.
 pub fn reports_have_one_spelling()
     ensures { ReportsHaveOneSpelling }
 {}
 
-/// A file of reports is accepted exactly if it is the magic followed by good reports, in fewer than 2^40 bytes.
+/// A file of reports is accepted exactly when it has fewer than 2^40 bytes and is the magic followed by good reports.
 pub fn report_files_are_accepted()
     ensures { ReportFilesAreAccepted }
 {}
 
-/// A record of a store file spells a sighting exactly if its bytes are those that are written for that sighting.
+/// A record of a store file spells a sighting exactly when its bytes are those that are written for that sighting.
 pub fn records_are_spellings()
     ensures { RecordsAreSpellings }
 {}
 
-/// Bytes with the head of a store file are accepted exactly if they are fewer than 2^40, and are the store file of some
-/// facts in range. The facts have the floor in the head, or floor 1 if the head has no floor.
+/// Bytes with the head of a store file are accepted exactly when they are fewer than 2^40, and are the store file of
+/// some facts in range. These facts have the floor in the head, or floor 1 if the head has no floor.
 pub fn store_files_are_accepted()
     ensures { StoreFilesAreAccepted }
 {}
 
-/// The store file of facts in range is read back as these facts, if it has fewer than 2^40 bytes. Their floor is the
+/// If the store file of facts in range has fewer than 2^40 bytes, it is read back as these facts. Their floor is the
 /// floor in the head, or 1 if the head has no floor.
 pub fn facts_are_read_back()
     ensures { FactsAreReadBack }
@@ -58,23 +58,25 @@ pub fn facts_have_one_spelling()
     ensures { FactsHaveOneSpelling }
 {}
 
-/// If an empty store absorbs the store file of some facts without a fault, from a source whose bytes are known, it
-/// holds these facts.
+/// If an empty store absorbs the store file of some facts without a fault, from a source whose bytes are known, the
+/// store then has these facts.
 pub fn absorbing_reads_back<S: Source>()
     ensures { AbsorbingReadsBack S.state }
 {}
 
-/// If memory runs out for no piece, a file that comes in pieces is read as if it came whole.
+/// If memory does not run out at any piece, a file that comes in pieces is read as if it came whole.
 pub fn pieces_are_read()
     ensures { PiecesAreRead }
 {}
 
-/// If memory runs out for no piece, neither the answer nor the store depends on where a file is cut into pieces.
+/// If memory does not run out at any piece, neither the answer nor the store depends on where a file is cut into
+/// pieces.
 pub fn cuts_change_nothing()
     ensures { CutsChangeNothing }
 {}
 
-/// The fault that the bytes of a file so far have stays, whatever follows, and so do the floor and what is kept.
+/// If the bytes that have come of a file have a fault, this fault stays, whatever follows. So do the floor and the
+/// facts that are kept.
 pub fn faults_stay()
     ensures { FaultsStay }
 {}

@@ -13,8 +13,9 @@ use fact_store::{Cell, IngestFault, Key, ReportFault, Store, Value};
 use smp_bytes::Generation;
 
 /// Adds the contents of the record `bytes` to `store`. Returns the key of the record's cell, or `None` if the record is
-/// a report. Returns the record's fault, with `index`, if the record has one, and `Memory` if memory runs out. `index`
-/// is the index of the record in its file. `last` is the key of the cell before it, or `None` if no cell is before it.
+/// a report. Returns an error if the record has a fault or memory runs out. The error is the record's fault, with
+/// `index`, or `Memory`. `index` is the index of the record in its file. `last` is the key of the cell in the record
+/// before it, or `None` if there is no such cell. `bytes` must have the length of a record of `format`.
 pub(crate) fn absorb_record(
     format: Format,
     last: Option<Key>,
@@ -36,8 +37,8 @@ pub(crate) fn absorb_record(
     }
 }
 
-/// Adds the facts of the report that `bytes` spell. Returns `BadReport` if `bytes` spell no report or the report has a
-/// fault, and `Memory` if memory runs out.
+/// Adds the facts of the report that `bytes` spell. Returns `BadReport` if `bytes` do not spell a report or the report
+/// has a fault, and `Memory` if memory runs out.
 fn absorb_report(bytes: &[u8], index: u64, store: &mut Store) -> Result<(), FileFault>
     requires { length bytes.now ≡ 272 }
     ensures judged { AbsorbsJudged (judged Reports None bytes.now) index result
@@ -56,8 +57,8 @@ fn absorb_report(bytes: &[u8], index: u64, store: &mut Store) -> Result<(), File
     }
 }
 
-/// Adds the cell that `bytes` spell, and returns its key. Returns `BadCell` if `bytes` spell no cell or the cell is
-/// below `floor`, the floor of the header. Returns `CellOrder` if the cell's key does not come after `last`, and
+/// Adds the cell that `bytes` spell, and returns its key. Returns `BadCell` if `bytes` do not spell a cell, or if the
+/// cell is below the header's floor `floor`. Returns `CellOrder` if the cell's key does not come after `last`, and
 /// `Memory` if memory runs out.
 fn absorb_cell(
     floor: Option<Generation>,
@@ -96,7 +97,7 @@ fn is_after(key: &Key, last: &Option<Key>) -> bool
     }
 }
 
-/// Returns whether a cell is at `floor`, the floor of the header, or above it. Returns `true` if `floor` is `None`.
+/// Returns whether a cell is at or above the header's floor `floor`. Returns `true` if `floor` is `None`.
 fn is_at_told(floor: Option<Generation>, cell: &Cell<Value>) -> bool
     ensures { result ≡ is_at_floor_told floor cell.now }
 {

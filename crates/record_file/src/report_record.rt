@@ -5,10 +5,12 @@ use crate::numbers::{u32_of, u64_of};
 use fact_store::{Context, Report};
 use smp_bytes::{Guid, PortNum};
 
-/// The number of bytes of a record: generation, context, port, two zero bytes, GUID and the 256 bytes of the reply.
+/// The number of bytes of a record. Its parts are the generation, the context, a port, two zero bytes, a GUID and the
+/// 256 bytes of the reply.
 pub(crate) const RECORD_LEN: usize = 272;
 
-/// Returns the report that the record `bytes` spells, or `None` if `bytes` spell no report.
+/// Returns the report that the record `bytes` spells, or `None` if `bytes` do not spell a report. `bytes` must have 272
+/// bytes.
 #[tactic(auto, unfolding(crate::specs::ReportRecord::report_of))]
 pub(crate) fn report_of(bytes: &[u8]) -> Option<Report>
     requires { length bytes.now ≡ 272 }

@@ -14,7 +14,8 @@ use byte_io::{Sink, WriteFault};
 use fact_store::{Cell, Key, Sighting, Store, Value};
 use smp_bytes::{Generation, Guid, Lid, PortNum};
 
-/// The number of bytes of a record: kind, state, port, a zero byte, generation, GUID and 16 value bytes.
+/// The number of bytes of a record. Its parts are the kind, the state, the port, a zero byte, the generation, the GUID
+/// and 16 value bytes.
 pub(crate) const RECORD_LEN: usize = 32;
 
 /// The number of value bytes of a record. The bytes after the value are 0. For a disputed cell all value bytes are 0.
@@ -92,7 +93,8 @@ fn value_bytes(value: Value) -> [u8; VALUE_LEN]
     bytes
 }
 
-/// Returns the cell that the record `bytes` spells, or `None` if `bytes` spell no cell.
+/// Returns the cell that the record `bytes` spells, or `None` if `bytes` do not spell a cell. `bytes` must have 32
+/// bytes.
 #[tactic(auto, unfolding(crate::specs::CellRecord::cell_of))]
 pub(crate) fn cell_of(bytes: &[u8]) -> Option<Sighting>
     requires { length bytes.now ≡ 32 }
@@ -107,7 +109,8 @@ pub(crate) fn cell_of(bytes: &[u8]) -> Option<Sighting>
 }
 
 /// Returns the cell of the record `bytes`, or `None` if the cell's key, generation or value is reserved or out of
-/// range. Does not check the bytes that have to be 0, and takes each state byte other than 1 as disputed.
+/// range. Does not check the bytes that have to be 0, and takes any state byte other than 1 to mean disputed. `bytes`
+/// must have 32 bytes.
 fn sighting_in(bytes: &[u8]) -> Option<Sighting>
     requires { length bytes.now ≡ 32 }
     ensures { result ≡ option_and_then if_sighting (candidate bytes.now) }
@@ -139,7 +142,8 @@ fn key_of(kind: u8, guid: u64, port: u8) -> Option<Key>
     }
 }
 
-/// Returns the value of the kind of `key` in `bytes`, or `None` if `key` is of a node and the node type is reserved.
+/// Returns the value in `bytes`, of the kind that `key` has. Returns `None` if `key` is of a node and the node type is
+/// reserved. `bytes` must have 16 bytes.
 fn value_of(key: &Key, bytes: &[u8]) -> Option<Value>
     requires { length bytes.now ≡ 16 }
     ensures { result ≡ value_in key.now bytes.now }

@@ -1,4 +1,5 @@
--- How numbers spell a key with its cell: a form, the key's GUID, another GUID, a generation, a number and a port.
+-- How a key with its cell is spelled by numbers: a form, the key's GUID, another GUID, a generation, a number and a
+-- port.
 use Rattle.std.specs.Prelude.{◌≡◌, ℕ, true, false, refl}
 use Rattle.smp_bytes.specs.declared.node_type.NodeType.TheVariants.{Switch, ChannelAdapter, Router}
 use Rattle.fact_join.specs.declared.cell.Cell.{Cell}
@@ -12,7 +13,7 @@ use Rattle.reply_facts.specs.declared.value.Value.TheVariants.{Kind, Guid, Peer,
 use Rattle.fact_join.specs.Cell.{generation_of}
 use Rattle.reply_facts.specs.Key.{key_guid, key_kind, key_port}
 
--- the key that a form, `guid` and `port` spell; a node and a table's room have no port
+-- the key that a form, `guid` and `port` spell. The keys of a node and of a table's size have no port
 abbrev pub key_in : CellForm → ℕ → ℕ → Key
 key_in SwitchNode guid port = Node guid
 key_in AdapterNode guid port = Node guid
@@ -30,7 +31,7 @@ key_in DisputedPort guid port = Port guid port
 key_in DisputedClaim guid port = Claim guid port
 key_in DisputedRoom guid port = Cap guid
 
--- the cell that a form, `generation`, a GUID `other` and `number` spell; a disputed one has only its generation
+-- the cell that a form, `generation`, a GUID `other` and `number` spell. A disputed cell has only its generation
 abbrev pub cell_in : CellForm → ℕ → ℕ → ℕ → Cell Value
 cell_in SwitchNode generation other number = Known generation (Kind Switch number)
 cell_in AdapterNode generation other number = Known generation (Kind ChannelAdapter number)
@@ -64,7 +65,7 @@ known_form (Up false) = DownPort
 known_form (Lid lid) = ClaimedLid
 known_form (Count count) = RoomOfTable
 
--- the form that spells a disputed cell of this key
+-- the form that spells a disputed cell whose key is this key
 abbrev pub disputed_form : Key → CellForm
 disputed_form (Node guid) = DisputedNode
 disputed_form (PortGuid guid port) = DisputedGuid
@@ -73,7 +74,7 @@ disputed_form (Port guid port) = DisputedPort
 disputed_form (Claim guid port) = DisputedClaim
 disputed_form (Cap guid) = DisputedRoom
 
--- the form that spells a cell of `key`
+-- the form that spells a cell whose key is `key`
 abbrev pub form_of : Key → Cell Value → CellForm
 form_of key (Known generation value) = known_form value
 form_of key (Disputed generation) = disputed_form key
@@ -87,7 +88,7 @@ value_guid (Up up) = 0
 value_guid (Lid lid) = 0
 value_guid (Count count) = 0
 
--- the number of ports, the far port, the LID or the table room in a value; 0 if it has none of these
+-- the number of ports, the far port, the LID or the table size in a value; 0 if the value has none of these
 abbrev pub value_number : Value → ℕ
 value_number (Kind kind ports) = ports
 value_number (Guid guid) = 0
@@ -96,17 +97,17 @@ value_number (Up up) = 0
 value_number (Lid lid) = lid
 value_number (Count count) = count
 
--- the GUID in the value of a cell; 0 if it has none, or if the cell is disputed
+-- the GUID in the value of a cell; 0 if the value has no GUID, or if the cell is disputed
 abbrev pub other_of : Cell Value → ℕ
 other_of (Known generation value) = value_guid value
 other_of (Disputed generation) = 0
 
--- the number in the value of a cell (`value_number`); 0 if it has none, or if the cell is disputed
+-- the number in the value of a cell (`value_number`); 0 if the value has no number, or if the cell is disputed
 abbrev pub number_of : Cell Value → ℕ
 number_of (Known generation value) = value_number value
 number_of (Disputed generation) = 0
 
--- each of `other`, `number` and `port` that `form` does not use is 0; so a key with its cell is spelled in only one way
+-- each of `other`, `number` and `port` that `form` does not use is 0. So a key with its cell is spelled in only one way
 pub record IsSpelled (form : CellForm) (guid other generation number port : ℕ) : Type 0 where
   pub other_is : other_of (cell_in form generation other number) ≡ other
   pub number_is : number_of (cell_in form generation other number) ≡ number

@@ -1,4 +1,4 @@
--- The parts of keys, and their order: by kind, GUID and port.
+-- The parts of keys, and the order of keys: by kind, then GUID, then port.
 use Rattle.std.specs.Prelude.{ℕ, Bool, true, List, [], ◌∷◌, Option, None, Some, codes}
 use Rattle.std.specs.declared.cmp.Ordering.{Ordering}
 use Rattle.std.specs.Ordering.{nat_cmp, is_lt}
@@ -24,7 +24,7 @@ kind_word (Port guid port) = codes "port"
 kind_word (Claim guid port) = codes "claim"
 kind_word (Cap guid) = codes "cap"
 
--- the GUID of the key's node
+-- the GUID of the node that the key is about
 abbrev pub key_guid : Key → ℕ
 key_guid (Node guid) = guid
 key_guid (PortGuid guid port) = guid
@@ -33,7 +33,7 @@ key_guid (Port guid port) = guid
 key_guid (Claim guid port) = guid
 key_guid (Cap guid) = guid
 
--- the port of a key; 0 if it has none
+-- the port of a key; 0 if the key has no port
 abbrev pub key_port : Key → ℕ
 key_port (Node guid) = 0
 key_port (PortGuid guid port) = port
@@ -46,7 +46,7 @@ key_port (Cap guid) = 0
 abbrev pub key_numbers : Key → List ℕ
 key_numbers key = key_kind key ∷ key_guid key ∷ key_port key ∷ []
 
--- the order of keys: the first number in which they differ decides
+-- the order of two keys; the first number in which they differ decides
 abbrev pub key_cmp : Key → Key → Ordering
 key_cmp a b = slice_cmp nat_cmp (key_numbers a) (key_numbers b)
 

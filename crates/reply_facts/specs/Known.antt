@@ -1,4 +1,4 @@
--- What facts know of a node or a port. What is disputed is not known.
+-- What facts say about a node or a port. Anything disputed is not known.
 use Rattle.std.specs.Prelude.{ℕ, Bool, List, Option, None, Some}
 use Rattle.std.specs.FinMap.{find}
 use Rattle.smp_bytes.specs.declared.node_type.NodeType.{NodeType}
@@ -16,38 +16,38 @@ value_in None = None
 value_in (Some (Known generation value)) = Some value
 value_in (Some (Disputed generation)) = None
 
--- the known value of `key`; None if `cells` have no cell for `key`, or a disputed one
+-- the known value of `key`; None if `cells` have no cell for `key`, or if that cell is disputed
 abbrev pub known_in : List (Key × Cell Value) → Key → Option Value
 known_in cells key = value_in (find key_cmp key cells)
 
 -- the parts of a value of each kind: -------------------------------------------------
 
--- the type and the number of ports in a value of a node; None if there is no value, or one of another kind
+-- the type and the number of ports in a value of a node; None if there is no value, or if it is of another kind
 abbrev pub kind_in : Option Value → Option (NodeType × ℕ)
 kind_in (Some (Kind kind ports)) = Some (kind, ports)
 kind_in _ = None
 
--- the GUID in a value of a port's GUID; None if there is no value, or one of another kind
+-- the GUID in a value of a port's GUID; None if there is no value, or if it is of another kind
 abbrev pub guid_in : Option Value → Option ℕ
 guid_in (Some (Guid guid)) = Some guid
 guid_in _ = None
 
--- the node and the port that a value of a link names; None if there is no value, or one of another kind
+-- the node and the port that a value of a link names; None if there is no value, or if it is of another kind
 abbrev pub peer_in : Option Value → Option (ℕ × ℕ)
 peer_in (Some (Peer guid port)) = Some (guid, port)
 peer_in _ = None
 
--- whether a value of a port's state says that the port is up; None if there is no value, or one of another kind
+-- whether a value of a port's state says that the port is up; None if there is no value, or if it is of another kind
 abbrev pub up_in : Option Value → Option Bool
 up_in (Some (Up up)) = Some up
 up_in _ = None
 
--- the LID in a value of a claim; None if there is no value, or one of another kind
+-- the LID in a value of a claim; None if there is no value, or if it is of another kind
 abbrev pub lid_in : Option Value → Option ℕ
 lid_in (Some (Lid lid)) = Some lid
 lid_in _ = None
 
--- the table room in a value; None if there is no value, or one of another kind
+-- the table size in a value, as a number of LIDs; None if there is no value, or if it is of another kind
 abbrev pub count_in : Option Value → Option ℕ
 count_in (Some (Count count)) = Some count
 count_in _ = None
@@ -74,6 +74,6 @@ up_of cells g p = up_in (known_in cells (Port g p))
 abbrev pub claim_of : List (Key × Cell Value) → ℕ → ℕ → Option ℕ
 claim_of cells g p = lid_in (known_in cells (Claim g p))
 
--- the room of the linear forwarding table of switch `g`; None if it is not known
+-- the number of LIDs for which the linear forwarding table of switch `g` has room; None if it is not known
 abbrev pub cap_of : List (Key × Cell Value) → ℕ → Option ℕ
 cap_of cells g = count_in (known_in cells (Cap g))

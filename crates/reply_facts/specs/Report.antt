@@ -32,7 +32,7 @@ or_else None next = next
 or_else (Some first) next = Some first
 
 -- the first reason why `packet` is not a GetResp with status 0 that has come back over a directed route; None if
--- `packet` is one
+-- `packet` is such an answer
 abbrev pub answer_fault : List ℕ → Option ReportFault
 answer_fault packet =
     if not (is_directed packet) then Some fault.Class
@@ -41,15 +41,15 @@ answer_fault packet =
     else if not (status packet == done) then Some fault.Status
     else None
 
--- whether the context fits an answer of NodeInfo over `hops` hops. `Start`, the sender's own node, fits 0 hops; `Via`
--- fits 1 hop or more; `About` fits no answer of NodeInfo
+-- whether the context fits an answer with NodeInfo over `hops` hops. `Start`, the sender's own node, fits 0 hops. `Via`
+-- fits 1 hop or more. `About` does not fit any answer with NodeInfo
 abbrev pub fits_node_info : Context → ℕ → Bool
 fits_node_info Start hops = hops == 0
 fits_node_info (Via guid port) hops = nat_lt 0 hops
 fits_node_info (About guid) hops = false
 
--- whether a node of type `kind` can have been asked through `port`. Port 0 is only possible at the manager's own node
--- (`Start`), if that is a switch. In the context `Via` the port `via` must be from 1 to 254
+-- whether a node of type `kind` can have been asked through `port`. Port 0 is possible only at the manager's own node
+-- (`Start`), and only if that node is a switch. In the context `Via`, the port `via` must be from 1 to 254
 abbrev pub may_be_asked_by : Context → NodeType → ℕ → Bool
 may_be_asked_by Start kind port = is_switch kind || nat_lt 0 port
 may_be_asked_by (Via guid via) kind port = nat_lt 0 port && is_cabled_port via
@@ -62,8 +62,8 @@ are_ports_in_range context kind info =
     is_cabled_port info.num_ports && nat_le info.local_port_num info.num_ports
     && may_be_asked_by context kind info.local_port_num
 
--- the fault of an answer of NodeInfo: its type is reserved, which is None here, or a port is out of range; None if
--- neither is so
+-- the fault of an answer with NodeInfo. The type is reserved, for which None is given here, or a port is out of range.
+-- None if neither is the case
 abbrev pub kind_fault : Context → NodeInfo → Option NodeType → Option ReportFault
 kind_fault context info None = Some fault.NodeType
 kind_fault context info (Some kind) = if are_ports_in_range context kind info then None else Some fault.Port
@@ -72,14 +72,15 @@ kind_fault context info (Some kind) = if are_ports_in_range context kind info th
 abbrev pub node_info_of : List ℕ → NodeInfo
 node_info_of packet = node_info_in (bytes_in attribute_data packet)
 
--- the first fault of an answer of NodeInfo: a context that does not fit, a reserved type, or a port out of range; None
--- if the answer has no fault
+-- the first fault of an answer with NodeInfo: a context that does not fit, a reserved type, or a port out of range;
+-- None if the answer has no fault
 abbrev pub node_info_fault : Context → List ℕ → Option ReportFault
 node_info_fault context packet =
     if not (fits_node_info context (number_in hop_count packet)) then Some fault.Context
     else kind_fault context (node_info_of packet) (type_of_number (node_info_of packet).node_type)
 
--- the node and the port that the request's path left last; None unless the context is `Via`
+-- the last node that the request's path leaves, and the port by which the path leaves it; None unless the context is
+-- `Via`
 abbrev pub via_of : Context → Option (ℕ × ℕ)
 via_of Start = None
 via_of (Via guid port) = Some (guid, port)
@@ -91,19 +92,19 @@ about_of Start = None
 about_of (Via guid port) = None
 about_of (About guid) = Some guid
 
--- the fault `Context` if the context is not `About`, as an answer of PortInfo or SwitchInfo needs; None if it is
+-- the fault `Context` if the context is not `About`, as answers with PortInfo or SwitchInfo need; None if it is `About`
 abbrev pub about_fault : Context → Option ReportFault
 about_fault context = if is_some (about_of context) then None else Some fault.Context
 
--- the first fault of an answer of PortInfo: a context that is not `About`, or a modifier over 254, which is the number
--- of the port; None if the answer has no fault
+-- the first fault of an answer with PortInfo: a context that is not `About`, or a modifier over 254. The modifier is
+-- the number of the port. None if the answer has no fault
 abbrev pub port_info_fault : Context → List ℕ → Option ReportFault
 port_info_fault context packet =
     or_else (about_fault context) (if nat_lt 254 (number_in attribute_modifier packet) then Some fault.Modifier else
     None)
 
 -- the first fault of an answer by its attribute: an attribute other than NodeInfo, PortInfo and SwitchInfo, or a fault
--- of an answer of that attribute; None if the answer has no fault
+-- of an answer with that attribute. None if the answer has no fault
 abbrev pub attribute_fault : Context → List ℕ → Option ReportFault
 attribute_fault context packet =
     if number_in attribute_id packet == node_info then node_info_fault context packet
@@ -120,8 +121,8 @@ packet_fault packet = or_else (option_map fault.Smp (fault_of packet)) (answer_f
 abbrev pub reply_fault : Context → List ℕ → Option ReportFault
 reply_fault context packet = or_else (answer_fault packet) (attribute_fault context packet)
 
--- the first fault of a report: generation 0, then a fault of its packet, then one by its attribute; None if the report
--- has no fault
+-- the first fault of a report: generation 0, then a fault of its packet, then a fault by its attribute; None if the
+-- report has no fault
 abbrev pub report_fault : Report → Option ReportFault
 report_fault report =
     if report.generation == 0 then Some fault.Generation
@@ -129,7 +130,7 @@ report_fault report =
 
 -- facts -------------------------------------------------------------------------------
 
--- sightings: keys with the cells that are said of them
+-- sightings: keys, each with the cell that is reported for it
 abbrev pub Sightings : Type 0
 Sightings = List (Key × Cell Value)
 
@@ -137,7 +138,7 @@ Sightings = List (Key × Cell Value)
 abbrev pub guid_port : NodeType → ℕ → ℕ
 guid_port kind local_port = if is_switch kind then 0 else local_port
 
--- the link between the port that was asked and the port before it on the path, in both directions; none unless the
+-- the link between the port that was asked and the port before it on the path, once from each end; none unless the
 -- context is `Via`
 abbrev pub sightings_of_link : ℕ → Context → NodeInfo → Sightings
 sightings_of_link generation (Via peer port) info =
@@ -146,8 +147,8 @@ sightings_of_link generation (Via peer port) info =
 sightings_of_link generation Start info = []
 sightings_of_link generation (About guid) info = []
 
--- the facts of an answer `info` of NodeInfo: type and port count of the node, a port's GUID and, if the context is
--- `Via`, the link; none if the type is reserved, which is None here
+-- the facts of an answer with the NodeInfo `info`: the type and port count of the node, a port's GUID and, if the
+-- context is `Via`, the link. None of these if the type is reserved, for which None is given here
 abbrev pub sightings_of_kind : ℕ → Context → NodeInfo → Option NodeType → Sightings
 sightings_of_kind generation context info None = []
 sightings_of_kind generation context info (Some kind) =
@@ -155,14 +156,14 @@ sightings_of_kind generation context info (Some kind) =
     ∷ (PortGuid info.node_guid (guid_port kind info.local_port_num), Known generation (Guid info.port_guid))
     ∷ sightings_of_link generation context info
 
--- the facts of an answer of NodeInfo: type and port count of the node, a port's GUID and, if the context is `Via`, the
--- link over which the request came; none if the type is reserved
+-- the facts of an answer with NodeInfo: the type and port count of the node, a port's GUID and, if the context is
+-- `Via`, the link over which the request came. No facts if the type is reserved
 abbrev pub sightings_by_node_info : ℕ → Context → List ℕ → Sightings
 sightings_by_node_info generation context packet =
     sightings_of_kind generation context (node_info_of packet) (type_of_number (node_info_of packet).node_type)
 
--- whether a port with this state number is up: Initialize, Armed and Active are, and Down, NoChange and reserved
--- numbers are not
+-- whether a port with this state number is up. Initialize, Armed and Active are up; Down, NoChange and reserved numbers
+-- are not
 abbrev pub is_up_state : ℕ → Bool
 is_up_state state = nat_le 2 state && nat_le state 4
 
@@ -170,7 +171,7 @@ is_up_state state = nat_le 2 state && nat_le state 4
 abbrev pub payload_of : List ℕ → List ℕ
 payload_of packet = bytes_in attribute_data packet
 
--- the facts of an answer of PortInfo: whether the port that the modifier names is up, and the LID that this port
+-- the facts of an answer with PortInfo: whether the port that the modifier names is up, and the LID that this port
 -- claims; none unless the context is `About`
 abbrev pub sightings_by_port_info : ℕ → Context → List ℕ → Sightings
 sightings_by_port_info generation (About node) packet = (
@@ -186,7 +187,7 @@ sightings_by_port_info generation (About node) packet = (
 sightings_by_port_info generation Start packet = []
 sightings_by_port_info generation (Via guid port) packet = []
 
--- the fact of an answer of SwitchInfo: how many LIDs the switch's forwarding table has room for; none unless the
+-- the fact of an answer with SwitchInfo: how many LIDs the switch's forwarding table has room for; none unless the
 -- context is `About`
 abbrev pub sightings_by_switch_info : ℕ → Context → List ℕ → Sightings
 sightings_by_switch_info generation (About node) packet =
@@ -194,7 +195,7 @@ sightings_by_switch_info generation (About node) packet =
 sightings_by_switch_info generation Start packet = []
 sightings_by_switch_info generation (Via guid port) packet = []
 
--- the facts of an answer by its attribute; an answer that is neither of NodeInfo nor of PortInfo is read as SwitchInfo
+-- the facts of an answer by its attribute. An answer that has neither NodeInfo nor PortInfo is read as SwitchInfo
 abbrev pub sightings_by_packet : ℕ → Context → List ℕ → Sightings
 sightings_by_packet generation context packet =
     if number_in attribute_id packet == node_info then sightings_by_node_info generation context packet

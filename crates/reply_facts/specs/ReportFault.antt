@@ -4,7 +4,7 @@ use Rattle.smp_bytes.specs.SmpFault.{smp_fault_name}
 use Rattle.reply_facts.specs.declared.report_fault.ReportFault.{ReportFault}
 use Rattle.reply_facts.specs.declared.report_fault.ReportFault.TheVariants.{Generation, Smp, Class, Method, Direction, Status, Attribute, Context, Modifier, NodeType, Port}
 
--- the name of a fault; a fault of the packet has the packet fault's name
+-- the name of a fault of a report; for a fault of the packet, the name of the packet's fault
 abbrev pub report_fault_name : ReportFault → List ℕ
 report_fault_name Generation = codes "Generation"
 report_fault_name (Smp fault) = smp_fault_name fault

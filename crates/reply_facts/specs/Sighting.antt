@@ -1,4 +1,5 @@
--- The range of a sighting: a key with its parts in range, and a value of the key's kind with its parts in range.
+-- The range of a sighting. The parts of its key are in range, and its value is of the key's kind and has its parts in
+-- range.
 use Rattle.std.specs.Prelude.{ℕ, ◌^◌, Bool, true, false, ◌&&◌, nat_le, nat_lt, IsTrue}
 use Rattle.fact_join.specs.declared.cell.Cell.{Cell}
 use Rattle.fact_join.specs.declared.cell.Cell.TheVariants.{Known, Disputed}
@@ -8,7 +9,7 @@ use Rattle.reply_facts.specs.declared.key.Key.TheVariants.{Node, PortGuid, Link,
 use Rattle.reply_facts.specs.declared.value.Value.{Value}
 use Rattle.reply_facts.specs.declared.value.Value.TheVariants.{Kind, Guid, Peer, Up, Lid, Count}
 
--- whether `port` is from 1 to 254, as the port of a cable is, and the port count of a node
+-- whether `port` is from 1 to 254, as the port of a cable and the port count of a node are
 abbrev pub is_cabled_port : ℕ → Bool
 is_cabled_port port = nat_le 1 port && nat_le port 254
 
@@ -20,8 +21,8 @@ is_any_port port = nat_le port 254
 abbrev pub is_guid : ℕ → Bool
 is_guid guid = nat_lt guid (2 ^ 64)
 
--- whether a key is in range: its GUID is less than 2^64, and its port is from 1 to 254 for a link, and from 0 to 254
--- for other keys that have one
+-- whether a key is in range. Its GUID must be less than 2^64. Its port must be from 1 to 254 for a link, and from 0 to
+-- 254 for other keys that have a port
 abbrev pub is_key : Key → Bool
 is_key (Node g) = is_guid g
 is_key (PortGuid g p) = is_guid g && is_any_port p
@@ -30,8 +31,8 @@ is_key (Port g p) = is_guid g && is_any_port p
 is_key (Claim g p) = is_guid g && is_any_port p
 is_key (Cap g) = is_guid g
 
--- whether a value is of the key's kind and in range: 1 to 254 ports, a GUID less than 2^64, a far port from 1 to 254, a
--- LID and a table's room less than 2^16
+-- whether a value is of the key's kind and in range. Port counts and far ports must be from 1 to 254, a GUID less than
+-- 2^64, and a LID and a table size less than 2^16
 abbrev pub is_value_of : Key → Value → Bool
 is_value_of (Node g) (Kind kind ports) = is_cabled_port ports
 is_value_of (PortGuid g p) (Guid guid) = is_guid guid

@@ -19,7 +19,7 @@ abbrev pub is_same_flag : Bool → Bool → Bool
 is_same_flag true b = b
 is_same_flag false b = not b
 
--- whether two values are of one kind and have equal parts
+-- whether two values are of the same kind and have equal parts
 abbrev pub is_same_value : Value → Value → Bool
 is_same_value (Kind a m) (Kind b n) = is_same_type a b && m == n
 is_same_value (Guid a) (Guid b) = a == b
@@ -29,7 +29,8 @@ is_same_value (Lid a) (Lid b) = a == b
 is_same_value (Count a) (Count b) = a == b
 is_same_value _ _ = false
 
--- whether two cells are equal: known at one generation with equal values, or disputed at one generation
+-- whether two cells are equal: both known in the same generation with equal values, or both disputed in the same
+-- generation
 abbrev pub is_same_cell : Cell Value → Cell Value → Bool
 is_same_cell (Known g a) (Known h b) = g == h && is_same_value a b
 is_same_cell (Known g a) (Disputed h) = false

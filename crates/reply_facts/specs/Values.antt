@@ -1,4 +1,4 @@
--- The tests of values and of cells are exact: they answer true exactly for equal ones.
+-- The tests of values and of cells are exact: they answer true exactly when the two are equal.
 use Rattle.std.proofs.Common.{◌≡◌, ℕ, refl, sym, ap, ◌∙◌, Bool, true, false, ◌==◌}
 use Rattle.std.proofs.lemmas.Bool.{and_parts, eqb-true, eq-eqb}
 use Rattle.std.specs.Cmp.{IsEquivalence, both_ways}
@@ -55,7 +55,7 @@ same_value_itself (Up false) = refl
 same_value_itself (Lid a) = same_number a
 same_value_itself (Count a) = same_number a
 
--- a test `same` that answers true exactly for equal values is an equivalence
+-- a test `same` that answers true exactly when two values are equal is an equivalence
 exact_equiv : {V : Type 0} (same : V → V → Bool) → ((x y : V) → same x y ≡ true → x ≡ y) → ((x : V) → same x x ≡ true)
     → IsEquivalence same
 exact_equiv same exact itself =

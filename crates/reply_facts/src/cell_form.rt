@@ -1,4 +1,4 @@
-//! The form of a cell: one byte in which a sighting holds the kind of its key, and a part of its cell. This part is a
+//! The form of a cell: one byte in which a sighting stores the kind of its key and a part of its cell. This part is a
 //! node type, a port's state, or that the cell is disputed.
 ghost use Rattle.std.specs.Prelude.{◌≡◌};
 ghost use Rattle.reply_facts.specs.CellForms.{disputed_form, form_kind, form_of, known_form};
@@ -47,7 +47,7 @@ impl CellForm {
     }
 }
 
-/// Returns the form of `cell` under `key`.
+/// Returns the form of `cell`, whose key is `key`.
 pub(crate) fn form_of(key: &Key, cell: &Cell<Value>) -> CellForm
     ensures { result ≡ form_of key.now cell.now }
 {
@@ -74,7 +74,7 @@ fn known_form(value: &Value) -> CellForm
     }
 }
 
-/// Returns the form of a disputed cell under `key`.
+/// Returns the form of a disputed cell whose key is `key`.
 fn disputed_form(key: &Key) -> CellForm
     ensures { result ≡ disputed_form key.now }
 {

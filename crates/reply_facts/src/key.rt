@@ -3,20 +3,20 @@ ghost use Rattle.std.specs.Prelude.{◌≡◌};
 use smp_bytes::{Guid, PortNum};
 use std::cmp::Ordering;
 
-/// The subject of a fact. Keys are ordered by kind, in the order of this list, then by GUID and by port.
+/// The subject of a fact. Keys are in the order of kind, as listed here, then of GUID, then of port.
 #[derive(Clone, Copy, Debug)]
 pub enum Key {
     /// A node, by its GUID.
     Node(Guid),
     /// The GUID of a port of a node.
     PortGuid(Guid, PortNum),
-    /// The other end of the cable of a port of a node.
+    /// The other end of the cable in a port of a node.
     Link(Guid, PortNum),
     /// Whether a port of a node is up.
     Port(Guid, PortNum),
     /// The LID that a port of a node claims.
     Claim(Guid, PortNum),
-    /// The room of a switch's linear forwarding table.
+    /// The number of LIDs for which a switch's linear forwarding table has room.
     Cap(Guid),
 }
 
@@ -63,7 +63,7 @@ impl Key {
         }
     }
 
-    /// Returns the GUID of the node.
+    /// Returns the GUID of the node that the key is about.
     pub fn guid(&self) -> Guid
         ensures { result ≡ key_guid self.now }
     {
@@ -77,7 +77,7 @@ impl Key {
         }
     }
 
-    /// Returns the port, or 0 if the key has no port.
+    /// Returns the port that the key is about, or 0 if the key has no port.
     pub fn port(&self) -> PortNum
         ensures { result ≡ key_port self.now }
     {

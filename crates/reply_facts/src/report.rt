@@ -4,7 +4,7 @@ ghost use Rattle.reply_facts.specs.Sighting.{is_guid};
 use smp_bytes::{Guid, PortNum};
 
 /// What a manager knows about the node that a reply came from. `Start` says that this node is the manager's own. `Via`
-/// has the node that the request's path leaves last, and the port by which the path leaves it. `About` has the GUID of
+/// has the last node that the request's path leaves, and the port by which the path leaves it. `About` has the GUID of
 /// the node that the reply came from.
 #[derive(Clone, Copy, Debug, PartialEq, Eq)]
 pub enum Context {
@@ -16,7 +16,7 @@ pub enum Context {
 impl Context {
     ghost use Rattle.reply_facts.specs.Report.{about_of, via_of};
 
-    /// Returns the node that the request's path leaves last, and the port by which the path leaves it. Returns `None`
+    /// Returns the last node that the request's path leaves, and the port by which the path leaves it. Returns `None`
     /// unless the context is `Via`.
     pub(crate) fn via(&self) -> Option<(Guid, PortNum)>
         ensures parts { result ≡ via_of self.now }

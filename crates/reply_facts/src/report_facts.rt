@@ -77,8 +77,8 @@ pub fn answer_fault(smp: &Smp) -> Option<ReportFault>
     }
 }
 
-/// Returns the facts in `smp`, by the attribute that `smp` carries, or the first fault. Does not judge whether `smp` is
-/// an answer.
+/// Returns the facts in `smp`, according to the attribute that `smp` carries, or the first fault. Does not judge
+/// whether `smp` is an answer.
 fn sightings_by_packet(
     generation: Generation,
     context: &Context,
@@ -97,7 +97,7 @@ fn sightings_by_packet(
     }
 }
 
-/// Returns the facts of an answer of NodeInfo, or its first fault.
+/// Returns the facts of an answer with NodeInfo, or the first fault of the answer.
 fn sightings_by_node_info(
     generation: Generation,
     context: &Context,
@@ -121,9 +121,9 @@ fn sightings_by_node_info(
     }
 }
 
-/// Returns the facts that an answer of NodeInfo contains about a node of type `kind`: its type and number of ports, and
-/// a port GUID. If the context is `Via`, the facts include both directions of the link over which the request came. The
-/// ports must be in range.
+/// Returns the facts that an answer with NodeInfo contains about a node of type `kind`: its type and number of ports,
+/// and a port GUID. If the context is `Via`, the facts include both directions of the link over which the request came.
+/// The ports must be in range.
 fn sightings_of_kind(
     generation: Generation,
     context: &Context,
@@ -154,7 +154,7 @@ fn sightings_of_kind(
     sightings
 }
 
-/// Returns whether an answer of NodeInfo over `hops` hops can have this `context`.
+/// Returns whether an answer with NodeInfo to a request over `hops` hops can have this `context`.
 fn fits_node_info(context: &Context, hops: u8) -> bool
     ensures { result ≡ fits_node_info context.now hops }
 {
@@ -165,8 +165,9 @@ fn fits_node_info(context: &Context, hops: u8) -> bool
     }
 }
 
-/// Returns whether the ports are in range. NumPorts must be from 1 to 254, and LocalPortNum at most NumPorts. The port
-/// in a `Via` context must be from 1 to 254. LocalPortNum may be 0 only if the node is the manager's own and a switch.
+/// Returns whether the ports of an answer with NodeInfo are in range. NumPorts must be from 1 to 254, and LocalPortNum
+/// at most NumPorts. The port in a `Via` context must be from 1 to 254. LocalPortNum may be 0 only if the node is the
+/// manager's own and a switch.
 fn are_ports_in_range(context: &Context, kind: NodeType, info: &NodeInfo) -> bool
     ensures { result ≡ are_ports_in_range context.now kind info.now }
 {
@@ -179,8 +180,8 @@ fn are_ports_in_range(context: &Context, kind: NodeType, info: &NodeInfo) -> boo
     is_cabled_port(info.num_ports) && asked_by <= info.num_ports && may_be_asked
 }
 
-/// Returns the facts of an answer of PortInfo, or its first fault. The facts are whether the port is up, and the LID
-/// that it claims.
+/// Returns the facts of an answer with PortInfo, or its first fault. The facts are whether the port is up, and the LID
+/// that the port claims.
 fn sightings_by_port_info(
     generation: Generation,
     context: &Context,
@@ -218,8 +219,8 @@ pub fn is_up(info: &PortInfo) -> bool
     }
 }
 
-/// Returns the fact of an answer of SwitchInfo, or its fault. The fact is how many LIDs the switch's linear forwarding
-/// table has room for.
+/// Returns the fact of an answer with SwitchInfo, or its fault. The fact is how many LIDs the switch's linear
+/// forwarding table has room for.
 fn sightings_by_switch_info(
     generation: Generation,
     context: &Context,

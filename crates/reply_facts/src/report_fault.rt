@@ -27,16 +27,16 @@ pub enum ReportFault {
     /// The attribute is not NodeInfo, PortInfo or SwitchInfo, and no facts are read from other attributes.
     #[error("Attribute")]
     Attribute,
-    /// The context does not fit the attribute or the number of hops.
+    /// The context does not fit the attribute, or does not fit the number of hops.
     #[error("Context")]
     Context,
     /// The attribute modifier of PortInfo is over 254, and thus names no port.
     #[error("Modifier")]
     Modifier,
-    /// The node type is a reserved number.
+    /// The number of the node type is reserved.
     #[error("NodeType")]
     NodeType,
-    /// A port or the number of ports in NodeInfo, or the port in the context, is out of range.
+    /// A port or the number of ports in NodeInfo is out of range, or the port in the context is.
     #[error("Port")]
     Port,
 }

@@ -12,7 +12,7 @@ use smp_bytes::{Generation, Guid, Lid, NodeType, PortNum};
 use std::cmp::Ordering;
 use std::marker::Model;
 
-/// A key with a cell, as a report says it or a store has it. Takes 24 bytes, since long lists hold and move sightings.
+/// A key with a cell, as it is in a report or in a store. Takes 24 bytes, since long lists contain and move sightings.
 #[derive(Clone, Copy, Debug)]
 pub struct Sighting {
     /// The GUID of the key.
@@ -20,7 +20,7 @@ pub struct Sighting {
     /// The GUID of the value, or 0 if the value has no GUID or the cell is disputed.
     other: Guid,
     generation: Generation,
-    /// The value's number of ports, port, LID or table room, or 0 if the value has none of these or the cell is
+    /// The value's number of ports, port, LID or table size, or 0 if the value has none of these or the cell is
     /// disputed.
     number: u16,
     /// The port of the key, or 0 if the key has no port.
@@ -81,7 +81,7 @@ impl Sighting {
     }
 
     /// Creates a sighting of `value`, as reported in `generation`, under `key`. `value` must be of the kind of `key`,
-    /// and all numbers in range.
+    /// and all numbers must be in range.
     pub(crate) fn known(generation: Generation, key: Key, value: Value) -> Self
         requires { IsSighting (key, Known generation value) }
         ensures { result ≡ (key, Known generation value) }
@@ -89,7 +89,7 @@ impl Sighting {
         Sighting::of(&key, &Cell::Known(generation, value))
     }
 
-    /// Creates a sighting of `cell` under `key`. The cell must fit the key, with all numbers in range.
+    /// Creates a sighting of `cell` under `key`. The cell must fit the key, and all numbers must be in range.
     fn of(key: &Key, cell: &Cell<Value>) -> Self
         requires { IsSighting (key.now, cell.now) }
         ensures { result ≡ (key.now, cell.now) }
@@ -104,7 +104,7 @@ impl Sighting {
         }
     }
 
-    /// Returns the key, which is the subject of the fact.
+    /// Returns the key, which says what the fact is about.
     pub fn key(&self) -> Key
         ensures value { result ≡ self.now.0 }
         ensures in_range { IsSighting self.now }
@@ -124,7 +124,7 @@ impl Sighting {
         }
     }
 
-    /// Compares the sighting's key with `other`.
+    /// Compares the key of this sighting with `other`.
     pub fn key_cmp(&self, other: &Key) -> Ordering
         ensures { result ≡ key_cmp self.now.0 other.now }
     {
@@ -136,7 +136,7 @@ impl Sighting {
         sort_key.cmp(&other.sort_key())
     }
 
-    /// Returns the cell: known with its generation and value, or disputed with its generation.
+    /// Returns the cell: `Known` with its generation and value, or `Disputed` with its generation.
     pub fn cell(&self) -> Cell<Value>
         ensures value { result ≡ self.now.1 }
         ensures in_range { IsSighting self.now }
@@ -181,8 +181,8 @@ fn other_of(cell: &Cell<Value>) -> Guid
     }
 }
 
-/// Returns the number in the value of `cell`: a number of ports, a port, a LID or a table room. Returns 0 if the value
-/// has no number, or if `cell` is disputed.
+/// Returns the number in the value of `cell`: a number of ports, a port, a LID, or the size of a table in LIDs. Returns
+/// 0 if the value has no number, or if `cell` is disputed.
 fn number_of(cell: &Cell<Value>) -> u16
     ensures { result ≡ number_of cell.now }
 {

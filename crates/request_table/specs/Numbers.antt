@@ -1,7 +1,8 @@
--- Requests in the order of their numbers, which rise.
+-- Requests in ascending order of their numbers.
 use Rattle.std.specs.Prelude.{◌≡◌, ℕ, ◌+◌, ◌≤◌, ◌^◌, not, List, [], ◌∷◌, filter, find, slice_get, ◌==◌, Option, Some, None}
 
--- a table of requests: the number of the next request, the requests, and for how many more requests there is memory
+-- a table of requests: the number of the next request, the requests, and the number of further requests for which there
+-- is memory
 pub record Table (T : Type 0) : Type 0 where
   pub next : ℕ
   pub requests : List T
@@ -25,7 +26,7 @@ with_number number n requests = find (λ r. number r == n) requests
 abbrev pub without_number : {T : Type 0} → (T → ℕ) → ℕ → List T → List T
 without_number number n requests = filter (λ r. not (number r == n)) requests
 
--- the given index is the index of the request in `found`; it is None only if `found` is None
+-- if an index is given, it is the index of the request in `found`; it is None only if `found` is None
 abbrev pub IsIndexFor : {T : Type 0} → Option T → List T → Option ℕ → Type 0
 IsIndexFor found requests None = found ≡ None
 IsIndexFor {T} found requests (Some index) = (r : T) × (slice_get requests index ≡ Some r) × (found ≡ Some r)

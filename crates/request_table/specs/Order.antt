@@ -1,4 +1,4 @@
--- Lists in an order, and the index at which a test changes from true to false.
+-- Lists whose items are in an order, and the index at which a test changes from true to false.
 use Rattle.std.specs.Prelude.{◌≡◌, ℕ, ◌≤◌, Bool, true, false, List, [], ◌∷◌, length}
 use Rattle.std.specs.List.{AllByRecursion}
 use Rattle.std.specs.List.Sorted.{IsPartitionPoint}

@@ -33,7 +33,7 @@ impl<T: Numbered> Model for RequestTable<T> {
 }
 
 impl<T: Numbered + Drop> RequestTable<T> {
-    /// Creates an empty table whose first request will have the number `first`. Does not allocate.
+    /// Creates an empty table, whose first request will have the number `first`. Does not allocate.
     pub fn new(alloc: Global, first: u32) -> Self
         ensures next { result.next ≡ first }
         ensures requests { result.requests ≡ [] }
@@ -44,7 +44,7 @@ impl<T: Numbered + Drop> RequestTable<T> {
         }
     }
 
-    /// Returns the number of the next request; 2^32 if no numbers are left.
+    /// Returns the number of the next request, or 2^32 if no numbers are left.
     pub fn next(&self) -> u64
         ensures next { result ≡ self.now.next }
         ensures numbered { AreNumbered T.number self.now.requests self.now.next }
@@ -75,8 +75,8 @@ impl<T: Numbered + Drop> RequestTable<T> {
         count as u64 <= 0x1_0000_0000 - self.next
     }
 
-    /// Reserves memory for `count` more requests. Returns an error if memory runs out. The requests, and the room that
-    /// there was, stay in either case.
+    /// Reserves memory for `count` more requests. Returns an error if memory runs out. In either case the requests
+    /// stay, and so does the memory that was already reserved.
     pub fn reserve(&mut self, count: usize) -> Result<(), AllocError>
         ensures next { self.new.next ≡ self.old.next }
         ensures requests { self.new.requests ≡ self.old.requests }
@@ -100,7 +100,7 @@ impl<T: Numbered + Drop> RequestTable<T> {
         self.next += 1;
     }
 
-    /// Returns the request at `index`, in ascending order of numbers, or `None` if the table has no such index.
+    /// Returns the request at `index`, in ascending order of numbers, or `None` if no request has this index.
     pub fn get(&self, index: usize) -> Option<&T>
         ensures { option_copied result ≡ slice_get self.now.requests index }
     {
@@ -132,7 +132,7 @@ impl<T: Numbered + Drop> RequestTable<T> {
         }
     }
 
-    /// Removes and returns the request at `index`, which must exist.
+    /// Removes the request at `index` and returns it. There must be a request at this index.
     pub fn end(&mut self, index: usize) -> T
         requires { index < length self.old.requests }
         ensures request { Some result ≡ slice_get self.old.requests index }

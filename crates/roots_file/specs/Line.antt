@@ -6,17 +6,17 @@ use Rattle.text_words.specs.Number.{number_of}
 use Rattle.roots_file.specs.declared.fault.RootsTextError.{RootsTextError}
 use Rattle.roots_file.specs.declared.fault.RootsTextError.TheVariants as wrong
 
--- the digits of a word: what follows `0x` if `word` begins with `0x`, else `word` itself
+-- the digits of a word: what follows `0x` if `word` begins with `0x`, and otherwise `word` itself
 abbrev pub digits_of : List ℕ → List ℕ
 digits_of word = if bytes_eq (take 2 word) (codes "0x") then drop 2 word else word
 
--- the root that `digits` spell, given the number that they spell in hex: `Syntax` if they spell none (None); `Guid` if
--- there are over sixteen digits or the number is 0
+-- the root that `digits` spell, given the number that they spell in hex. The fault is `Syntax` if they do not spell a
+-- number, for which None is given, and `Guid` if there are over sixteen digits or the number is 0
 abbrev pub guid_by : List ℕ → Option ℕ → Result ℕ RootsTextError
 guid_by digits None = Err wrong.Syntax
 guid_by digits (Some n) = if nat_le (length digits) 16 && not (n == 0) then Ok n else Err wrong.Guid
 
--- the root that `word` names in hex digits, with or without `0x`; `Syntax` or `Guid` if `word` names none
+-- the root that `word` names in hex digits, with or without `0x`; `Syntax` or `Guid` if `word` does not name a root
 abbrev pub root_of : List ℕ → Result ℕ RootsTextError
 root_of word = guid_by (digits_of word) (number_of 16 (digits_of word))
 
@@ -25,7 +25,8 @@ abbrev pub on_line : Result ℕ RootsTextError → Result (Option ℕ) RootsText
 on_line (Ok root) = Ok (Some root)
 on_line (Err what) = Err what
 
--- what the words of a line say: nothing if there is no word, a root if there is one; `Syntax` if there are more
+-- what the words of a line say: nothing if there is no word, and a root if there is one word; `Syntax` if there are
+-- more
 abbrev pub root_in : List (List ℕ) → Result (Option ℕ) RootsTextError
 root_in [] = Ok None
 root_in (word ∷ []) = on_line (root_of word)

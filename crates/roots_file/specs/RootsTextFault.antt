@@ -10,7 +10,7 @@ use Rattle.roots_file.specs.declared.fault.RootsTextError.TheVariants.{Syntax, G
 abbrev pub RootsLineFault : Type 0
 RootsLineFault = LineFault RootsTextError
 
--- why a text of roots is not read: the fault of a line, or lack of memory
+-- why a text of roots is not read: the fault of a line, or a lack of memory
 abbrev pub RootsTextFault : Type 0
 RootsTextFault = LinesFault RootsTextError
 
@@ -20,7 +20,8 @@ wrong_word Syntax = codes "syntax"
 wrong_word Guid = codes "guid"
 wrong_word Repeated = codes "repeated"
 
--- the result is `told`, what the text says: the roots or the first fault. `Memory` is possible whatever the text says
+-- the result is `told`, which is what the text says: the roots or the first fault. The result can also be `Memory`,
+-- whatever the text says
 abbrev pub Reads : Result (List ℕ) RootsTextFault → Result (List ℕ) RootsLineFault → Type 0
 Reads (Ok roots) told = told ≡ Ok roots
 Reads (Err (Line fault)) told = told ≡ Err fault

@@ -3,11 +3,11 @@ use text_words::{LineError, LineFault, LinesFault};
 /// A fault of a line of a text of roots.
 #[derive(Clone, Copy, Debug, PartialEq, Eq)]
 pub enum RootsTextError {
-    /// The line has more than one word, or a word that is not hex digits, with or without `0x`.
+    /// The line has more than one word, or has a word that is not hex digits, with or without `0x`.
     Syntax,
     /// The GUID is 0, or has more than 16 digits.
     Guid,
-    /// The GUID is also on a line above.
+    /// The GUID is also on an earlier line.
     Repeated,
 }
 

@@ -1,4 +1,4 @@
-//! The text of roots: GUIDs of switches, one a line.
+//! The text of roots: GUIDs of switches, one on each line.
 #![tactic(auto)]
 
 mod fault;

@@ -23,7 +23,7 @@ pub(crate) fn root_on(line: &[u8]) -> Result<Option<Guid>, RootsTextError>
 }
 
 /// Parses a root: 1 to 16 hex digits, not all 0, with or without `0x`. Returns `Guid` if there are more digits or the
-/// number is 0, and `Syntax` if `word` is not hex digits, with or without `0x`.
+/// number is 0. Returns `Syntax` if `word` is not hex digits, with or without `0x`.
 #[tactic(auto, using(crate::proofs::Guids::whole, crate::proofs::Guids::long, crate::proofs::Guids::zero_is_none, crate::proofs::Guids::no_digits))]
 fn root(word: &[u8]) -> Result<Guid, RootsTextError>
     ensures { result ≡ root_of word.now }

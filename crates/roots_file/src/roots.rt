@@ -12,7 +12,7 @@ use std::marker::Model;
 #[derive(Drop)]
 pub(crate) struct Roots {
     guids: Vec<Guid>,
-    /// The set of the roots, to find repeated ones.
+    /// The set of the roots, which finds repeated roots.
     seen: BTreeSet<Guid>,
 }
 
@@ -38,8 +38,8 @@ impl Roots {
         }
     }
 
-    /// Appends `root`, which line `line` names. Returns `Repeated` at that line if the list already has `root`, and
-    /// `Memory` if memory is refused. Takes time logarithmic in the number of roots.
+    /// Appends `root`, which the line with the number `line` names. Returns `Repeated` at that line if the list already
+    /// has `root`, and `Memory` if memory is refused. Takes time logarithmic in the number of roots.
     pub(crate) fn with(self, line: usize, root: Guid) -> Result<Self, RootsTextFault>
         ensures { Reads result (root_more line self root) }
     {

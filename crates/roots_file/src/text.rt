@@ -15,8 +15,8 @@ use smp_bytes::Guid;
 use std::alloc::Global;
 use text_words::{LinesFault, split_line};
 
-/// Parses a text of roots: one GUID a line, as 1 to 16 hex digits, with or without `0x`. Lines end with LF or CR LF,
-/// empty ones are skipped, and `#` begins a comment:
+/// Parses a text of roots. Each line has one GUID, as 1 to 16 hex digits, with or without `0x`. Lines end with LF or CR
+/// LF, empty lines are skipped, and `#` begins a comment:
 ///
 /// ```text
 /// # the cores
@@ -24,8 +24,8 @@ use text_words::{LinesFault, split_line};
 /// 2c903000010b0
 /// ```
 ///
-/// Takes time linear in the number of bytes, and for each line logarithmic in the number of roots. If memory runs out,
-/// also takes a walk over the lines above for each line.
+/// Takes time linear in the number of bytes and, for each line, logarithmic in the number of roots. If memory runs out,
+/// also walks, for each line, the lines above it.
 ///
 /// # Errors
 ///
@@ -45,7 +45,8 @@ pub fn parse(alloc: Global, text: &[u8]) -> Result<Vec<Guid>, RootsTextFault>
     }
 }
 
-/// Returns the roots that the lines of `text` name, or their first fault, or `Memory` if memory is refused before.
+/// Returns the roots that the lines of `text` name, or the first fault of the lines. Returns `Memory` if memory is
+/// refused before the first fault.
 #[tactic(auto, using(crate::proofs::Folds::reading))]
 fn read_lines(alloc: Global, text: &[u8]) -> Result<Roots, RootsTextFault>
     ensures { Reads result (roots_of text.now) }
@@ -94,7 +95,7 @@ fn first_fault(text: &[u8]) -> Option<RootsLineFault>
     None
 }
 
-/// Returns the fault, if there is one, of `line` below the first `above` lines of `text`.
+/// Returns the fault of `line`, or `None` if it has no fault. `line` comes after the first `above` lines of `text`.
 fn wrong_below(text: &[u8], above: usize, line: &[u8]) -> Option<RootsTextError>
     ensures { result ≡ wrong_below (take above (lines text.now)) (root_on line.now) }
 {

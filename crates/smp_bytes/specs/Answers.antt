@@ -1,5 +1,5 @@
--- When a packet answers a request: it has the request's TransactionID, attribute, modifier, class and path. InfiniBand
--- Architecture Specification, Volume 1: management datagrams, TransactionID; directed route SMPs.
+-- When a packet answers a request: when it has the request's TransactionID, attribute, modifier, class and path.
+-- InfiniBand Architecture Specification, Volume 1: management datagrams, TransactionID; directed route SMPs.
 use Rattle.std.specs.Prelude.{ℕ, ◌+◌, Bool, true, ◌&&◌, not, List, [], ◌∷◌, length, ◌==◌, Option, Some, None}
 use Rattle.smp_bytes.specs.Field.{number_in}
 use Rattle.smp_bytes.specs.Packet.{transaction_id, attribute_id, attribute_modifier, hop_count, initial_path, is_directed}

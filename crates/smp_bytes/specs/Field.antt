@@ -1,4 +1,4 @@
--- Fields of a packet or an attribute: a number in whole bytes, or in some bits of one byte.
+-- Fields of a packet or an attribute. A field has a number in whole bytes, or in some bits of one byte.
 use Rattle.std.specs.Prelude.{ℕ, ◌+◌, ◌/◌, ◌%◌, ◌*◌, ◌^◌, ◌==◌, Bool, not, ◌||◌, List, [], ◌∷◌, ◌++◌, take, drop, slice_index, length, nat_le}
 use Rattle.byteorder.specs.Endian.{big_number, big_bytes}
 
@@ -51,7 +51,8 @@ abbrev pub with_numbers : List Entry → List ℕ → List ℕ
 with_numbers [] bytes = bytes
 with_numbers (e ∷ entries) bytes = with_numbers entries (with_number e.field e.number bytes)
 
--- `byte` with `number` written into its bits `bits`; if `number` fits them, the bits above and below stay
+-- `byte`, with `number` written into its bits `bits`. If `number` fits in these bits, the bits above and below them
+-- stay
 abbrev pub replaced : Bits → ℕ → ℕ → ℕ
 replaced bits number byte =
     (byte / 2 ^ (bits.shift + bits.width) * 2 ^ bits.width + number) * 2 ^ bits.shift + byte % 2 ^ bits.shift
@@ -61,6 +62,6 @@ abbrev pub with_bits : Bits → ℕ → List ℕ → List ℕ
 with_bits bits number bytes =
     with_number (record { at = bits.at; len = 1 }) (replaced bits number (slice_index bytes bits.at)) bytes
 
--- whether the bits `a` and `b` are in different bytes, or all of one are above all of the other
+-- whether the bits `a` and `b` are in different bytes, or all bits of one are above all bits of the other
 abbrev pub are_bits_apart : Bits → Bits → Bool
 are_bits_apart a b = not (a.at == b.at) || (nat_le (a.shift + a.width) b.shift || nat_le (b.shift + b.width) a.shift)

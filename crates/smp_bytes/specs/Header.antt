@@ -27,7 +27,7 @@ set = 0x02
 abbrev pub get_resp : ℕ
 get_resp = 0x81
 
--- the statuses: of a request that was done, and of requests that were refused
+-- the statuses: that of a request that was done, and those of requests that were refused
 
 -- the status of a request that was done
 abbrev pub done : ℕ

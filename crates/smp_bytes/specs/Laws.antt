@@ -1,4 +1,4 @@
--- Laws of writes into a field, or into bits of a byte: what was written is read, and all else stays.
+-- Laws of writes into a field, or into bits of a byte: what was written is read, and everything else stays.
 use Rattle.std.specs.Prelude.{◌≡◌, ◌≢◌, ℕ, ◌+◌, ◌^◌, ◌<◌, ◌≤◌, ◌⊎◌, List, All, length, slice_index, true}
 use Rattle.smp_bytes.specs.Field.{Field, Bits, number_in, bits_in, with_number, with_bits, are_apart, are_bits_apart}
 
@@ -8,37 +8,36 @@ use Rattle.smp_bytes.specs.Field.{Field, Bits, number_in, bits_in, with_number, 
 abbrev pub LiesIn : Field → List ℕ → Type 0
 LiesIn field bytes = field.at + field.len ≤ length bytes
 
--- a number that is written into `field` is read from it, if `field` lies within `bytes` and the number fits `field`
+-- if `field` lies within `bytes` and a number fits in `field`, the number that is written into `field` is read from it
 abbrev pub NumberIsRead : Type 0
 NumberIsRead = (field : Field) (number : ℕ) (bytes : List ℕ) → LiesIn field bytes → number < 256 ^ field.len
     → number_in field (with_number field number bytes) ≡ number
 
--- a write into `field` leaves the number in the field `other`, if `field` lies within `bytes` and the two fields are
--- apart
+-- if `field` lies within `bytes`, a write into `field` keeps the number of each field `other` that is apart from it
 abbrev pub FieldApartStays : Type 0
 FieldApartStays =
     (other field : Field) (number : ℕ) (bytes : List ℕ) → LiesIn field bytes → are_apart other field ≡ true
     → number_in other (with_number field number bytes) ≡ number_in other bytes
 
--- `new` is as long as `old`, and has the bytes of `old` outside `field`
+-- `new` is as long as `old`, and has the same bytes as `old` outside `field`
 pub record KeepsBytesOutside (field : Field) (old new : List ℕ) : Type 0 where
   pub count : length new ≡ length old
   pub outside : (offset : ℕ) → (offset < field.at) ⊎ (field.at + field.len ≤ offset) → slice_index new offset
       ≡ slice_index old offset
 
--- a write into `field` keeps the length of `bytes` and each byte outside `field`, if `field` lies within `bytes`
+-- if `field` lies within `bytes`, a write into `field` keeps the length of `bytes` and each byte outside `field`
 abbrev pub BytesOutsideStay : Type 0
 BytesOutsideStay = (field : Field) (number : ℕ) (bytes : List ℕ) → LiesIn field bytes
     → KeepsBytesOutside field bytes (with_number field number bytes)
 
--- `new` is `old` with `number` written into `field`, if `new` has `number` there and the bytes of `old` outside
+-- if `new` has `number` in `field` and the bytes of `old` outside `field`, `new` is `old` with `number` written into
 -- `field`. Two more premises: `field` lies within `old`, and the bytes of `new` are below 256
 abbrev pub WriteIsUnique : Type 0
 WriteIsUnique =
     (field : Field) (number : ℕ) (old new : List ℕ) → LiesIn field old → All (λ byte. byte < 256) new
     → KeepsBytesOutside field old new → number_in field new ≡ number → new ≡ with_number field number old
 
--- of two writes into `field`, only the later has an effect, if `field` lies within `bytes`
+-- if `field` lies within `bytes`, only the later of two writes into `field` has an effect
 abbrev pub LastWriteStands : Type 0
 LastWriteStands = (field : Field) (number before : ℕ) (bytes : List ℕ) → LiesIn field bytes
     → with_number field number (with_number field before bytes) ≡ with_number field number bytes
@@ -51,27 +50,28 @@ pub record AreBitsIn (bits : Bits) (bytes : List ℕ) : Type 0 where
   pub byte : slice_index bytes bits.at < 256
   pub within : bits.shift + bits.width ≤ 8
 
--- a number that is written into `bits` is read from them, if `bits` lie in `bytes` (`AreBitsIn`) and the number fits
--- them
+-- if `bits` lie in `bytes` (`AreBitsIn`) and a number fits in `bits`, the number that is written into `bits` is read
+-- from them
 abbrev pub BitsAreRead : Type 0
 BitsAreRead = (bits : Bits) (number : ℕ) (bytes : List ℕ) → AreBitsIn bits bytes → number < 2 ^ bits.width
     → bits_in bits (with_bits bits number bytes) ≡ number
 
--- a write into `bits` leaves the number in the bits `other`, if these are apart from `bits`. Two more premises: `bits`
--- lie in `bytes` (`AreBitsIn`), and the number fits them
+-- if the bits `other` are apart from `bits`, a write into `bits` keeps the number in `other`. Two more premises: `bits`
+-- lie in `bytes` (`AreBitsIn`), and the number fits in them
 abbrev pub BitsApartStay : Type 0
 BitsApartStay = (other bits : Bits) (number : ℕ) (bytes : List ℕ) → AreBitsIn bits bytes → number < 2 ^ bits.width
     → are_bits_apart other bits ≡ true
     → bits_in other (with_bits bits number bytes) ≡ bits_in other bytes
 
--- `new` is as long as `old`, and has each byte of `old` except the one with `bits`; that byte of `new` is below 256
+-- `new` is as long as `old`, and has the same bytes as `old`, except for the byte with `bits`. This byte of `new` is
+-- below 256
 pub record KeepsOtherBytes (bits : Bits) (old new : List ℕ) : Type 0 where
   pub count : length new ≡ length old
   pub byte : slice_index new bits.at < 256
   pub others : (offset : ℕ) → offset ≢ bits.at → slice_index new offset ≡ slice_index old offset
 
--- a write into `bits` keeps the length of `bytes` and all other bytes (`KeepsOtherBytes`), if `bits` lie in `bytes`
--- (`AreBitsIn`) and the number fits them
+-- if `bits` lie in `bytes` (`AreBitsIn`) and the number fits in them, a write into `bits` keeps the length of `bytes`
+-- and all other bytes (`KeepsOtherBytes`)
 abbrev pub OtherBytesStay : Type 0
 OtherBytesStay = (bits : Bits) (number : ℕ) (bytes : List ℕ) → AreBitsIn bits bytes → number < 2 ^ bits.width
     → KeepsOtherBytes bits bytes (with_bits bits number bytes)

@@ -14,7 +14,7 @@ has_lid base lmc lid = if base == 0 then lid == 0 else is_among base (2 ^ lmc) l
 abbrev pub lid_end : ℕ
 lid_end = 0xC000
 
--- whether an end port may have the LID `base` and the LMC `lmc`: the LID is 0, or it is a multiple of 2^LMC and all
--- LIDs of the port are below 0xC000
+-- whether an end port may have the LID `base` and the LMC `lmc`. It may if the LID is 0, or if the LID is a multiple of
+-- 2^LMC and all LIDs of the port are below 0xC000
 abbrev pub may_have : ℕ → ℕ → Bool
 may_have base lmc = base == 0 || (base % 2 ^ lmc == 0 && nat_le (base + 2 ^ lmc) lid_end)

@@ -31,7 +31,7 @@ method = record { at = 3; len = 1 }
 abbrev pub response_bit : Bits
 response_bit = record { at = 3; shift = 7; width = 1 }
 
--- the status as a field; in the directed class its highest bit is the D bit
+-- the status as a field; in the directed class, its highest bit is the D bit
 abbrev pub status_word : Field
 status_word = record { at = 4; len = 2 }
 
@@ -107,8 +107,8 @@ is_returning packet = bits_in direction_bit packet == 1
 abbrev pub status : List ℕ → ℕ
 status packet = if is_directed packet then number_in status_word packet % 2 ^ 15 else number_in status_word packet
 
--- the permissive LID: in DrSLID it says that a packet has no LID-routed part before its directed route, and in DrDLID
--- that it has none after
+-- the permissive LID. In DrSLID it says that no LID-routed part comes before the directed route, and in DrDLID that
+-- none comes after it
 abbrev pub permissive_lid : ℕ
 permissive_lid = 0xFFFF
 
@@ -116,7 +116,7 @@ permissive_lid = 0xFFFF
 abbrev pub max_hops : ℕ
 max_hops = 63
 
--- the first fault in the fields that only the directed class has; None if there is none
+-- the first fault in the fields that only the directed class has; None if these fields have no fault
 abbrev pub directed_fault_of : List ℕ → Option SmpFault
 directed_fault_of packet =
     if nat_lt max_hops (number_in hop_count packet) then Some HopCount
@@ -125,7 +125,7 @@ directed_fault_of packet =
     && number_in dr_dlid packet == permissive_lid) then Some DrLid
     else None
 
--- the first fault of 256 bytes; None if they are a packet
+-- the first fault of 256 bytes; None if they form a packet
 abbrev pub fault_of : List ℕ → Option SmpFault
 fault_of packet =
     if not (number_in base_version packet == 1) then Some BaseVersion

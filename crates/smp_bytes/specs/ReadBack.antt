@@ -1,4 +1,4 @@
--- What built packets hold: requests, answers, and a packet after its status is written. InfiniBand Architecture
+-- What built packets contain: requests, answers, and a packet after its status is written. InfiniBand Architecture
 -- Specification, Volume 1: SMP formats; management methods; directed route SMPs.
 use Rattle.std.specs.Prelude.{◌≡◌, ℕ, ◌+◌, ◌^◌, ◌<◌, ◌≤◌, ◌⊎◌, List, All, length, slice_index, None, true}
 use Rattle.smp_bytes.specs.Field.{Field, number_in, bytes_in, with_number}
@@ -10,7 +10,7 @@ use Rattle.smp_bytes.specs.Requests.{directed, lid_routed, answer_packet, word_w
 abbrev pub reserved_after_attribute_id : Field
 reserved_after_attribute_id = record { at = 18; len = 2 }
 
--- `packet` is 256 bytes without a fault, with the given method, TransactionID, attribute, modifier and payload. Its
+-- `packet` has 256 bytes and no fault. It has the given method, TransactionID, attribute, modifier and payload. Its
 -- versions are 1, and its status, its M_Key and the reserved bytes after AttributeID are 0
 pub record HoldsRequest (packet : List ℕ) (method_number attribute modifier tid : ℕ) (payload : List ℕ) : Type 0 where
   pub count : length packet ≡ 256
@@ -26,8 +26,8 @@ pub record HoldsRequest (packet : List ℕ) (method_number attribute modifier ti
   pub m_key : number_in m_key packet ≡ 0
   pub attribute_data : bytes_in attribute_data packet ≡ payload
 
--- `packet` is directed over `path`, with no LID-routed part. HopPointer is 0, InitialPath is 0 except for the ports of
--- `path`, and ReturnPath and the reserved bytes after DrDLID are 0
+-- `packet` is directed over `path`, with no LID-routed part. HopPointer is 0. InitialPath is 0 except for the ports of
+-- `path`. ReturnPath and the reserved bytes after DrDLID are 0
 pub record HoldsPath (packet path : List ℕ) : Type 0 where
   pub class : number_in mgmt_class packet ≡ directed_class
   pub hop_pointer : number_in hop_pointer packet ≡ 0
@@ -40,14 +40,14 @@ pub record HoldsPath (packet path : List ℕ) : Type 0 where
   pub behind : (i : ℕ) → length path < i → i < 64 → number_in (initial_path i) packet ≡ 0
   pub return_path : (i : ℕ) → i < 64 → number_in (return_path i) packet ≡ 0
 
--- `packet` is LID routed, and 0 in the bytes that only directed packets use
+-- `packet` is LID routed, and is 0 in the bytes that only directed packets use
 pub record HoldsNoPath (packet : List ℕ) : Type 0 where
   pub class : number_in mgmt_class packet ≡ lid_routed_class
   pub no_hops : number_in (record { at = 6; len = 2 }) packet ≡ 0
   pub reserved_before : number_in (record { at = 32; len = 32 }) packet ≡ 0
   pub reserved_behind : number_in (record { at = 128; len = 128 }) packet ≡ 0
 
--- each given number fits its field of a request, and `payload` has 64 bytes
+-- each given number fits in its field of a request, and `payload` has 64 bytes
 pub record FitsRequest (method_number attribute modifier tid : ℕ) (payload : List ℕ) : Type 0 where
   pub method : method_number < 2 ^ 8
   pub attribute_id : attribute < 2 ^ 16
@@ -55,7 +55,8 @@ pub record FitsRequest (method_number attribute modifier tid : ℕ) (payload : L
   pub transaction_id : tid < 2 ^ 64
   pub attribute_data : length payload ≡ 64
 
--- a directed request holds what it was built from, if that fits (`FitsRequest`) and `path` has at most 63 ports
+-- if what a directed request is built from fits (`FitsRequest`) and `path` has at most 63 ports, the request contains
+-- it
 abbrev pub DirectedReadsBack : Type 0
 DirectedReadsBack =
     (method_number attribute modifier tid : ℕ) (path payload : List ℕ)
@@ -64,7 +65,7 @@ DirectedReadsBack =
     payload
     × HoldsPath (directed method_number attribute modifier tid path payload) path
 
--- a LID-routed request holds what it was built from, if that fits (`FitsRequest`)
+-- if what a LID-routed request is built from fits (`FitsRequest`), the request contains it
 abbrev pub LidRoutedReadsBack : Type 0
 LidRoutedReadsBack =
     (method_number attribute modifier tid : ℕ) (payload : List ℕ)
@@ -90,8 +91,8 @@ pub record HoldsAnswer (request answer : List ℕ) (given : ℕ) (payload : List
   pub attribute_data : bytes_in attribute_data answer ≡ payload
   pub kept : (offset : ℕ) → IsKeptInAnswer offset → slice_index answer offset ≡ slice_index request offset
 
--- the answer to the packet `request` holds `given` and `payload` (`HoldsAnswer`), if `payload` has 64 bytes and `given`
--- fits: it is below 2^16, and below 2^15 if `request` is directed
+-- if `payload` has 64 bytes and the status `given` fits, the answer to the packet `request` contains both
+-- (`HoldsAnswer`). `given` fits if it is below 2^16, and below 2^15 if `request` is directed
 abbrev pub AnswerReadsBack : Type 0
 AnswerReadsBack =
     (request : List ℕ) (given : ℕ) (payload : List ℕ) → length request ≡ 256 → fault_of request ≡ None → length payload
@@ -105,8 +106,8 @@ pub record HoldsStatus (old new : List ℕ) (given : ℕ) : Type 0 where
   pub status : status new ≡ given
   pub returning : is_directed old ≡ true → is_returning new ≡ is_returning old
 
--- a packet holds the status `given` that is written into it (`HoldsStatus`), if `packet` is 256 bytes and `given` fits:
--- it is below 2^16, and below 2^15 if `packet` is directed
+-- if `packet` has 256 bytes and the status `given` fits, a packet contains the status that is written into it
+-- (`HoldsStatus`). `given` fits if it is below 2^16, and below 2^15 if `packet` is directed
 abbrev pub StatusReadsBack : Type 0
 StatusReadsBack =
     (packet : List ℕ) (given : ℕ) → length packet ≡ 256 → All (λ byte. byte < 256) packet

@@ -13,7 +13,7 @@ request_entries class method_number attribute modifier tid =
     ∷ record { field = transaction_id; number = tid } ∷ record { field = attribute_id; number = attribute }
     ∷ record { field = attribute_modifier; number = modifier } ∷ []
 
--- the further fields of a directed request of `hops` hops without a LID-routed part, with their numbers
+-- the further fields of a directed request, with their numbers. The request has `hops` hops and no LID-routed part
 abbrev pub path_entries : ℕ → List Entry
 path_entries hops =
     record { field = hop_count; number = hops } ∷ record { field = dr_slid; number = permissive_lid }
@@ -39,7 +39,7 @@ directed method_number attribute modifier tid path payload =
 abbrev pub answer_status : List ℕ → ℕ → ℕ
 answer_status packet status = if is_directed packet then 2 ^ 15 + status else status
 
--- the answer to the request `packet`: method, status and attribute are replaced, and all else stays
+-- the answer to the request `packet`: method, status and attribute are replaced, and everything else stays
 abbrev pub answer_packet : List ℕ → ℕ → List ℕ → List ℕ
 answer_packet packet status payload =
     with_bytes attribute_data.at payload

@@ -9,7 +9,7 @@ ghost use Rattle.smp_bytes.specs.ReadBack.{DirectedReadsBack, LidRoutedReadsBack
 
 use crate::header::{AttributeId, Method, Status};
 
-/// A number that is written into a field is read from it, if the field lies within the bytes and the number fits.
+/// If a field lies within the bytes and a number fits in it, the number that is written into the field is read from it.
 pub fn written_number_is_read()
     ensures { NumberIsRead }
 {}
@@ -19,7 +19,7 @@ pub fn field_apart_stays()
     ensures { FieldApartStays }
 {}
 
-/// A write into a field within the bytes keeps their count and every byte outside the field.
+/// A write into a field within the bytes keeps the number of bytes and every byte outside the field.
 pub fn bytes_outside_field_stay()
     ensures { BytesOutsideStay }
 {}
@@ -34,7 +34,7 @@ pub fn last_write_stands()
     ensures { LastWriteStands }
 {}
 
-/// A number that is written into some bits of a byte is read from them, if the number fits them.
+/// If a number fits in some bits of a byte, the number that is written into these bits is read from them.
 pub fn written_bits_are_read()
     ensures { BitsAreRead }
 {}
@@ -49,27 +49,27 @@ pub fn other_bytes_stay()
     ensures { OtherBytesStay }
 {}
 
-/// A directed request holds the given method, attribute, modifier, TransactionID, path and data, if each of them fits.
-/// HopPointer is 0, and HopCount is the path's length. DrSLID and DrDLID are the permissive LID. All else except the
-/// versions and the class is 0.
+/// A directed request contains the given method, attribute, modifier, TransactionID, path and data, if each of them
+/// fits. HopPointer is 0, and HopCount is the length of the path. DrSLID and DrDLID are the permissive LID. Everything
+/// else is 0, except for the versions and the class.
 pub fn directed_request_reads_back()
     ensures { DirectedReadsBack }
 {}
 
-/// A LID-routed request holds the given method, attribute, modifier, TransactionID and data, if each of them fits. All
-/// else except the versions and the class is 0.
+/// A LID-routed request contains the given method, attribute, modifier, TransactionID and data, if each of them fits.
+/// Everything else is 0, except for the versions and the class.
 pub fn lid_routed_request_reads_back()
     ensures { LidRoutedReadsBack }
 {}
 
-/// An answer to a packet holds the given status and data, if each of them fits. The method is GetResp. If the request
-/// is directed, the D bit of the answer is set. All other bytes are those of the request.
+/// An answer to a packet contains the given status and data, if each of them fits. The method is GetResp. If the
+/// request is directed, the D bit of the answer is set. All other bytes are those of the request.
 pub fn answer_reads_back()
     ensures { AnswerReadsBack }
 {}
 
-/// A status that is written into a packet is read from it, if the status fits. The class stays, and so does the D bit
-/// of a directed packet.
+/// A status that is written into a packet is read from it, if the status fits. The class of the packet stays, and so
+/// does the D bit of a directed packet.
 pub fn status_reads_back()
     ensures { StatusReadsBack }
 {}

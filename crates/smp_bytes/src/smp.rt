@@ -218,7 +218,7 @@ impl Smp {
     }
 }
 
-/// Returns the first fault of `bytes`, or `None` if they are a packet.
+/// Returns the first fault of `bytes`, or `None` if they form a packet.
 fn fault_of(bytes: &[u8; 256]) -> Option<SmpFault>
     ensures { result ≡ fault_of bytes.now }
 {

@@ -90,7 +90,8 @@ fn reads_each_field(rt: HostRuntime) -> Result<(), Fail> {
     Ok(())
 }
 
-/// The offset of a byte of the reply, its new value, and the fault that it causes with its name.
+/// The offset of a byte of the reply, the new value of that byte, the fault that this causes, and the name of the
+/// fault.
 const CHANGES: [(usize, u8, SmpFault, &str); 7] = [
     (0, 2, SmpFault::BaseVersion, "BaseVersion"),
     (1, 0x82, SmpFault::Class, "Class"),

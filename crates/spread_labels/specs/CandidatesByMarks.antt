@@ -1,4 +1,4 @@
--- The candidates of a vertex by the marks of vertices alone, and the candidate that a number chooses.
+-- The candidates of a vertex, found from the marks of vertices alone, and the candidate that a number chooses.
 use Rattle.std.specs.Prelude.{◌≡◌, ◌<◌, ℕ, suc, ◌&&◌, ◌||◌, ◌==◌, ◌%◌, Bool, false}
 use Rattle.std.specs.Prelude.{nat_lt, List, [], ◌∷◌, filter, length, Option, None, Some, slice_get, slice_index_or}
 use Rattle.port_graph.specs.declared.edge.Edge.{Edge}
@@ -7,14 +7,15 @@ use Rattle.spread_labels.specs.declared.label.Mark.{Mark}
 use Rattle.spread_labels.specs.Labels.{candidates, is_down}
 use Rattle.spread_labels.specs.RoundMarks.{AreMarksAfter}
 
--- whether edge `e` of vertex `s` leads to a vertex of a cost one less, and leads up or to a vertex labeled Down. The
--- first mark is that of `s`, the second that of the vertex that `e` leads to; false if one of the marks is None
+-- whether edge `e` of vertex `s` leads to a vertex whose cost is one less, and either leads up or leads to a vertex
+-- labeled Down. The first mark is that of `s`, and the second is that of the vertex that `e` leads to. False if either
+-- mark is None
 abbrev pub is_nearer_by : ℕ → Edge → Option Mark → Option Mark → Bool
 is_nearer_by s e (Some m) (Some to) = (suc to.cost == m.cost) && (nat_lt e.to s || is_down to.label)
 is_nearer_by s e _ _ = false
 
--- whether, by `marks`, edge `e` of vertex `s` leads to a vertex of a cost one less, and leads up or to a vertex labeled
--- Down; false if one of the two vertices has no mark
+-- whether, by `marks`, edge `e` of vertex `s` leads to a vertex whose cost is one less, and either leads up or leads to
+-- a vertex labeled Down; false if either of the two vertices has no mark
 abbrev pub is_nearer : ℕ → List (Option Mark) → Edge → Bool
 is_nearer s marks e = is_nearer_by s e (slice_index_or marks s None) (slice_index_or marks e.to None)
 

@@ -1,4 +1,4 @@
--- The law of ways in the grown order: each vertex has a way to each vertex of its component, whatever candidates are
+-- The law of ways in the grown order: each vertex has a way to each vertex of its component, whichever candidates are
 -- picked.
 use Rattle.std.specs.Prelude.{◌≡◌, ◌<◌, ℕ, Bool, List, length, Some}
 use Rattle.port_graph.specs.declared.edge.Edge.{Edge}
@@ -10,7 +10,7 @@ use Rattle.spread_labels.specs.LabelLaws.{IsSymmetric}
 use Rattle.spread_labels.specs.Ways.{Way, PicksCandidates}
 use Rattle.spread_labels.specs.Orders.{order, position_of, by_position}
 
--- vertex `s` has a label towards vertex `t`, at a cost less than the number of vertices; a way by the picked edges
+-- vertex `s` has a label towards vertex `t`, at a cost less than the number of vertices. A way by the picked edges
 -- leads from `s` to `t`, over as many edges as the cost
 pub record HasWay (edges : List (List Edge)) (pick : ℕ → Edge) (t s : ℕ) : Type 0 where
   pub mark : Mark
@@ -22,8 +22,8 @@ pub record HasWay (edges : List (List Edge)) (pick : ℕ → Edge) (t s : ℕ) :
 abbrev pub grown : List (List Edge) → (ℕ → ℕ → Bool) → List (List Edge)
 grown edges before = by_position edges (order edges before)
 
--- in the grown order, each vertex of the component of a LID's home has a way to the home (`HasWay`). Edges go both
--- ways; `pick` may give any candidates
+-- if edges go both ways and `pick` gives candidates, whichever these are, then in the grown order a way to a LID's home
+-- (`HasWay`) leads from each vertex from which a walk leads to the home
 abbrev pub EveryPairLaw : Type 0
 EveryPairLaw = (edges : List (List Edge)) (before : ℕ → ℕ → Bool) → LeadToVertices edges → IsSymmetric edges
     → (home : ℕ → ℕ) (pick : ℕ → ℕ → Edge) → PicksCandidates (grown edges before) home pick

@@ -9,7 +9,7 @@ use Rattle.spread_labels.specs.KeyOrder.{before_by}
 use Rattle.spread_labels.specs.Orders.{numbers_from}
 use Rattle.spread_labels.specs.Stages.{earliest_of}
 
--- the distances from vertex `s` to each vertex; None for a vertex that no walk leads to
+-- the distance from vertex `s` to each vertex; None for a vertex to which no walk leads
 abbrev pub distances_from : List (List Edge) → ℕ → List (Option ℕ)
 distances_from edges s = map (distance edges s) (numbers_from 0 (length edges))
 
@@ -17,37 +17,39 @@ distances_from edges s = map (distance edges s) (numbers_from 0 (length edges))
 abbrev pub by_distance_class : List ℕ → List VertexKey
 by_distance_class distance_classes = map (λ c. record { distance_class = c; distance = 0 }) distance_classes
 
--- the earliest, by `keys`, of the vertices that have a distance in `distances`; None if no vertex has one
+-- the vertex with the earliest key in `keys` among those that have a distance in `distances`; None if no vertex has one
 abbrev pub first_among : List VertexKey → List (Option ℕ) → Option ℕ
 first_among keys distances =
     earliest_of (before_by keys)
     (filter (λ a. is_some (slice_index_or distances a None)) (numbers_from 0 (length keys)))
 
--- the distance of the earliest, by `keys`, of the vertices that have a distance in `distances`; 0 if no vertex has one
+-- the distance of the vertex with the earliest key in `keys` among those that have a distance in `distances`; 0 if no
+-- vertex has one
 abbrev pub from_first : List VertexKey → List (Option ℕ) → ℕ
 from_first keys distances =
     unwrap_or (option_and_then (λ a. slice_index_or distances a None) (first_among keys distances)) 0
 
--- the first vertex, by `keys`, of the component of vertex `s`; `s` itself if no vertex with a key has a distance from
--- `s`
+-- the first vertex of the component of vertex `s`: that with the earliest key in `keys`; `s` itself if no vertex with a
+-- key has a distance from `s`
 abbrev pub first_at : List (List Edge) → List VertexKey → ℕ → ℕ
 first_at edges keys s = unwrap_or (first_among keys (distances_from edges s)) s
 
--- `far` has for each vertex None, or its distance from the first vertex, by `keys`, of its component; each of the first
--- `count` vertices has a distance
+-- `far` has for each vertex None, or its distance from the first vertex of its component: that with the earliest key in
+-- `keys`. Each of the first `count` vertices has a distance
 pub record AreFar (edges : List (List Edge)) (keys : List VertexKey) (count : ℕ) (far : List (Option ℕ)) : Type 0 where
   pub all : length far ≡ length edges
   pub right : (s d : ℕ) → s < length edges → slice_index_or far s None ≡ Some d
       → from_first keys (distances_from edges s) ≡ d
   pub known : (s : ℕ) → s < count → is_some (slice_index_or far s None) ≡ true
 
--- each index of `new` has the distance in `far` if there is one, else the distance in `found`; None if neither has one
+-- each index of `new` has the distance in `far`, if there is one, and otherwise the distance in `found`; None if
+-- neither has one
 abbrev pub FillsIn : List (Option ℕ) → List (Option ℕ) → List (Option ℕ) → Type 0
 FillsIn far found new =
     EachIndex new (λ k. slice_index_or new k None ≡ option_or (slice_index_or far k None) (slice_index_or found k None))
 
 -- the key of vertex `s`: its distance class, and its distance from the first vertex of its component. The first vertex
--- is the one of least distance class; of several, the least
+-- is the one with the least distance class, and the least such vertex if there are several
 abbrev pub key_of : List (List Edge) → List ℕ → ℕ → VertexKey
 key_of edges distance_classes s =
     record {

@@ -16,8 +16,8 @@ pub record Gives (edges : List (List Edge)) (marks : Marks) (s : ℕ) (e : Edge)
   pub labelled : marks e.to ≡ Some (record { cost = cost; label = label })
   pub up_or_down : (e.to < s) ⊎ (label ≡ Down)
 
--- an edge gives vertex `s` a label from cost `round`, and no edge gives one from a lesser cost; `label` is Up if one of
--- the edges that give a label from cost `round` leads up, else Down
+-- an edge from a vertex of cost `round` gives vertex `s` a label, and no edge from a vertex of lesser cost does.
+-- `label` is Up if one of the edges from cost `round` that give a label leads up, and otherwise Down
 pub record IsGiven (edges : List (List Edge)) (marks : Marks) (s round : ℕ) (label : Label) : Type 0 where
   pub edge : Edge
   pub given : Gives edges marks s edge round
@@ -26,8 +26,8 @@ pub record IsGiven (edges : List (List Edge)) (marks : Marks) (s round : ℕ) (l
   pub when_down : label ≡ Down → (e : Edge) → Gives edges marks s e round → s ≤ e.to
 
 -- `marks` are labels and costs towards vertex `t`. `t` is Down at cost 0. Each other vertex with a mark has the label
--- that its edges give, and a cost one more than the least from which an edge gives a label. No edge gives a label to a
--- vertex without a mark
+-- that its edges give it. Its cost is one more than the least cost of a vertex over whose edge it gets a label. No edge
+-- gives a label to a vertex that has no mark
 pub record AreMarks (edges : List (List Edge)) (t : ℕ) (marks : Marks) : Type 0 where
   pub target : marks t ≡ Some (record { cost = 0; label = Down })
   pub other : (s : ℕ) (m : Mark) → s ≢ t → marks s ≡ Some m → (round : ℕ) × (m.cost ≡ suc round)
@@ -39,7 +39,7 @@ abbrev pub LabelledLaw : Type 0
 LabelledLaw = (edges : List (List Edge)) (t : ℕ) → LeadToVertices edges → t < length edges
     → AreMarks edges t (marks edges t)
 
--- any two `Marks` that satisfy `AreMarks` towards one vertex are equal at each vertex
+-- if two `Marks` satisfy `AreMarks` towards the same vertex, they are equal at each vertex
 abbrev pub UniqueLaw : Type 0
 UniqueLaw = (edges : List (List Edge)) (t : ℕ) (one other : Marks) → AreMarks edges t one → AreMarks edges t other
     → (s : ℕ) → one s ≡ other s
@@ -48,19 +48,19 @@ UniqueLaw = (edges : List (List Edge)) (t : ℕ) (one other : Marks) → AreMark
 abbrev pub IsSymmetric : List (List Edge) → Type 0
 IsSymmetric edges = (a b : ℕ) → Contains (heads edges a) b → Contains (heads edges b) a
 
--- each vertex from which a walk leads to a lesser vertex has an edge to a lesser one
+-- each vertex from which a walk leads to a lesser vertex has an edge to a lesser vertex
 abbrev pub IsGrown : List (List Edge) → Type 0
 IsGrown edges = (a b n : ℕ) → Walk (heads edges) a b n → b < a → (e : Edge) × Contains (edges_at edges a) e × (e.to < a)
 
--- the graph is numbered in a grown order: its edges lead to vertices and go both ways, and each vertex except the first
--- of its component has an edge to a lesser one
+-- the graph is numbered in a grown order. Its edges lead to vertices and go both ways, and each vertex except the first
+-- of its component has an edge to a lesser vertex
 pub record IsGrownGraph (edges : List (List Edge)) : Type 0 where
   pub lead : LeadToVertices edges
   pub symmetric : IsSymmetric edges
   pub grown : IsGrown edges
 
--- exactly the vertices from which a walk leads to vertex `t` have labels towards `t`; each cost is the length of a walk
--- to `t`, and less than the number of vertices
+-- exactly the vertices from which a walk leads to vertex `t` have labels towards `t`. Each cost is the length of a walk
+-- to `t`, and is less than the number of vertices
 pub record AreReached (edges : List (List Edge)) (t : ℕ) : Type 0 where
   pub component : (s n : ℕ) → Walk (heads edges) s t n → (m : Mark) × (marks edges t s ≡ Some m)
   pub no_other : (s : ℕ) (m : Mark) → marks edges t s ≡ Some m → Walk (heads edges) s t m.cost
@@ -71,8 +71,8 @@ pub record AreReached (edges : List (List Edge)) (t : ℕ) : Type 0 where
 abbrev pub ReachedLaw : Type 0
 ReachedLaw = (edges : List (List Edge)) (t : ℕ) → IsGrownGraph edges → t < length edges → AreReached edges t
 
--- edge `e` leads from vertex `s`, which has the mark `m`, to a vertex of a cost one less. `e` leads up, or down to a
--- vertex labeled Down. If `s` is labeled Down, `e` leads down to a vertex labeled Down
+-- edge `e` leads from vertex `s`, which has the mark `m`, to a vertex whose cost is one less. `e` leads up, or leads
+-- down to a vertex labeled Down. If `s` is labeled Down, `e` leads down to a vertex labeled Down
 pub record IsStep (edges : List (List Edge)) (t s : ℕ) (m : Mark) (e : Edge) : Type 0 where
   pub edge : Contains (edges_at edges s) e
   pub to : Mark
@@ -81,8 +81,9 @@ pub record IsStep (edges : List (List Edge)) (t s : ℕ) (m : Mark) (e : Edge) :
   pub up_or_down : (e.to < s) ⊎ ((s < e.to) × (to.label ≡ Down))
   pub from_down : m.label ≡ Down → (s < e.to) × (to.label ≡ Down)
 
--- vertex `s`, with the mark `m`, has a candidate unless `s` is the target `t`. Each candidate is a step (`IsStep`).
--- Each edge that gives a label from a cost one less than that of `m` is a candidate
+-- vertex `s`, which has the mark `m`, has a candidate unless `s` is the target `t`. Each candidate is a step
+-- (`IsStep`). Each edge that gives `s` a label, and leads to a vertex whose cost is one less than that of `m`, is a
+-- candidate
 pub record AreCandidates (edges : List (List Edge)) (t s : ℕ) (m : Mark) : Type 0 where
   pub some : s ≢ t → (e : Edge) × Contains (candidates edges t s) e
   pub steps : (e : Edge) → Contains (candidates edges t s) e → IsStep edges t s m e

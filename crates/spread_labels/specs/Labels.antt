@@ -1,6 +1,6 @@
--- Labels towards a target, given in rounds, and candidates, which are the edges that gave a label. Vertices are
--- numbered by their positions in an order. An edge leads up if it leads to a lesser number, and down if it leads to a
--- greater one.
+-- Labels towards a target, which are given in rounds, and candidates, which are the edges that gave a label. Vertices
+-- are numbered by their positions in an order. An edge leads up if it leads to a lesser number, and down if it leads to
+-- a greater number.
 use Rattle.std.specs.Prelude.{ℕ, zero, suc, Bool, true, false, ◌||◌, ◌==◌, nat_lt}
 use Rattle.std.specs.Prelude.{List, [], ◌∷◌, filter, length, Option, None, Some, if◌then◌else◌}
 use Rattle.std.specs.List.{list_any}
@@ -19,8 +19,8 @@ is_down Down = true
 abbrev pub Marks : Type 0
 Marks = ℕ → Option Mark
 
--- whether edge `e` gives vertex `s` a label, given the mark of the vertex that `e` leads to: `e` leads up, or that
--- vertex is labeled Down; false if that vertex has no mark
+-- whether edge `e` gives vertex `s` a label, given the mark of the vertex that `e` leads to. It does if `e` leads up,
+-- or if that vertex is labeled Down; false if that vertex has no mark
 abbrev pub gives_from : ℕ → Edge → Option Mark → Bool
 gives_from s e None = false
 gives_from s e (Some m) = nat_lt e.to s || is_down m.label
@@ -33,12 +33,12 @@ gives marks s e = gives_from s e (marks e.to)
 abbrev pub givers : List (List Edge) → Marks → ℕ → List Edge
 givers edges marks s = filter (gives marks s) (edges_at edges s)
 
--- whether one of the edges `es` of vertex `s` leads up
+-- whether any of the edges `es` of vertex `s` leads up
 abbrev pub leads_up : ℕ → List Edge → Bool
 leads_up s es = list_any (λ e. nat_lt e.to s) es
 
--- the mark that edges give vertex `s` in round `round`: of cost `round`, and Up if one of the edges leads up, else
--- Down; None if there are no edges
+-- the mark that edges give vertex `s` in round `round`. Its cost is `round`, and it is Up if one of the edges leads up,
+-- and otherwise Down; None if there are no edges
 abbrev pub mark_by : ℕ → ℕ → List Edge → Option Mark
 mark_by round s [] = None
 mark_by round s (e ∷ es) = Some (record { cost = round; label = if leads_up s (e ∷ es) then Up else Down })
@@ -48,8 +48,9 @@ abbrev pub mark_or : Option Mark → Option Mark → Option Mark
 mark_or None other = other
 mark_or (Some m) other = Some m
 
--- the mark of vertex `s` towards vertex `t` after some rounds. At first only `t` has a mark, Down at cost 0. In each
--- round a vertex without a mark gets one if an edge gives it a label, by the marks of the round before
+-- the mark of vertex `s` towards vertex `t` after the given number of rounds. At first only `t` has a mark, Down at
+-- cost 0. In each round, a vertex that has no mark gets one if an edge gives it a label, by the marks of the round
+-- before
 abbrev pub marks_after : List (List Edge) → ℕ → ℕ → ℕ → Option Mark
 marks_after edges t zero s = if s == t then Some (record { cost = 0; label = Down }) else None
 marks_after edges t (suc round) s =

@@ -26,14 +26,14 @@ abbrev pub greatest : ℕ → List ℕ → ℕ
 greatest n [] = n
 greatest n (m ∷ ms) = greatest (max n m) ms
 
--- the width of level `h`: the greatest number of edges to vertices of higher levels that a vertex of level `h` has, at
--- least 1
+-- the width of level `h`: the greatest number of edges to vertices of higher levels that any vertex of level `h` has,
+-- but at least 1
 abbrev pub width_of : List (List Edge) → List ℕ → ℕ → ℕ
 width_of edges levels h =
     greatest 1 (map (rises_at edges levels) (filter (λ s. slice_index levels s == h) (numbers_from 0 (length edges))))
 
--- the digit weight of a level: the product of the widths of the lower levels, at most 65536, which is more than any
--- number of a LID
+-- the digit weight of a level: the product of the widths of the lower levels, but at most 65536. No number of a LID is
+-- as great as that
 abbrev pub digit_weight_of : List (List Edge) → List ℕ → ℕ → ℕ
 digit_weight_of edges levels zero = 1
 digit_weight_of edges levels (suc h) = min (digit_weight_of edges levels h * width_of edges levels h) 65536

@@ -1,5 +1,6 @@
 -- Marks towards many targets at once, as sets. Each vertex has a set of the targets for which it has a mark, and a set
--- of those for which it is Down. Each edge has a set of the targets for which it gave the mark, and so is a candidate.
+-- of those for which this mark is Down. Each edge has a set of the targets for which it gave the mark; for these it is
+-- a candidate.
 use Rattle.std.specs.Prelude.{◌≡◌, ◌<◌, ℕ, zero, suc, Bool, false, not, ◌&&◌, ◌||◌, ◌==◌, nat_lt, List, [], ◌∷◌, length, replicate, Option, None, Some, is_some, slice_index, slice_index_or, if◌then◌else◌}
 use Rattle.std.specs.List.{list_any}
 use Rattle.port_graph.specs.declared.edge.Edge.{Edge}
@@ -9,21 +10,21 @@ use Rattle.spread_labels.specs.declared.target_set.TargetSet.{TargetSet}
 use Rattle.spread_labels.specs.Labels.{candidates, gives, is_down, marks_after}
 use Rattle.spread_labels.specs.TargetSets.{EachTarget, has, no_targets}
 
--- the set at index `i`, of a vertex or an edge; the empty set past the end
+-- the set of a vertex or an edge, at index `i`; the empty set if `i` is past the end
 abbrev pub set_at : List TargetSet → ℕ → TargetSet
 set_at sets i = slice_index_or sets i no_targets
 
--- the targets for which edge `e` gives vertex `s` a label: if `e` leads up, those for which the vertex that `e` leads
--- to has a mark; else those for which that vertex is Down
+-- the targets for which edge `e` gives vertex `s` a label. If `e` leads up, they are those for which the vertex that
+-- `e` leads to has a mark. Otherwise they are those for which that vertex is Down
 abbrev pub giver_set : ℕ → List TargetSet → List TargetSet → Edge → TargetSet
 giver_set s marked downs e = if nat_lt e.to s then set_at marked e.to else set_at downs e.to
 
--- the edge at index `j`; past the end the edge with port 0 to vertex 0
+-- the edge at index `j`; if `j` is past the end, the edge with port 0 to vertex 0
 abbrev pub edge_at : List Edge → ℕ → Edge
 edge_at es j = slice_index_or es j (record { port = 0; to = 0 })
 
--- for each edge of vertex `s`, `row` has the targets that `old` has for this edge, and those of `new` for which the
--- edge gives a label
+-- for each edge of vertex `s`, `row` has the targets that `old` has for this edge, and also those of `new` for which
+-- the edge gives a label
 abbrev pub AreNoted : ℕ → List Edge → List TargetSet → List TargetSet → TargetSet → List TargetSet → List TargetSet
     → Type 0
 AreNoted s es marked downs new old row = EachTarget (λ k. (j : ℕ) → j < length es → has (set_at row j) k
@@ -52,8 +53,8 @@ no_sets es = replicate (length es) no_targets
 abbrev pub sets_at : List (List TargetSet) → ℕ → List TargetSet
 sets_at rows s = slice_index_or rows s []
 
--- `next_marked` and `next_downs` are the sets of the first `count` vertices after one more round; `next_rows` has the
--- sets of their edges
+-- `next_marked` and `next_downs` are the sets of the first `count` vertices after one more round, and `next_rows` has
+-- the sets of their edges
 pub record AreSetSteps (edges : List (List Edge)) (marked downs : List TargetSet) (rows : List (List TargetSet))
     (count : ℕ) (next_marked next_downs : List TargetSet) (next_rows : List (List TargetSet)) : Type 0 where
   pub all_marked : length next_marked ≡ count
@@ -72,7 +73,7 @@ abbrev pub gave_by : List (List Edge) → ℕ → ℕ → Edge → Option Mark �
 gave_by edges t s e None = false
 gave_by edges t s e (Some m) = gave_before edges t s e m.cost
 
--- whether edge `e` gave vertex `s` the mark that `s` has after `round` rounds; false if `s` has none
+-- whether edge `e` gave vertex `s` the mark that `s` has after `round` rounds; false if `s` has no mark then
 abbrev pub gave : List (List Edge) → ℕ → ℕ → ℕ → Edge → Bool
 gave edges t round s e = gave_by edges t s e (marks_after edges t round s)
 
@@ -81,8 +82,8 @@ abbrev pub down_of : Option Mark → Bool
 down_of None = false
 down_of (Some m) = is_down m.label
 
--- after `round` rounds, membership of target `k` in the sets says which vertices have a mark towards vertex `t`, which
--- are Down, and which edges gave a mark
+-- after `round` rounds, target `k` is in the sets of the vertices that have a mark towards vertex `t`, of those that
+-- are Down, and of the edges that gave a mark
 pub record AreSetsTowards (edges : List (List Edge)) (t k round : ℕ) (marked downs : List TargetSet)
     (rows : List (List TargetSet)) : Type 0 where
   pub is_marked : (s : ℕ) → s < length edges → has (set_at marked s) k ≡ is_some (marks_after edges t round s)
@@ -103,20 +104,20 @@ pub record AreSetsAfter (edges : List (List Edge)) (targets : List ℕ) (round :
   pub are_rows : AreRowsOf edges rows
   pub each : (k : ℕ) → k < length targets → AreSetsTowards edges (slice_index targets k) k round marked downs rows
 
--- the edges whose sets in `sets` have target `k`; an edge past the end of `sets` is left out
+-- the edges whose sets in `sets` have target `k`; edges past the end of `sets` are left out
 abbrev pub picked : ℕ → List TargetSet → List Edge → List Edge
 picked k sets [] = []
 picked k [] (e ∷ es) = []
 picked k (set ∷ sets) (e ∷ es) = if has set k then e ∷ picked k sets es else picked k sets es
 
--- `rows` has for each edge of each vertex the targets for which the edge is a candidate
+-- for each edge of each vertex, `rows` has the targets towards which the edge is a candidate
 pub record AreCandidateSets (edges : List (List Edge)) (targets : List ℕ) (rows : List (List TargetSet)) : Type 0 where
   pub are_rows : AreRowsOf edges rows
   pub each : (k s : ℕ) → k < length targets → s < length edges
       → picked k (sets_at rows s) (edges_at edges s) ≡ candidates edges (slice_index targets k) s
 
--- `sets` has a set for each of `count` vertices; of the indices less than `n`, the set has those at which the vertex is
--- in `targets`
+-- `sets` has a set for each of `count` vertices. Among the indices less than `n`, the set has those at which `targets`
+-- has the vertex
 pub record AreAtTargets (count : ℕ) (targets : List ℕ) (n : ℕ) (sets : List TargetSet) : Type 0 where
   pub all : length sets ≡ count
   pub each : (k s : ℕ) → k < n → s < count → has (set_at sets s) k ≡ (s == slice_index targets k)

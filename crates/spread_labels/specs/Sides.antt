@@ -1,4 +1,4 @@
--- The edges of a graph that lead up, and those that lead down, each in lists of their own, as slopes need them.
+-- The edges of a graph that lead up and those that lead down, in separate lists, as slopes need them.
 use Rattle.std.specs.Prelude.{ℕ, suc, Bool, nat_lt, List, [], ◌∷◌, filter}
 use Rattle.port_graph.specs.declared.edge.Edge.{Edge}
 use Rattle.port_graph.specs.Slopes.{Slope}
@@ -24,12 +24,12 @@ downs_of edges = rows_from (λ s e. nat_lt s e.to) 0 edges
 abbrev pub slopes_of : List (List Edge) → List Slope
 slopes_of edges = indexed (ups_of edges) (downs_of edges)
 
--- the edges up and down are slopes, and edges that climb or descend in the graph do so on the slopes
+-- the edges up and down are slopes. Edges that climb or descend in the graph also do so among the slopes
 pub record AreSides (edges : List (List Edge)) : Type 0 where
   pub slopes : AreSlopes (ups_of edges) (downs_of edges)
   pub climbs : (es : List Edge) (s u : ℕ) → ClimbsBy edges s es u → Climbs (slopes_of edges) s es u
   pub descends : (es : List Edge) (s u : ℕ) → DescendsBy edges s es u → Descends (slopes_of edges) s es u
 
--- the edges up and down of a graph whose edges go both ways satisfy `AreSides`
+-- if the edges of a graph go both ways, its edges up and down satisfy `AreSides`
 abbrev pub SidesLaw : Type 0
 SidesLaw = (edges : List (List Edge)) → IsSymmetric edges → AreSides edges

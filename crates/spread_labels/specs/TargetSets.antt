@@ -3,7 +3,7 @@ use Rattle.std.specs.Prelude.{◌<◌, ℕ, ◌==◌, Bool}
 use Rattle.std.specs.Int.{bit_at}
 use Rattle.spread_labels.specs.declared.target_set.TargetSet.{TargetSet}
 
--- `P` holds for each number of a target, from 0 to 63
+-- `P` is true of each number of a target, from 0 to 63
 abbrev pub EachTarget : (ℕ → Type 0) → Type 0
 EachTarget P = (k : ℕ) → k < 64 → P k
 

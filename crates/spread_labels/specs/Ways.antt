@@ -8,17 +8,17 @@ use Rattle.port_graph.specs.Heads.{edges_at, LeadToVertices}
 use Rattle.spread_labels.specs.declared.label.Mark.{Mark}
 use Rattle.spread_labels.specs.Labels.{marks, candidates}
 
--- the edges lead up, one after the other, from vertex `s` to vertex `u`
+-- the edges, one after another, lead up from vertex `s` to vertex `u`
 abbrev pub Climbs : List (List Edge) → ℕ → List Edge → ℕ → Type 0
 Climbs edges s [] u = s ≡ u
 Climbs edges s (e ∷ es) u = Contains (edges_at edges s) e × (e.to < s) × Climbs edges e.to es u
 
--- the edges lead down, one after the other, from vertex `s` to vertex `u`
+-- the edges, one after another, lead down from vertex `s` to vertex `u`
 abbrev pub Descends : List (List Edge) → ℕ → List Edge → ℕ → Type 0
 Descends edges s [] u = s ≡ u
 Descends edges s (e ∷ es) u = Contains (edges_at edges s) e × (s < e.to) × Descends edges e.to es u
 
--- the edges are those that are picked at each vertex, from `s` until they reach `t`
+-- from `s` until they reach `t`, the edges are those that are picked at each vertex
 abbrev pub Follows : (ℕ → Edge) → ℕ → ℕ → List Edge → Type 0
 Follows pick t s [] = s ≡ t
 Follows pick t s (e ∷ es) = (s ≢ t) × (pick s ≡ e) × Follows pick t e.to es
@@ -27,20 +27,19 @@ Follows pick t s (e ∷ es) = (s ≢ t) × (pick s ≡ e) × Follows pick t e.to
 abbrev pub cost : List (List Edge) → ℕ → ℕ → Option ℕ
 cost edges t s = option_map (λ m. m.cost) (marks edges t s)
 
--- the costs, towards vertex `t`, of the vertices that the edges lead to fall by one each, and the first is one less
--- than `n`
+-- the costs towards vertex `t` of the vertices that the edges lead to fall by one each; the first is one less than `n`
 abbrev pub CostsFall : List (List Edge) → ℕ → ℕ → List Edge → Type 0
 CostsFall edges t n [] = Unit {0}
 CostsFall edges t zero (e ∷ es) = ⊥
 CostsFall edges t (suc n) (e ∷ es) = (cost edges t e.to ≡ Some n) × CostsFall edges t n es
 
--- the vertices that the edges pass from vertex `s` on, with the first and the last
+-- the vertices along the edges from vertex `s` on, including the first and the last
 abbrev pub vertices_along : ℕ → List Edge → List ℕ
 vertices_along s [] = s ∷ []
 vertices_along s (e ∷ es) = s ∷ vertices_along e.to es
 
--- a way from vertex `s` to vertex `t` by the picked edges: it goes up and then down, has `n` edges, each to a cost one
--- less, and passes no vertex twice
+-- a way from vertex `s` to vertex `t` by the picked edges. It goes up and then down, and has `n` edges, each to a
+-- vertex whose cost is one less. It passes no vertex twice
 pub record Way (edges : List (List Edge)) (pick : ℕ → Edge) (t s n : ℕ) : Type 0 where
   pub ups : List Edge
   pub downs : List Edge
@@ -57,14 +56,14 @@ abbrev pub PicksCandidates : List (List Edge) → (ℕ → ℕ) → (ℕ → ℕ
 PicksCandidates edges home pick = (lid s : ℕ) (m : Mark) → marks edges (home lid) s ≡ Some m → s ≢ home lid
     → Contains (candidates edges (home lid) s) (pick lid s)
 
--- from each vertex with a label, a way by the picked edges leads to the LID's home, over as many edges as the vertex's
--- cost; any candidates may be picked
+-- whichever candidates are picked, a way by the picked edges leads from each vertex with a label to the LID's home,
+-- over as many edges as the vertex's cost
 abbrev pub WaysLaw : Type 0
 WaysLaw = (edges : List (List Edge)) (home : ℕ → ℕ) (pick : ℕ → ℕ → Edge) → PicksCandidates edges home pick
     → (lid s : ℕ) (m : Mark) → marks edges (home lid) s ≡ Some m → Way edges (pick lid) (home lid) s m.cost
 
--- the number of the channel from vertex `a` to vertex `b`, if there are `n` vertices: `n` minus `b` if the channel
--- leads up, else `n` plus `b`
+-- the number of the channel from vertex `a` to vertex `b`, if there are `n` vertices. It is `n` minus `b` if the
+-- channel leads up, and otherwise `n` plus `b`
 abbrev pub channel_number : ℕ → ℕ → ℕ → ℕ
 channel_number n a b = if nat_lt b a then n - b else n + b
 
@@ -83,20 +82,20 @@ ChannelsLaw = (edges : List (List Edge)) → LeadToVertices edges → (s u t : �
 abbrev pub Channel : Type 0
 Channel = ℕ × Edge
 
--- a packet that holds the channel `held` may wait for `next`: `held` leads to the vertex of `next`, and `held` and
--- `next` are candidates towards one target
+-- a packet that occupies the channel `held` may wait for `next`. `held` leads to the vertex of `next`, and both are
+-- candidates towards one target
 pub record MayWait (edges : List (List Edge)) (held next : Channel) : Type 0 where
   pub target : ℕ
   pub holds : Contains (candidates edges target held.0) held.1
   pub there : held.1.to ≡ next.0
   pub wants : Contains (candidates edges target next.0) next.1
 
--- over a number of steps, each channel from `a` on may wait for the next one, and the last is `b`
+-- over a number of steps, each channel, from `a` on, may wait for the next, and the last channel is `b`
 abbrev pub MayWaitInTurn : List (List Edge) → ℕ → Channel → Channel → Type 0
 MayWaitInTurn edges zero a b = a ≡ b
 MayWaitInTurn edges (suc n) a b = (c : Channel) × MayWait edges a c × MayWaitInTurn edges n c b
 
--- in a graph no channels may wait for each other in a cycle, over all targets together, so no packets wait in a credit
+-- in a graph, no channels may wait for each other in a cycle, for all targets together. So no packets wait in a credit
 -- loop
 abbrev pub NoCycleLaw : Type 0
 NoCycleLaw = (edges : List (List Edge)) → LeadToVertices edges → (n : ℕ) (a : Channel) → MayWaitInTurn edges (suc n) a a

@@ -10,7 +10,7 @@ use smp_bytes::PortNum;
 use std::alloc::{AllocError, Global};
 use std::marker::Model;
 
-/// The ports of a vertex's candidates, in a list for each of 64 targets.
+/// The ports of a vertex's candidates: a list of ports for each of 64 targets.
 #[derive(Drop)]
 pub struct CandidateLists {
     lists: Vec<Vec<PortNum>>,
@@ -27,7 +27,7 @@ impl Model for CandidateLists {
 }
 
 impl CandidateLists {
-    /// Creates lists without ports.
+    /// Creates 64 empty lists. Returns an error if memory runs out.
     pub fn new(alloc: Global) -> Result<Self, AllocError>
         ensures { IfOk result (λ lists. EachTarget (λ k. slice_index_or lists k [] ≡ [])) }
     {
@@ -49,7 +49,7 @@ impl CandidateLists {
         find_all(&mut self.lists, edges, sets)
     }
 
-    /// Returns the ports towards `target`, which must be less than 64.
+    /// Returns the list of ports for `target`. `target` must be less than 64.
     pub fn at(&self, target: usize) -> &[PortNum]
         requires { target < 64 }
         ensures { result.now ≡ slice_index_or self.now target [] }

@@ -9,7 +9,7 @@ use port_graph::Adjacency;
 use std::alloc::{AllocError, Global};
 use std::marker::Model;
 
-/// For each edge of each vertex, the targets towards which the edge gave the vertex its mark.
+/// For each edge of each vertex, the targets towards which the edge is a candidate: it gave the vertex its mark.
 #[derive(Drop)]
 pub struct CandidateSets {
     rows: Vec<Vec<TargetSet>>,
@@ -27,7 +27,8 @@ impl Model for CandidateSets {
 impl CandidateSets {
     /// Finds, for each edge, the indices in `targets` of the targets towards which the edge is a candidate. `targets`
     /// must have at most 64 vertices. Each round takes time linear in the number of vertices and edges, for all targets
-    /// together. There is one round more than the greatest cost.
+    /// together. There is one more round than the greatest cost. Each of `targets` must be a vertex. Returns an error
+    /// if memory runs out.
     pub fn towards(alloc: Global, edges: &Adjacency, targets: &[usize]) -> Result<Self, AllocError>
         requires lead { LeadToVertices edges.now }
         requires few { length targets.now ≤ 64 }
@@ -38,7 +39,7 @@ impl CandidateSets {
         Ok(CandidateSets { rows })
     }
 
-    /// Returns the sets of the edges of `vertex`, which must exist, in the order of the edges.
+    /// Returns the sets of the edges of `vertex`, in the order of the edges. There must be such a vertex.
     pub fn at(&self, vertex: usize) -> &[TargetSet]
         requires { vertex < length self.now }
         ensures { result.now ≡ slice_index_or self.now vertex [] }
@@ -48,7 +49,7 @@ impl CandidateSets {
 }
 
 /// Returns, for each edge of each vertex, the indices in `targets` of the targets towards which the edge is a
-/// candidate. `targets` must have at most 64 vertices.
+/// candidate. `targets` must have at most 64 elements, each a vertex.
 fn rows_towards(
     alloc: Global,
     edges: &Adjacency,

@@ -26,16 +26,17 @@ pub(crate) struct DistanceSum {
 /// The distance classes and levels of vertices.
 #[derive(Drop)]
 pub struct Grades {
-    /// The distance class of each vertex. It is the distance from the nearest root if the vertex's component has a
-    /// root. Otherwise it is four times the mean distance from the leaf vertices of the component, rounded down, or 0
-    /// if the component has neither.
+    /// The distance class of each vertex. If the vertex's component has a root, the class is the distance from the
+    /// nearest root. Otherwise it is four times the mean distance from the leaf vertices of the component, rounded
+    /// down. It is 0 if the component has neither a root nor a leaf vertex.
     pub distance_classes: Vec<u128>,
-    /// The level of each vertex: its distance from the nearest leaf vertex, or 0 if its component has none.
+    /// The level of each vertex: its distance from the nearest leaf vertex, or 0 if its component has no leaf vertex.
     pub levels: Vec<usize>,
 }
 
 /// Returns the distance classes and levels of all vertices, given the leaf vertices `leaves` and the roots `roots`.
-/// Takes a breadth-first search from each leaf vertex and each root.
+/// Does a breadth-first search from each leaf vertex and each root. Each of `leaves` and `roots` must be a vertex.
+/// Returns an error if memory runs out.
 pub fn grade(
     alloc: Global,
     edges: &Adjacency,
@@ -59,8 +60,8 @@ pub fn grade(
     })
 }
 
-/// Returns the distance class of each vertex. `roots` and `leaves` have, for each vertex, the sums of its distances
-/// from roots and from leaf vertices.
+/// Returns the distance class of each vertex. `roots` and `leaves` must have a summary for each vertex: of its
+/// distances from the roots, and of its distances from the leaf vertices.
 fn distance_classes(
     alloc: Global,
     roots: &[DistanceSum],
@@ -78,8 +79,8 @@ fn distance_classes(
     Ok(distance_classes)
 }
 
-/// Returns the distance class of a vertex. `roots` and `leaves` are the sums of its distances from roots and from leaf
-/// vertices.
+/// Returns the distance class of a vertex. `roots` summarizes its distances from the roots, and `leaves` summarizes its
+/// distances from the leaf vertices.
 fn distance_class(roots: DistanceSum, leaves: DistanceSum) -> u128
     requires { IsDistanceSum leaves }
     ensures { result ≡ distance_class_by roots leaves }
@@ -103,7 +104,7 @@ fn quarters(sum: u128, count: usize) -> u128
     4 * (sum / count) + 4 * (sum % count) / count
 }
 
-/// Returns the distance sum of each vertex from the vertices `some`.
+/// Returns, for each vertex, the summary of its distances from the vertices `some`. Each of `some` must be a vertex.
 pub(crate) fn distance_sums(
     alloc: Global,
     edges: &Adjacency,
@@ -126,8 +127,8 @@ pub(crate) fn distance_sums(
     Ok(distance_sums)
 }
 
-/// Adds to each distance sum the distance at its index, if there is one. There must be as many distances as sums, and
-/// room in each sum for one more.
+/// Adds to each of `distance_sums` the distance at its index, if there is one. There must be as many distances as
+/// summaries, and each summary must have room for one more distance.
 fn add_distances(distance_sums: &mut [DistanceSum], distances: &[Option<usize>])
     requires all { length distance_sums.old ≡ length distances.now }
     requires room { All HasRoom distance_sums.old }
@@ -138,8 +139,8 @@ fn add_distances(distance_sums: &mut [DistanceSum], distances: &[Option<usize>])
     }
 }
 
-/// Returns `distance_sum` with `distance` added, or unchanged if `distance` is `None`. There must be room for one more
-/// distance.
+/// Returns `distance_sum` with `distance` added, or unchanged if `distance` is `None`. `distance_sum` must have room
+/// for one more distance.
 fn with(distance_sum: DistanceSum, distance: Option<usize>) -> DistanceSum
     requires { HasRoom distance_sum }
     ensures { result ≡ with_distance distance_sum distance }

@@ -23,9 +23,9 @@ pub(crate) enum Stage {
 
 /// Returns the vertices in their grown order. The next vertex is the one with the earliest key among the unplaced
 /// vertices that have an edge to a placed vertex. If no unplaced vertex has such an edge, it is the one with the
-/// earliest key among all unplaced vertices. Of equal keys, that of the lesser vertex is earlier. There must be a key
-/// for each vertex. For each edge there must be an edge back. Takes time quadratic in the number of vertices, and
-/// linear in the number of edges.
+/// earliest key among all unplaced vertices. If keys are equal, the lesser vertex comes first. There must be a key for
+/// each vertex. For each edge there must be an edge back. Takes time quadratic in the number of vertices, and linear in
+/// the number of edges.
 pub fn grown_order(
     alloc: Global,
     edges: &Adjacency,
@@ -47,7 +47,8 @@ pub fn grown_order(
     Ok(vertices)
 }
 
-/// Returns the vertex that is placed next, or `None` if all are placed.
+/// Returns the vertex that is placed next, or `None` if all vertices are placed. `stages` must have the stage of each
+/// vertex.
 fn next_vertex(keys: &[VertexKey], stages: &[Stage]) -> Option<usize>
     requires { length stages.now ≡ length keys.now }
     ensures next { result ≡ next_at (before_by keys.now) stages.now (length keys.now) }
@@ -59,8 +60,8 @@ fn next_vertex(keys: &[VertexKey], stages: &[Stage]) -> Option<usize>
     }
 }
 
-/// Returns the vertex with the earliest key among the vertices at `stage`, or `None` if no vertex is at `stage`. Of
-/// equal keys, that of the lesser vertex is earlier.
+/// Returns the vertex with the earliest key among the vertices at `stage`, or `None` if no vertex is at `stage`. If
+/// keys are equal, the lesser vertex comes first.
 fn earliest(keys: &[VertexKey], stages: &[Stage], stage: Stage) -> Option<usize>
     requires { length stages.now ≡ length keys.now }
     ensures earliest { result ≡ earliest_at (before_by keys.now) stages.now stage (length keys.now) }
@@ -94,7 +95,8 @@ pub(crate) fn earlier(keys: &[VertexKey], found: Option<usize>, vertex: usize) -
     }
 }
 
-/// Returns whether `one` comes before `other`: it has an earlier key, or an equal key and a lesser number.
+/// Returns whether `one` comes before `other`: it has an earlier key, or an equal key and a lesser number. `keys` must
+/// have a key for each of the two.
 pub fn is_before(keys: &[VertexKey], one: usize, other: usize) -> bool
     requires one { one < length keys.now }
     requires other { other < length keys.now }
@@ -104,8 +106,8 @@ pub fn is_before(keys: &[VertexKey], one: usize, other: usize) -> bool
     one_key.is_less(&other_key) || (!other_key.is_less(&one_key) && one < other)
 }
 
-/// Sets the stage of `vertex` to `Placed`. Then, for each vertex that `edges` lead to, changes the stage to `Beside` if
-/// it is `Left`.
+/// Sets the stage of `vertex` to `Placed`. Then each vertex that `edges` lead to and whose stage is `Left` gets the
+/// stage `Beside`. `stages` must have the stage of each of these vertices.
 fn add_vertex(edges: &[Edge], vertex: usize, stages: &mut [Stage])
     requires vertex { vertex < length stages.old }
     requires lead { All (λ edge. edge.to < length stages.old) edges.now }

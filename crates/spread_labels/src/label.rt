@@ -1,7 +1,7 @@
 /// How the way from a vertex to the target begins.
 #[derive(Clone, Copy, Debug, PartialEq, Eq)]
 pub enum Label {
-    /// A candidate of the vertex leads up.
+    /// Some candidate of the vertex leads up.
     Up,
     /// No candidate of the vertex leads up, so each edge of the way leads down.
     Down,

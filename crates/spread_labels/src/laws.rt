@@ -17,26 +17,26 @@ pub fn unique_law()
     ensures { UniqueLaw }
 {}
 
-/// In a grown order each vertex of the target's component has a label, at a cost less than the number of vertices, and
-/// no vertex of another component has one.
+/// In a grown order, each vertex of the target's component has a label, at a cost less than the number of vertices. No
+/// vertex of another component has a label.
 pub fn reached_law()
     ensures { ReachedLaw }
 {}
 
-/// Each vertex with a label, except the target, has a candidate. Each candidate leads to a vertex whose cost is one
-/// less. From a vertex labeled `Down`, each candidate leads down to a vertex labeled `Down`.
+/// Each vertex that has a label, except the target, has a candidate. Each candidate leads to a vertex whose cost is one
+/// less. From a vertex labeled `Down`, each candidate leads down, to a vertex labeled `Down`.
 pub fn candidates_law()
     ensures { CandidatesLaw }
 {}
 
-/// The candidates of a vertex are exactly its edges to vertices of a cost one less that lead up, or that lead to a
-/// vertex labeled `Down`.
+/// An edge of a vertex is a candidate exactly when it leads to a vertex whose cost is one less, and either leads up or
+/// leads to a vertex labeled `Down`.
 pub fn candidates_are_nearer()
     ensures { CandidatesAreNearer }
 {}
 
-/// From each vertex with a label the candidates lead to the LID's home, whichever candidate is picked for each LID and
-/// vertex. The way goes up and then down, takes as many edges as the cost, and passes no vertex twice.
+/// From each vertex with a label, the candidates lead to the LID's home, whichever candidate is picked for each LID and
+/// vertex. The way goes up and then down, takes as many edges as the vertex's cost, and passes no vertex twice.
 pub fn ways_law()
     ensures { WaysLaw }
 {}
@@ -46,19 +46,19 @@ pub fn channels_law()
     ensures { ChannelsLaw }
 {}
 
-/// Packets to all targets together, by any candidates, never wait for each other in a credit loop.
+/// Packets to all targets together, by whichever candidates, never wait for each other in a credit loop.
 pub fn no_cycle_law()
     ensures { NoCycleLaw }
 {}
 
-/// If each edge has an edge back, a grown order has each vertex once, and each vertex except the first of its component
-/// comes after a vertex that it has an edge to. This holds whatever the keys. The graph numbered by positions in the
-/// order is grown.
+/// If each edge has an edge back, then, whatever the keys, a grown order has each vertex once. Each vertex except the
+/// first of its component comes after a vertex that it has an edge to. The graph numbered by positions in the order is
+/// grown.
 pub fn order_law()
     ensures { OrderLaw }
 {}
 
-/// Ordered by distance class, then by distance and then by number, vertices are in a strict total order.
+/// The order of vertices by distance class, then by distance, then by number is a strict total order.
 pub fn keys_tell_apart()
     ensures { KeysTellApart }
 {}
@@ -70,13 +70,13 @@ pub fn keys_law()
 {}
 
 /// If each edge has an edge back, the edges up and the edges down of a graph are slopes. Edges that climb or descend in
-/// the graph do so on the slopes.
+/// the graph also do so among the slopes.
 pub fn sides_law()
     ensures { SidesLaw }
 {}
 
-/// If each edge has an edge back, each vertex of the component of a LID's home has a way to the home in the grown
-/// order, whatever the keys and the picked candidates. The way has fewer edges than there are vertices.
+/// If each edge has an edge back, then, whatever the keys and the picked candidates, a way in the grown order leads to
+/// a LID's home from each vertex from which a walk leads to the home. The way has fewer edges than there are vertices.
 pub fn every_pair_law()
     ensures { EveryPairLaw }
 {}

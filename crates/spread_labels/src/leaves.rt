@@ -4,7 +4,7 @@ ghost use Rattle.spread_labels.specs.LeafVertices.{leaf_vertices};
 
 use std::alloc::{AllocError, Global};
 
-/// Returns the vertices that have adapters, in ascending order. `adapters` has the number of adapters of each vertex.
+/// Returns the vertices that have adapters, in ascending order. `adapters` has the number of adapters at each vertex.
 pub fn leaf_vertices(alloc: Global, adapters: &[u16]) -> Result<Vec<usize>, AllocError>
     ensures vertices { IfOk result (λ found. found.items ≡ leaf_vertices adapters.now) }
     ensures within { IfOk result (λ found. All (λ vertex. vertex < length adapters.now) found.items) }

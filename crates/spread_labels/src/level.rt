@@ -8,10 +8,10 @@ use crate::distance_class::DistanceSum;
 use port_graph::{Adjacency, Edge};
 use std::alloc::{AllocError, Global};
 
-/// The greatest digit weight. No number of a LID exceeds it.
+/// The greatest digit weight. The number of a LID is never greater.
 const GREATEST_WEIGHT: usize = 65536;
 
-/// Returns the least distance of each of `distance_sums`, or 0 for a sum without distances.
+/// Returns the least distance in each of `distance_sums`, or 0 for a summary that has no distances.
 pub(crate) fn near_or_0(
     alloc: Global,
     distance_sums: &[DistanceSum],
@@ -25,9 +25,10 @@ pub(crate) fn near_or_0(
         .collect(alloc)
 }
 
-/// Returns the digit weight of the level of each vertex: the product of the widths of all lesser levels, but at most
-/// 65536. The width of a level is the greatest number of edges from a vertex of the level to vertices of higher levels,
-/// but at least 1. `levels` must have a level for each vertex. Walks all vertices for each level.
+/// Returns, for each vertex, the digit weight of its level. The digit weight is the product of the widths of all lesser
+/// levels, but at most 65536. The width of a level is the greatest number of edges from a vertex of the level to
+/// vertices of higher levels, but at least 1. `levels` must have a level for each vertex. Walks all vertices for each
+/// level.
 pub fn digit_weights(
     alloc: Global,
     edges: &Adjacency,
@@ -67,7 +68,8 @@ fn digit_weights_by_level(
     Ok(digit_weights)
 }
 
-/// Returns the digit weight of the level above one with `digit_weight` and `width`: their product, but at most 65536.
+/// Returns the digit weight of the next level above one that has the digit weight `digit_weight` and the width `width`.
+/// It is the product of the two, but at most 65536.
 fn next_digit_weight(digit_weight: usize, width: usize) -> usize
     ensures { result ≡ min (digit_weight * width) 65536 }
 {
@@ -86,7 +88,7 @@ pub fn greatest_of(levels: &[usize]) -> usize
 }
 
 /// Returns the width of `level`: the greatest number of edges from a vertex of `level` to vertices of higher levels,
-/// but at least 1.
+/// but at least 1. `levels` must have a level for each vertex.
 fn width(edges: &Adjacency, levels: &[usize], level: usize) -> usize
     requires all { length levels.now ≡ length edges.now }
     requires lead { LeadToVertices edges.now }
@@ -101,8 +103,7 @@ fn width(edges: &Adjacency, levels: &[usize], level: usize) -> usize
     width
 }
 
-/// Returns how many of `edges` lead to vertices of a higher level than that of `vertex`. `edges` are the edges of
-/// `vertex`.
+/// Returns how many of `edges`, the edges of `vertex`, lead to vertices of a higher level than that of `vertex`.
 fn rises(edges: &[Edge], vertex: usize, levels: &[usize]) -> usize
     requires vertex { vertex < length levels.now }
     requires lead { All (λ edge. edge.to < length levels.now) edges.now }

@@ -1,5 +1,5 @@
-//! Routes by labels: the cost at which each vertex gets its label, in rounds from the target, and the edges that give
-//! the label.
+//! Routes by labels. In rounds from the target, each vertex gets a label at a cost, and the edges that give the label
+//! are its candidates.
 #![tactic(auto)]
 
 mod candidate_lists;

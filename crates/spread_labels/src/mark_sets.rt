@@ -10,21 +10,22 @@ use crate::target_set::TargetSet;
 use port_graph::{Adjacency, Edge};
 use std::alloc::{AllocError, Global};
 
-/// For each vertex, the targets for which it has a mark, and those for which the mark is `Down`.
+/// For each vertex, the targets for which it has a mark, and the targets for which this mark is `Down`.
 #[derive(Drop)]
 pub(crate) struct MarkSets {
     marked: Vec<TargetSet>,
     downs: Vec<TargetSet>,
 }
 
-/// The sets of one vertex: the targets for which it has a mark, and those for which the mark is `Down`.
+/// The sets of one vertex: the targets for which it has a mark, and the targets for which this mark is `Down`.
 #[derive(Clone, Copy)]
 struct VertexSets {
     marked: TargetSet,
     downs: TargetSet,
 }
 
-/// The targets for which edges give a vertex a mark, and those for which an edge that leads up gives one.
+/// The targets for which any of a vertex's edges gives it a mark, and the targets for which an edge that leads up gives
+/// it one.
 #[derive(Clone, Copy)]
 struct Givers {
     targets: TargetSet,
@@ -44,8 +45,8 @@ fn giver_set(edge: &Edge, vertex: usize, marks: &MarkSets) -> TargetSet
     }
 }
 
-/// Returns the targets for which one of `edges` gives `vertex` a mark, and the targets for which one that leads up
-/// does. `edges` are the edges of `vertex`.
+/// Returns the targets for which any of `edges` gives `vertex` a mark, and the targets for which an edge that leads up
+/// gives it one. `edges` are the edges of `vertex`.
 fn given_by(edges: &[Edge], vertex: usize, marks: &MarkSets) -> Givers
     requires marked { All (λ edge. edge.to < length marks.now.marked.items) edges.now }
     requires downs { All (λ edge. edge.to < length marks.now.downs.items) edges.now }
@@ -84,7 +85,7 @@ fn note(row: &mut [TargetSet], edges: &[Edge], vertex: usize, marks: &MarkSets, 
 }
 
 /// Returns the sets of `vertex` after one more round. Adds to the set of each edge in `row` the targets for which the
-/// edge gave a mark in this round. `row` must have a set for each of `edges`.
+/// edge gives a mark in this round. `row` must have a set for each of `edges`.
 fn set_step(edges: &[Edge], vertex: usize, marks: &MarkSets, row: &mut [TargetSet]) -> VertexSets
     requires row { length row.old ≡ length edges.now }
     requires in_marked { vertex < length marks.now.marked.items }
@@ -104,7 +105,7 @@ fn set_step(edges: &[Edge], vertex: usize, marks: &MarkSets, row: &mut [TargetSe
 }
 
 /// Returns the sets of all vertices after one more round. Adds to the set of each edge in `rows` the targets for which
-/// the edge gave a mark in this round. `rows` must have a row for each vertex, with a set for each of its edges.
+/// the edge gives a mark in this round. `rows` must have a row for each vertex, with a set for each of its edges.
 pub(crate) fn after_round(
     alloc: Global,
     edges: &Adjacency,

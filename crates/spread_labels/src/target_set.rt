@@ -12,7 +12,7 @@ pub struct TargetSet {
 }
 
 impl TargetSet {
-    /// Returns the empty set.
+    /// Returns the empty set of targets.
     pub fn none() -> Self
         ensures none { EachTarget (λ k. has result k ≡ false) }
         ensures is { result ≡ no_targets }
@@ -20,7 +20,7 @@ impl TargetSet {
         TargetSet { bits: 0 }
     }
 
-    /// Returns the set with `target`, which must be less than 64, added.
+    /// Returns this set with `target` added. `target` must be less than 64.
     pub(crate) fn with(self, target: usize) -> Self
         requires { target < 64 }
         ensures { EachTarget (λ k. has result k ≡ ((k == target) || has self k)) }
@@ -71,7 +71,7 @@ impl TargetSet {
         self.bits == other.bits
     }
 
-    /// Returns whether `target`, which must be less than 64, is in the set.
+    /// Returns whether `target` is in the set. `target` must be less than 64.
     pub fn has(self, target: usize) -> bool
         requires { target < 64 }
         ensures { result ≡ has self target }
@@ -91,7 +91,7 @@ impl TargetSet {
         }
     }
 
-    /// Returns the set without `target`, which must be in the set.
+    /// Returns this set without `target`. `target` must be in the set.
     pub(crate) fn but(self, target: usize) -> Self
         requires target { target < 64 }
         requires among { has self target ≡ true }

@@ -10,8 +10,8 @@ use port_graph::{Adjacency, distances};
 use std::alloc::{AllocError, Global};
 
 /// Returns the key of each vertex: its distance class, and its distance from the first vertex of its component. The
-/// first vertex is the one of least distance class, and of several such vertices the least. There must be a distance
-/// class for each vertex. For each edge there must be an edge back. Takes two breadth-first searches for each
+/// first vertex is the one with the least distance class, and the least such vertex if there are several. There must be
+/// a distance class for each vertex. For each edge there must be an edge back. Does two breadth-first searches for each
 /// component.
 pub fn keys(
     alloc: Global,
@@ -46,8 +46,8 @@ fn by_distance_class(alloc: Global, distance_classes: &[u128]) -> Result<Vec<Ver
     keys.collect(alloc)
 }
 
-/// Returns the distance of each vertex from the first vertex, by `keys`, of its component. For each edge there must be
-/// an edge back.
+/// Returns the distance of each vertex from the first vertex of its component. The first vertex is the one with the
+/// earliest key in `keys`. There must be a key for each vertex. For each edge there must be an edge back.
 fn far(
     alloc: Global,
     edges: &Adjacency,
@@ -68,8 +68,9 @@ fn far(
     Ok(far)
 }
 
-/// Returns the distance of each vertex from the first vertex, by `keys`, of the component of `vertex`. Returns `None`
-/// for a vertex of another component.
+/// Returns the distance of each vertex from the first vertex of the component of `vertex`. The first vertex is the one
+/// with the earliest key in `keys`. The distance is `None` for a vertex of another component. There must be a key for
+/// each vertex, and `vertex` must be a vertex.
 fn from_first(
     alloc: Global,
     edges: &Adjacency,
@@ -97,8 +98,8 @@ fn fill(far: &mut [Option<usize>], found: &[Option<usize>])
     }
 }
 
-/// Returns the vertex with the earliest key among the vertices with a distance in `distances`, or `None` if no vertex
-/// has one.
+/// Returns the vertex with the earliest key in `keys` among the vertices that have a distance in `distances`, or `None`
+/// if no vertex has one.
 fn first(keys: &[VertexKey], distances: &[Option<usize>]) -> Option<usize>
     requires { length distances.now ≡ length keys.now }
     ensures first { result ≡ first_among keys.now distances.now }

@@ -7,8 +7,8 @@ ghost use Rattle.spread_labels.specs.Positions.{ArePositions, StandOnce, to_posi
 use port_graph::{Adjacency, Edge};
 use std::alloc::{AllocError, Global};
 
-/// Returns the position in `vertices` of each of `count` vertices, or 0 for a vertex that is not there. `vertices` must
-/// have only vertices less than `count`, each at most once.
+/// Returns the position in `vertices` of each of `count` vertices, or 0 for a vertex that `vertices` does not have.
+/// `vertices` must have only vertices less than `count`, each at most once.
 pub fn positions(alloc: Global, vertices: &[usize], count: usize) -> Result<Vec<usize>, AllocError>
     requires { StandOnce count vertices.now }
     ensures { IfOk result (λ positions. ArePositions count vertices.now positions.items) }
@@ -20,8 +20,8 @@ pub fn positions(alloc: Global, vertices: &[usize], count: usize) -> Result<Vec<
     Ok(positions)
 }
 
-/// Returns the position of `vertex` in `vertices`, or the length of `vertices` if `vertex` is not there. Takes time
-/// linear in that length.
+/// Returns the position of `vertex` in `vertices`, or the length of `vertices` if it does not have `vertex`. Takes time
+/// linear in this length.
 pub fn position_of(vertices: &[usize], vertex: usize) -> usize
     ensures { result ≡ position_of vertices.now vertex }
 {
@@ -33,7 +33,8 @@ pub fn position_of(vertices: &[usize], vertex: usize) -> usize
     vertices.len()
 }
 
-/// Returns the position of each of `vertices`. `positions` must have a position for each of these vertices.
+/// Returns the position of each of `vertices`, as `positions` says. `positions` must have a position for each of these
+/// vertices.
 pub fn positions_at(
     alloc: Global,
     positions: &[usize],
@@ -61,8 +62,9 @@ pub fn counts_at(alloc: Global, counts: &[u16], vertices: &[usize]) -> Result<Ve
     Ok(found)
 }
 
-/// Returns the edges of the vertex at each position of the order `vertices`, as edges to positions. The order must have
-/// every vertex, and `positions` must have the position of each. Takes time linear in the number of vertices and edges.
+/// Returns the edges of the vertex at each position of the order `vertices`, as edges to positions. `vertices` must
+/// have every vertex, and `positions` must have the position of each in `vertices`. Takes time linear in the number of
+/// vertices and edges.
 pub fn by_positions(
     alloc: Global,
     edges: &Adjacency,

@@ -1,5 +1,5 @@
--- The candidates by which packets leave switches if loads are balanced: for each adapter each switch takes one
--- candidate, and the LIDs at a switch share the choices for its adapters.
+-- The candidates by which packets leave switches if loads are balanced. For each adapter, each switch takes one
+-- candidate. The LIDs at a switch share the choices for its adapters.
 use Rattle.std.specs.Prelude.{ℕ, ◌+◌, ◌*◌, ◌==◌, List, [], map, slice_index, slice_index_or, sum_by, take, if◌then◌else◌}
 use Rattle.std.specs.Prelude.{Option, None, Some}
 use Rattle.port_graph.specs.declared.edge.Edge.{Edge}
@@ -9,44 +9,44 @@ use Rattle.balanced_choices.specs.BalancedChoices.{are_even, balanced_choices, d
 use Rattle.balanced_choices.specs.Loads.{first_loads}
 use Rattle.balanced_choices.specs.declared.choice_rounds.Destination.{Destination}
 
--- how candidates towards adapters are chosen. The digit weight, the leaf number and the number of adapters of each
--- position give the first choices. `counted` is None if the first choices stand; else it has for each adapter the
--- number of the candidate that each position takes
+-- how candidates towards adapters are chosen. First choices follow from the digit weight, the leaf number and the
+-- number of adapters of each position. `counted` is None if first choices stand. Otherwise it has, for each adapter,
+-- the number of the candidate that each position takes
 pub record AdapterChoices : Type 0 where
   pub weights : List ℕ
   pub leaf_numbers : List ℕ
   pub adapters : List ℕ
   pub counted : Option (List (List ℕ))
 
--- the number of adapters at positions before `q`, which is the number of the first adapter at `q` in `counted`
+-- the number of adapters at positions before `q`. It is the number of the first adapter at `q` in `counted`
 abbrev pub first_at : List ℕ → ℕ → ℕ
 first_at adapters q = sum_by (λ n. n) (take q adapters)
 
--- the number, in `counted`, of the adapter at position `q` whose choices a LID with the number `lid` takes; `first_at`
--- if `q` has no adapters
+-- the number, in `counted`, of an adapter at position `q`: the one whose choices a LID with the number `lid` takes.
+-- `first_at` if `q` has no adapters
 abbrev pub adapter_of : List ℕ → ℕ → ℕ → ℕ
 adapter_of adapters lid q = first_at adapters q + in_turn (slice_index adapters q) lid
 
--- the number of the first adapter at position `q`, for first choices: the leaf number of `q` times the greatest number
--- of adapters that a position has
+-- the number, for first choices, of the first adapter at position `q`: the leaf number of `q` times the greatest number
+-- of adapters at any position
 abbrev pub first_number : List ℕ → List ℕ → ℕ → ℕ
 first_number leaf_numbers adapters q = slice_index leaf_numbers q * greatest 0 adapters
 
--- the number, for first choices, of the adapter at position `q` whose choices a LID with the number `lid` takes;
--- `first_number` if `q` has no adapters
+-- the number, for first choices, of an adapter at position `q`: the one whose choices a LID with the number `lid`
+-- takes. `first_number` if `q` has no adapters
 abbrev pub end_number : AdapterChoices → ℕ → ℕ → ℕ
 end_number by lid q = first_number by.leaf_numbers by.adapters q + in_turn (slice_index by.adapters q) lid
 
--- the number by which a LID with the number `lid` chooses a candidate at position `p` towards position `q`. By first
--- choices it is the adapter's number divided by the digit weight of `p`, rounded down, plus `p`. By counted choices it
--- is the choice of `p` for the adapter, or 0 if `q` has no adapters
+-- the number by which the candidate at position `p` towards position `q` is chosen, for a LID with the number `lid`.
+-- For first choices, it is the adapter's number divided by the digit weight of `p`, rounded down, plus `p`. For counted
+-- choices, it is the choice of `p` for the adapter, or 0 if `q` has no adapters
 abbrev pub choice_with : Option (List (List ℕ)) → AdapterChoices → ℕ → ℕ → ℕ → ℕ
 choice_with None by lid p q = digits_from (slice_index by.weights p) (end_number by lid q) + p
 choice_with (Some choices) by lid p q =
     if slice_index by.adapters q == 0 then 0
     else slice_index (slice_index_or choices (adapter_of by.adapters lid q) []) p
 
--- the number by which a LID with the number `lid` chooses a candidate at position `p` towards position `q`
+-- the number by which the candidate at position `p` towards position `q` is chosen, for a LID with the number `lid`
 abbrev pub choice_towards : AdapterChoices → ℕ → ℕ → ℕ → ℕ
 choice_towards by lid p q = choice_with by.counted by lid p q
 
@@ -58,17 +58,18 @@ destination leaf_numbers adapters q = record {
   number = first_number leaf_numbers adapters q;
 }
 
--- the positions with adapters as destinations of packets, by rising position
+-- the positions that have adapters, as destinations of packets, in ascending order of position
 abbrev pub destinations : List ℕ → List ℕ → List Destination
 destinations leaf_numbers adapters = map (destination leaf_numbers adapters) (leaf_vertices adapters)
 
--- None if the loads by first choices are even, else the balanced choices; each adapter sends one packet to each adapter
+-- the balanced choices, or None if the loads by first choices are even. Each adapter sends one packet to each adapter
 abbrev pub counted_if_uneven : List (List Edge) → List ℕ → List ℕ → List Destination → Option (List (List ℕ))
 counted_if_uneven graph adapters weights ds =
     if are_even graph (first_loads graph adapters weights ds) then None
     else Some (balanced_choices graph adapters weights ds)
 
--- how candidates towards adapters are chosen in a graph by positions
+-- how candidates towards adapters are chosen in a graph by positions, with the digit weight, the leaf number and the
+-- number of adapters of each position
 unfoldable pub adapter_choices : List (List Edge) → List ℕ → List ℕ → List ℕ → AdapterChoices
 adapter_choices graph weights leaf_numbers adapters = record {
   weights = weights;

@@ -15,12 +15,12 @@ use Rattle.spread_routes.specs.Rule.{by_positions, order_by_keys}
 use Rattle.spread_routes.specs.AdapterChoices.{AdapterChoices}
 use Rattle.spread_routes.specs.Spread.{Grading, number_by, number_with, lid_digit_there, spread_at}
 
--- a LID digit for positions past the end
+-- the LID digit that is used for positions past the end
 abbrev pub no_lid_digit : LidDigit
 no_lid_digit = record { level = 0; digit_weight = 1; offset = 0 }
 
--- in the order that grows by the keys of `by`, `edges` has the graph's edges from position to position, `positions` the
--- position of each switch, and `lid_digits` the LID digit of the switch at each position
+-- the graph in the order that grows by the keys of `by`. `edges` has the edges from position to position, `positions`
+-- has the position of each switch, and `lid_digits` has the LID digit of the switch at each position
 pub record IsByPositions (by : Grading) (edges : List (List Edge)) (positions : List ℕ) (lid_digits : List LidDigit) :
     Type 0 where
   pub is_graph : IsGraph by.graph
@@ -31,8 +31,8 @@ pub record IsByPositions (by : Grading) (edges : List (List Edge)) (positions : 
   pub all_lid_digits : length lid_digits ≡ length edges
   pub lid_digit : (p : ℕ) → p < length edges → slice_index_or lid_digits p no_lid_digit ≡ lid_digit_there by p
 
--- the candidates of all vertices towards the switches at the indices from `first` up to, but not including, `end`: for
--- each edge, the targets for which the edge is a candidate
+-- the candidates of all vertices towards the switches at the indices from `first` up to, but not including, `end`. For
+-- each edge there is the set of targets towards which the edge is a candidate
 pub record TowardsValue : Type 0 where
   pub first : ℕ
   pub end : ℕ
@@ -47,9 +47,9 @@ pub record AreTowards (by : Grading) (towards : TowardsValue) : Type 0 where
       → picked k (sets_at towards.sets p) (edges_at (by_positions by.graph by.keys) p)
       ≡ candidates (by_positions by.graph by.keys) (position_of (order_by_keys by.graph by.keys) (towards.first + k)) p
 
--- how packets leave a switch: the ports of its candidates towards each target, the targets for which a candidate leads
--- to a higher level, the switch's LID digit, the choices for adapters if loads are balanced, and the positions of the
--- switch and of the targets
+-- how packets leave a switch: the ports of its candidates towards each target; the targets towards which some candidate
+-- leads to a higher level; the switch's LID digit; the choices for adapters, if loads are balanced; and the positions
+-- of the switch and of the targets
 pub record ExitsValue : Type 0 where
   pub ports : List (List ℕ)
   pub higher : TargetSet
@@ -67,7 +67,7 @@ port_chosen (port ∷ ports) choice = slice_get (port ∷ ports) (choice % lengt
 abbrev pub port_turn : List ℕ → ℕ → ℕ
 port_turn ports choice = slice_index ports (choice % length ports)
 
--- the number by which a LID with the number `lid` chooses among the ports towards target `k`
+-- the number by which the port towards target `k` is chosen, for a LID with the number `lid`
 abbrev pub exit_number : ExitsValue → ℕ → ℕ → ℕ
 exit_number exits k lid =
     number_with exits.choices (number_by exits.lid_digit (has exits.higher k) lid) lid exits.own
@@ -77,13 +77,13 @@ exit_number exits k lid =
 abbrev pub port_by : ExitsValue → ℕ → ℕ → Option ℕ
 port_by exits k lid = port_chosen (slice_index_or exits.ports k []) (exit_number exits k lid)
 
--- `exits` give, for each LID and each target, the port by which packets leave the switch at index `own` by the spread
--- rule
+-- for each LID and each target, `exits` give the port by which packets leave the switch at index `own` according to the
+-- spread rule
 abbrev pub AreExits : Grading → TowardsValue → ℕ → ExitsValue → Type 0
 AreExits by towards own exits = (k lid : ℕ) → towards.first + k < towards.end → port_by exits k lid
     ≡ (spread_at by).next lid (switch_at by.graph own) (switch_at by.graph (towards.first + k))
 
--- `entries`, with `f lid` at each LID of a list
+-- `entries`, with `f lid` as the entry of each `lid` of a list
 abbrev pub with_entries : (ℕ → ℕ) → List ℕ → List ℕ → List ℕ
 with_entries f entries [] = entries
 with_entries f entries (lid ∷ lids) = with_entries f (slice_set entries lid (f lid)) lids

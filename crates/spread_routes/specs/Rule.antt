@@ -1,5 +1,5 @@
--- The spread rule. It labels switches towards a target in an order that grows by keys. A packet chooses, by a number,
--- among the edges that gave a switch its label.
+-- The spread rule. It labels switches towards a target, in an order that grows by keys. A packet takes one of the edges
+-- that gave a switch its label, chosen by a number.
 use Rattle.std.specs.Prelude.{ℕ, List, map, length, Option, option_map}
 use Rattle.port_graph.specs.declared.edge.Edge.{Edge}
 use Rattle.spread_labels.specs.declared.vertex_key.VertexKey.{VertexKey}
@@ -14,8 +14,8 @@ use Rattle.subnet_view.specs.Graph.{guids_of}
 use Rattle.subnet_view.specs.GraphLaws.{IsGraph}
 use Rattle.subnet_view.specs.Routing.{Routing, IsRouting}
 
--- what the spread rule needs: the key of each switch, in ascending order of GUID; and the number by which a packet for
--- a LID chooses among edges at one position towards another
+-- what the spread rule needs: the key of each switch, in ascending order of the switches' GUIDs; and the number by
+-- which a packet for a LID chooses among edges at one position towards another
 pub record Spreading : Type 0 where
   pub keys : List VertexKey
   pub number : ℕ → ℕ → ℕ → List Edge → ℕ
@@ -40,8 +40,8 @@ switch_there graph keys p = at_position (guids_of graph) (at_position (order_by_
 abbrev pub by_positions : List SwitchEdges → List VertexKey → List (List Edge)
 by_positions graph keys = grown (by_index graph) (before_by keys)
 
--- the edge that a packet for `lid` takes at position `p` towards position `q`: the one at the index `by.number` modulo
--- the number of edges; None if there are no edges
+-- the edge that a packet for `lid` takes at position `p` towards position `q`: the edge at index `by.number` modulo the
+-- number of edges; None if there are no edges
 abbrev pub taken : Spreading → ℕ → ℕ → ℕ → List Edge → Option Edge
 taken by lid p q edges = chosen edges (by.number lid p q edges)
 
@@ -50,8 +50,8 @@ taken by lid p q edges = chosen edges (by.number lid p q edges)
 abbrev pub edge_to : List SwitchEdges → Spreading → ℕ → ℕ → ℕ → Option Edge
 edge_to graph by lid p q = taken by lid p q (candidates (by_positions graph by.keys) q p)
 
--- the spread rule: the port of the candidate that is taken, and the cost and the channels by positions in the order
--- that grows by the keys
+-- the spread rule. The port is that of the candidate that is taken. The cost and the channels go by positions in the
+-- order that grows by the keys
 abbrev pub spread : List SwitchEdges → Spreading → Routing
 spread graph by = record {
   next = λ lid s t.

@@ -25,13 +25,13 @@ pub(crate) struct AdapterChoices {
     leaf_numbers: Vec<u16>,
     /// The number of adapters at each position.
     adapters: Vec<u16>,
-    /// The most adapters at one position.
+    /// The greatest number of adapters at any position.
     most: u16,
     /// The index in `counted` of the first adapter at each position: the number of adapters at earlier positions, but
     /// at most 2^64 - 1.
     firsts: Vec<usize>,
-    /// For each adapter, the number of the candidate that each position takes. `None` if the loads by first choices are
-    /// even.
+    /// For each adapter, the number of the candidate that each position takes towards it. `None` if the loads by first
+    /// choices are even.
     counted: Option<Vec<Vec<u8>>>,
 }
 
@@ -57,10 +57,10 @@ impl Model for AdapterChoices {
 }
 
 impl AdapterChoices {
-    /// Balances the loads of `edges`, a graph by positions, if each adapter sends one packet to each adapter.
+    /// Balances the loads of `edges`, a graph by positions, where each adapter sends one packet to each adapter.
     /// `weights`, `leaf_numbers` and `adapters` must have the digit weight, the leaf number and the number of adapters
-    /// of each position. Takes as long as `first_loads`. If these loads are not even, takes as long as
-    /// `balanced_choices` besides.
+    /// of each position. Takes as long as `first_loads`. If these loads are not even, it also takes as long as
+    /// `balanced_choices`.
     pub(crate) fn of(
         alloc: Global,
         edges: &Adjacency,
@@ -90,15 +90,16 @@ impl AdapterChoices {
         })
     }
 
-    /// Returns whether the choices were made by counted loads.
+    /// Returns whether the choices were made by counted loads, that is, by `balanced_choices`.
     pub(crate) fn are_counted(&self) -> bool
         ensures { result ≡ is_some self.now.counted }
     {
         self.counted.is_some()
     }
 
-    /// Returns the number of the candidate that a LID with the number `number` takes at the position `own` towards the
-    /// position `target`, or 0 if there are no adapters at `target`. The choices must have been made by counted loads.
+    /// Returns the number of the candidate that packets for a LID with the number `number` take at the position `own`
+    /// towards the position `target`. Returns 0 if there are no adapters at `target`. The choices must have been made
+    /// by counted loads.
     pub(crate) fn towards(&self, number: usize, own: usize, target: usize) -> usize
         requires { IsTrue (is_some self.now.counted) }
         ensures { result ≡ choice_towards self.now number own target }
@@ -115,7 +116,7 @@ impl AdapterChoices {
         }
     }
 
-    /// Returns the turn of the end with the number 0 among `count` candidates at the position `own`, by first choices.
+    /// Returns the turn of the end with the number 0 among `count` candidates at the position `own`, for first choices.
     /// `count` must be from 1 to 2^63 - 1.
     pub(crate) fn turn(&self, own: usize, count: usize) -> RoundRobin
         requires { (0 < count) × (count < 2 ^ 63) }
@@ -127,7 +128,8 @@ impl AdapterChoices {
         RoundRobin::first(self.weight_at(own), own, count)
     }
 
-    /// Returns the number, for first choices, of the first adapter at `position`. Returns 0 past the last position.
+    /// Returns the number of the first adapter at `position`, by which first choices are made. Returns 0 if `position`
+    /// is past the last position.
     pub(crate) fn first_number(&self, position: usize) -> usize
         ensures number { result ≡ first_number self.now.leaf_numbers self.now.adapters position }
         ensures small { result < 2 ^ 32 }
@@ -135,8 +137,8 @@ impl AdapterChoices {
         self.leaf_number_at(position) * usize::from(self.most)
     }
 
-    /// Returns the index in `counted` of the adapter at `position` whose choices a LID with the number `number` takes,
-    /// but at most 2^64 - 1. `position` must exist.
+    /// Returns the index in `counted` of an adapter at `position`, but at most 2^64 - 1. It is the adapter whose
+    /// choices a LID with the number `number` takes. There must be such a position.
     fn adapter_of(&self, number: usize, position: usize) -> usize
         requires { position < length self.now.adapters }
         ensures { result ≡ min (adapter_of self.now.adapters number position) (2 ^ 64 - 1) }
@@ -196,7 +198,8 @@ fn choice_at(choices: &[u8], position: usize) -> usize
     }
 }
 
-/// Returns the number of packets that each position sends to each adapter: one from each of its own adapters.
+/// Returns the number of packets that each position sends to each adapter: one packet from each adapter at the
+/// position.
 fn sent(alloc: Global, adapters: &[u16]) -> Result<Vec<usize>, AllocError>
     ensures { IfOk result (λ sent. sent.items ≡ adapters.now) }
 {
@@ -207,8 +210,9 @@ fn sent(alloc: Global, adapters: &[u16]) -> Result<Vec<usize>, AllocError>
     Ok(sent)
 }
 
-/// Returns the positions with adapters as destinations. Each destination has one end for each of its adapters. The
-/// number of its first end is its leaf number times the most adapters that one position has.
+/// Returns, as destinations, the positions that have adapters. `leaf_numbers` and `adapters` must be equally long. Each
+/// destination has one end for each of its adapters. The number of its first end is its leaf number times the greatest
+/// number of adapters at any position.
 fn destinations(
     alloc: Global,
     leaf_numbers: &[u16],
@@ -231,7 +235,8 @@ fn destinations(
     Ok(found)
 }
 
-/// Returns balanced choices, or `None` if the loads by first choices are even.
+/// Returns balanced choices, or `None` if the loads by first choices are even. `sent` and `weights` must have an entry
+/// for each position, and destinations must be at positions.
 fn counted_if_uneven(
     alloc: Global,
     edges: &Adjacency,

@@ -9,9 +9,9 @@ use smp_bytes::{Guid, PortNum};
 use std::alloc::{AllocError, Global};
 use subnet_view::{Wires, is_usable, port_count};
 
-/// Returns the number of adapter ports that are wired to each usable switch, in ascending order of GUID. `guids` must
-/// be the usable switches. Does a binary search among the cells for each switch, and at most four for each of its
-/// ports.
+/// Returns the number of adapter ports that are wired to each usable switch, in ascending order of the switches' GUIDs.
+/// `guids` must be the usable switches, in ascending order of GUID. Does a binary search among the cells for each
+/// switch, and at most four for each port of a switch.
 pub fn adapters_of(alloc: Global, wires: &Wires, guids: &[Guid]) -> Result<Vec<u16>, AllocError>
     requires { guids.now ≡ switches (cells_of wires.now) }
     ensures { IfOk result (λ adapters. adapters.items ≡ adapters_of (cells_of wires.now)) }
@@ -22,8 +22,8 @@ pub fn adapters_of(alloc: Global, wires: &Wires, guids: &[Guid]) -> Result<Vec<u
         .collect(alloc)
 }
 
-/// Returns the most adapters that one switch has, or 0 if there are no switches. `adapters` must have the number of
-/// adapters at each switch.
+/// Returns the greatest number of adapters at any switch, or 0 if there are no switches. `adapters` must have the
+/// number of adapters at each switch.
 pub fn most_adapters(adapters: &[u16]) -> u16
     ensures { result ≡ greatest 0 adapters.now }
 {

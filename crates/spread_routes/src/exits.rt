@@ -1,4 +1,4 @@
-//! The ports by which packets leave a switch towards others.
+//! The ports by which packets leave a switch towards other switches.
 ghost use Rattle.std.specs.Prelude.{◌≡◌, ◌<◌, ◌^◌, [], All, IfOk, IsTrue, None, OnOk, is_some};
 ghost use Rattle.std.specs.Prelude.{length, map, slice_index, slice_index_or};
 ghost use Rattle.std.specs.Prelude.{unwrap_or};
@@ -17,11 +17,12 @@ use spread_labels::{CandidateLists, TargetSet};
 use std::alloc::{AllocError, Global};
 use std::marker::Model;
 
-/// The ports by which packets may leave a switch towards each of some targets, and how a LID chooses among them.
+/// The ports by which packets may leave a switch towards each of some targets, and how the port for a LID is chosen
+/// among them.
 #[derive(Drop)]
 pub struct Exits<'s> {
     lists: CandidateLists,
-    /// The targets for which one of the candidates leads to a higher switch.
+    /// The targets towards which some candidate leads to a higher switch.
     higher: TargetSet,
     lid_digit: LidDigit,
     /// The choices for adapters, or `None` if loads are not balanced.
@@ -52,7 +53,7 @@ impl<'s> Model for Exits<'s> {
 }
 
 impl<'s> Exits<'s> {
-    /// Creates exits without ports, choices and targets.
+    /// Creates exits without ports, choices or targets.
     pub fn new(alloc: Global) -> Result<Self, AllocError>
         ensures ports { IfOk result (λ exits. EachTarget (λ k. slice_index_or exits.ports k [] ≡ [])) }
         ensures choices { IfOk result (λ exits. exits.choices ≡ None) }
@@ -72,8 +73,8 @@ impl<'s> Exits<'s> {
         })
     }
 
-    /// Sets how LIDs choose among the ports: by `choices`, at the position `own` towards the positions `targets`. If
-    /// `choices` is `None`, LIDs choose by the LID digit.
+    /// Sets how the ports for LIDs are chosen: by `choices`, at the position `own` towards the positions `targets`. If
+    /// `choices` is `None`, they are chosen by the LID digit.
     pub(crate) fn choose_by(
         &mut self,
         choices: Option<&'s AdapterChoices>,
@@ -117,9 +118,10 @@ impl<'s> Exits<'s> {
         self.lists.find(edges, sets)
     }
 
-    /// Writes, in the entry of each of `lids`, the number of the port that the LID takes towards `target`, or `none` if
-    /// no port leads there. A LID chooses by its number in `numbers`. `target` must be less than 64. `entries` and
-    /// `numbers` must be equally long, and each LID must be within them. Takes time linear in the number of LIDs.
+    /// Writes, in the entry of each of `lids`, the port by which packets for the LID leave towards `target`, or `none`
+    /// if no port leads there. The port is chosen by the LID's number in `numbers`. `target` must be less than 64.
+    /// `entries` and `numbers` must be equally long, and each LID must be within them. Takes time linear in the number
+    /// of LIDs.
     pub fn write(&self, target: usize, lids: &[Lid], numbers: &[u16], none: u8, entries: &mut [u8])
         requires target { target < 64 }
         requires lids { All (λ lid. lid < length entries.old) lids.now }
@@ -146,7 +148,7 @@ impl<'s> Exits<'s> {
         }
     }
 
-    /// Returns the position of `target`, or 0 if there is no such target.
+    /// Returns the position of the target with the index `target`, or 0 if there is no such target.
     fn position_of(&self, target: usize) -> usize
         ensures { result ≡ slice_index self.now.targets target }
     {
@@ -157,8 +159,9 @@ impl<'s> Exits<'s> {
     }
 }
 
-/// Writes, in the entry of each of `lids`, the port of `ports` that the LID takes by its choice at the position `own`
-/// towards the position `target`. The choices must have been made by counted loads, and there must be a port.
+/// Writes, in the entry of each of `lids`, the one of `ports` that is chosen by the LID's number in `numbers`, at the
+/// position `own` towards the position `target`, as `choices` says. The choices must have been made by counted loads,
+/// and there must be a port. `entries` and `numbers` must be equally long, and each LID must be within them.
 fn write_chosen(
     entries: &mut [u8],
     lids: &[Lid],
@@ -183,8 +186,9 @@ fn write_chosen(
     }
 }
 
-/// Writes, in the entry of each of `lids`, the port of `ports` that the LID takes by its first choice at the position
-/// `own` towards the position `target`. The choices must not have been made by counted loads, and there must be a port.
+/// Writes, in the entry of each of `lids`, the one of `ports` that is the first choice for the LID's number in
+/// `numbers`, at the position `own` towards the position `target`. The choices must not have been made by counted
+/// loads, and there must be a port. `entries` and `numbers` must be equally long, and each LID must be within them.
 fn write_in_turn(
     entries: &mut [u8],
     lids: &[Lid],
@@ -212,7 +216,7 @@ fn write_in_turn(
     }
 }
 
-/// Writes `none` in the entry of each of `lids`.
+/// Writes `none` in the entry of each of `lids`. Each LID must be within `entries`.
 fn write_none(entries: &mut [u8], lids: &[Lid], none: u8)
     requires { All (λ lid. lid < length entries.old) lids.now }
     ensures { entries.new ≡ with_entries (λ lid. none) entries.old lids.now }
@@ -222,8 +226,9 @@ fn write_none(entries: &mut [u8], lids: &[Lid], none: u8)
     }
 }
 
-/// Writes, in the entry of each of `lids`, the port of `ports` that the LID takes by `lid_digit`. `is_higher` says
-/// whether one of the ports leads to a higher switch. There must be a port.
+/// Writes, in the entry of each of `lids`, the one of `ports` that is chosen by `lid_digit` and the LID's number in
+/// `numbers`. `is_higher` says whether one of the ports leads to a higher switch. There must be a port, and the digit
+/// weight must not be 0. `entries` and `numbers` must be equally long, and each LID must be within them.
 fn write_ports(
     entries: &mut [u8],
     lids: &[Lid],
@@ -248,7 +253,7 @@ fn write_ports(
     }
 }
 
-/// Returns the number of `lid`, which must be within `numbers`.
+/// Returns the number of `lid`. `lid` must be within `numbers`.
 fn number_of(numbers: &[u16], lid: usize) -> usize
     requires { lid < length numbers.now }
     ensures number { result ≡ slice_index numbers.now lid }

@@ -7,11 +7,11 @@ use spread_labels::leaf_vertices;
 use std::alloc::{AllocError, Global};
 use subnet_view::SwitchGraph;
 
-/// Returns the leaf number of each switch, for switches in ascending order of GUID: the number of leaf switches that
-/// come before the switch, modulo 2^16. Leaf switches come in the order of their least neighbors, and then of their
-/// GUIDs. So those with a common least neighbor come one after the other. `adapters` must have the number of adapters
-/// at each switch, in ascending order of GUID. Takes time linear in the number of edges, and for each switch in the
-/// number of leaf switches.
+/// Returns the leaf number of each switch, in ascending order of the switches' GUIDs. The leaf number is the number of
+/// leaf switches that come before the switch, modulo 2^16. Leaf switches come in the order of their least neighbors,
+/// and then of their GUIDs, so those with the same least neighbor follow one another. `adapters` must have the number
+/// of adapters at each switch, in ascending order of GUID. Takes time linear in the number of edges and, for each
+/// switch, in the number of leaf switches.
 pub fn leaf_numbers(
     alloc: Global,
     graph: &SwitchGraph,
@@ -31,6 +31,7 @@ pub fn leaf_numbers(
 }
 
 /// Returns the leaf number of the vertex `index`: the number of leaf vertices that come before the vertex, modulo 2^16.
+/// `neighbors` must have the least neighbor of each vertex, and `leaves` the leaf vertices.
 fn leaf_number(neighbors: &[usize], leaves: &[usize], index: usize) -> u16
     requires index { index < length neighbors.now }
     requires leaves { All (λ leaf. leaf < length neighbors.now) leaves.now }
@@ -61,7 +62,7 @@ fn goes_first(neighbors: &[usize], a: usize, b: usize) -> bool
     neighbors[a] < neighbors[b] || neighbors[a] == neighbors[b] && a < b
 }
 
-/// Returns the least neighbor of each vertex, or the number of vertices for a vertex without neighbors.
+/// Returns the least neighbor of each vertex. For a vertex that has no neighbors, returns the number of vertices.
 fn least_neighbors(alloc: Global, edges: &Adjacency) -> Result<Vec<usize>, AllocError>
     ensures { IfOk result (λ found. found.items ≡ least_neighbors edges.now) }
 {
@@ -72,7 +73,7 @@ fn least_neighbors(alloc: Global, edges: &Adjacency) -> Result<Vec<usize>, Alloc
     Ok(found)
 }
 
-/// Returns the least of `none` and the vertices that `edges` lead to.
+/// Returns the least of `none` and the vertices to which `edges` lead.
 fn least_head(edges: &[Edge], none: usize) -> usize
     ensures { result ≡ least_head none edges.now }
 {

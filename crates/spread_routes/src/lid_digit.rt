@@ -1,4 +1,4 @@
-//! How switches choose among edges by the digits of LIDs' numbers.
+//! How switches choose among edges, by digits of the numbers of LIDs.
 ghost use Rattle.std.specs.Prelude.{◌≡◌, ◌<◌, All, IfOk, length, map, nat_lt, slice_index_or, if◌then◌else◌};
 ghost use Rattle.std.specs.List.{list_any};
 ghost use Rattle.port_graph.specs.Heads.{LeadToVertices};
@@ -20,16 +20,16 @@ use subnet_view::SwitchGraph;
 pub(crate) struct LidDigit {
     /// The level of the switch: its distance from the nearest leaf switch, or 0 if no leaf switch can be reached.
     pub(crate) level: usize,
-    /// The digit weight of that level.
+    /// The digit weight of this level.
     pub(crate) digit_weight: usize,
     /// The switch's GUID modulo 31.
     pub(crate) offset: u8,
 }
 
 impl LidDigit {
-    /// Returns the turn of the number 0 among `count` ports, from which to go to the numbers of LIDs. `count` must not
-    /// be 0. `is_higher` says whether one of the ports leads to a higher switch. If none does, the digit of a number is
-    /// the number itself.
+    /// Returns the turn of the number 0 among `count` ports. From there, the turn can go to the numbers of LIDs.
+    /// `count` and the digit weight must not be 0. `is_higher` says whether one of the ports leads to a higher switch.
+    /// If none does, the digit of a number is the number itself.
     pub(crate) fn turn(&self, is_higher: bool, count: usize) -> RoundRobin
         requires weight { 0 < self.now.digit_weight }
         requires count { 0 < count }
@@ -54,7 +54,8 @@ pub(crate) fn weights_of(alloc: Global, lid_digits: &[LidDigit]) -> Result<Vec<u
 }
 
 /// Returns the LID digit of the switch at each position of `order`. `levels` must have the level of each switch, in
-/// ascending order of GUID.
+/// ascending order of GUID. `edges` must be the edges of `graph` by index, and `order` must have only indices of
+/// switches.
 pub(crate) fn lid_digits(
     alloc: Global,
     graph: &SwitchGraph,
@@ -82,8 +83,8 @@ pub(crate) fn lid_digits(
     Ok(lid_digits)
 }
 
-/// Returns the targets for which one of `edges` leads to a switch at a higher level than that of `lid_digit`. An edge
-/// counts for the targets of its set in `sets`.
+/// Returns the targets towards which any of `edges` leads to a switch whose level is higher than that of `lid_digit`.
+/// An edge counts for the targets in its set in `sets`. There must be a set for each edge.
 pub(crate) fn higher_targets(
     lid_digits: &[LidDigit],
     lid_digit: &LidDigit,
@@ -105,7 +106,7 @@ pub(crate) fn higher_targets(
     higher
 }
 
-/// Returns the level of the switch at `position`, which must exist.
+/// Returns the level of the switch at `position`. There must be such a position.
 fn level_at(lid_digits: &[LidDigit], position: usize) -> usize
     requires { position < length lid_digits.now }
     ensures { result ≡ (slice_index_or lid_digits.now position no_lid_digit).level }

@@ -20,7 +20,7 @@ use std::alloc::{AllocError, Global};
 use std::marker::Model;
 use subnet_view::SwitchGraph;
 
-/// The candidates of all switches towards some switches, the targets.
+/// The candidates of all switches towards some switches, which are the targets.
 #[derive(Drop)]
 pub struct Towards {
     /// The index of the first target.
@@ -92,10 +92,10 @@ impl<'g> Model for Spread<'g> {
 
 impl<'g> Spread<'g> {
     /// Computes the routes. `adapters` must have the number of adapters at each switch, in ascending order of GUID.
-    /// `order` says what the order of switches grows by. Ignores GUIDs in `order` that are not switches of `graph`.
-    /// Takes a breadth-first search from each leaf switch and each root. Unless `order` names switches, takes two more
-    /// for each component. Also takes trials if the order is that of the least trial load, and balances loads if
-    /// `order` asks for it.
+    /// `order` says how the order of switches is grown and whether loads are balanced. Ignores GUIDs in `order` that
+    /// are not switches of `graph`. Does a breadth-first search from each leaf switch and each root, and two more
+    /// searches for each component unless `order` names switches. For the order of the least trial load, also computes
+    /// trial loads. If `order` asks for it, also balances loads.
     pub fn of(
         alloc: Global,
         graph: &'g SwitchGraph,
@@ -141,8 +141,9 @@ impl<'g> Spread<'g> {
         })
     }
 
-    /// Computes the routes without balancing loads. `keys` and `levels` must have the key and the level of each switch,
-    /// in ascending order of GUID. `vertices` must have the indices of the switches in the order that grows by `keys`.
+    /// Computes the routes, and does not balance loads. `keys` and `levels` must have the key and the level of each
+    /// switch, in ascending order of GUID. `vertices` must have the indices of the switches in the order that grows by
+    /// `keys`.
     fn by_keys(
         alloc: Global,
         graph: &'g SwitchGraph,
@@ -171,9 +172,9 @@ impl<'g> Spread<'g> {
         })
     }
 
-    /// Finds the candidates of all switches towards the 64 switches from index `first` on, or towards all from there on
-    /// if there are fewer. There must be a switch at index `first`. Each round takes time linear in the number of
-    /// switches and edges, for all these targets together. There is one round more than the greatest cost.
+    /// Finds the candidates of all switches towards the 64 switches from index `first` on, or towards all switches from
+    /// there on if there are fewer. There must be a switch at index `first`. Each round takes time linear in the number
+    /// of switches and edges, for all these targets together. There is one more round than the greatest cost.
     pub fn towards(&self, alloc: Global, first: usize) -> Result<Towards, AllocError>
         requires { first < length self.now.graph }
         ensures are { IfOk result (λ towards. AreTowards self.now towards) }
@@ -186,8 +187,8 @@ impl<'g> Spread<'g> {
     }
 
     /// Sets `exits` to the ports by which packets leave the switch at index `own` towards each target of `towards`.
-    /// There must be a switch at index `own`. `towards` must be of these routes. Takes time linear in the number of
-    /// edges and candidates of the switch.
+    /// There must be a switch at index `own`. `towards` must be candidates of these routes. Takes time linear in the
+    /// number of edges and candidates of the switch.
     pub fn exits_from<'s>(
         &'s self,
         own: usize,
@@ -209,7 +210,7 @@ impl<'g> Spread<'g> {
     }
 }
 
-/// Returns the part of `list` from index `first` on, or an empty list past the end.
+/// Returns the part of `list` from index `first` on, or an empty list if `first` is past the end.
 fn behind(list: &[usize], first: usize) -> &[usize]
     ensures { result.now ≡ drop first list.now }
 {

@@ -1,4 +1,4 @@
-//! The keys that order switches, and the order that grows by them.
+//! The keys by which switches are ordered, and the order that grows by them.
 ghost use Rattle.std.specs.Prelude.{◌≡◌, ◌<◌, All, IfOk, length, map};
 ghost use Rattle.subnet_view.specs.GraphLaws.{IsGraph};
 ghost use Rattle.spread_labels.specs.LeafVertices.{leaf_vertices};
@@ -17,7 +17,7 @@ use std::alloc::{AllocError, Global};
 use subnet_view::SwitchGraph;
 use trial_loads::least_loaded_keys;
 
-/// The keys that order switches, and the levels of the switches.
+/// The keys by which switches are ordered, and the levels of the switches.
 #[derive(Drop)]
 pub(crate) struct SwitchKeys {
     /// The key of each switch, in ascending order of GUID.
@@ -43,7 +43,7 @@ pub fn switches_in_order(
     switches_at(alloc, graph.switches(), &vertices)
 }
 
-/// Returns those of `guids` at `indices`, in the order of `indices`.
+/// Returns the GUIDs at `indices` of `guids`, in the order of `indices`. Each index must be within `guids`.
 fn switches_at(alloc: Global, guids: &[Guid], indices: &[usize]) -> Result<Vec<Guid>, AllocError>
     requires { All (λ i. i < length guids.now) indices.now }
     ensures { IfOk result (λ found. found.items ≡ map (at_position guids.now) indices.now) }
@@ -55,7 +55,8 @@ fn switches_at(alloc: Global, guids: &[Guid], indices: &[usize]) -> Result<Vec<G
     Ok(found)
 }
 
-/// Returns the keys and the levels of the switches, by what `order` grows by.
+/// Returns the keys and the levels of the switches. `order` says how the order of switches is grown, and so which keys
+/// they have. `adapters` must have the number of adapters at each switch, in ascending order of GUID.
 pub(crate) fn switch_keys(
     alloc: Global,
     graph: &SwitchGraph,
@@ -76,7 +77,8 @@ pub(crate) fn switch_keys(
     }
 }
 
-/// Returns the keys of the switches by their distances from `roots`, and their levels.
+/// Returns the keys of the switches according to their distances from `roots`, and their levels. `adapters` must have
+/// the number of adapters at each switch, in ascending order of GUID.
 fn from_roots(
     alloc: Global,
     graph: &SwitchGraph,
@@ -99,7 +101,8 @@ fn from_roots(
     Ok(SwitchKeys { keys, levels })
 }
 
-/// Returns the keys of the switches by the list `switches`, and their levels.
+/// Returns the keys of the switches according to the list `switches`, and their levels. `adapters` must have the number
+/// of adapters at each switch, in ascending order of GUID.
 fn as_named(
     alloc: Global,
     graph: &SwitchGraph,
@@ -121,7 +124,8 @@ fn as_named(
     Ok(SwitchKeys { keys, levels })
 }
 
-/// Returns the keys of the switches by the order of the least trial load, and their levels.
+/// Returns the keys of the switches that give the order of the least trial load, and their levels. `adapters` must have
+/// the number of adapters at each switch, in ascending order of GUID.
 fn least_loaded(
     alloc: Global,
     graph: &SwitchGraph,
@@ -138,8 +142,8 @@ fn least_loaded(
     Ok(SwitchKeys { keys, levels })
 }
 
-/// Returns the keys of the switches of `graph` by the list `switches`, which may name only some of them. Does a binary
-/// search among the switches of the graph for each switch of the list.
+/// Returns the keys of the switches of `graph` according to the list `switches`. The list may name only some of them.
+/// Does a binary search among the switches of the graph for each switch of the list.
 fn keys_as_named(
     alloc: Global,
     graph: &SwitchGraph,

@@ -4,29 +4,29 @@ ghost use Rattle.spread_routes.specs.SwitchOrders.{is_balanced, order_value_of};
 use smp_bytes::Guid;
 use std::alloc::{AllocError, Global};
 
-/// What the order of the switches grows by, and whether loads are balanced.
+/// How the order of the switches is grown, and whether loads are balanced.
 #[derive(Drop)]
 pub enum SwitchOrder {
-    /// The distances of the switches from some switches, the roots.
+    /// By the distances of the switches from some switches, the roots.
     FromRoots {
-        /// The roots. In a component without a root, mean distances from the leaf switches count instead. GUIDs that
+        /// The roots. In a component that has no root, mean distances from the leaf switches count instead. GUIDs that
         /// are not switches are ignored.
         roots: Vec<Guid>,
     },
-    /// A list that names switches.
+    /// By a list that names switches.
     AsNamed {
         /// The named switches, earlier keys first. Switches that are not named have later keys, in ascending order of
         /// GUID. GUIDs that are not switches are ignored.
         switches: Vec<Guid>,
     },
-    /// A list that names switches, with loads balanced.
+    /// By a list that names switches, with loads balanced.
     BalancedAs {
         /// The switches, as in `AsNamed`.
         switches: Vec<Guid>,
     },
-    /// The least trial load, with loads balanced. If the trial loads of the order without roots are even, that order is
-    /// taken. Otherwise it is the first of least trial load among that order and the orders by depth from the eight
-    /// switches of least GUID, forwards and backwards.
+    /// By the least trial load, with loads balanced. If the trial loads of the order without roots are even, that order
+    /// is taken. Otherwise the order with the least trial load is taken: of that order and the orders by depth from the
+    /// eight switches of least GUID, forwards and backwards. If trial loads are equal, the first counts.
     LeastLoaded,
 }
 

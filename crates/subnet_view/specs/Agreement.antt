@@ -12,7 +12,7 @@ use Rattle.subnet_view.specs.Reading.{Cells, IsUsable}
 use Rattle.subnet_view.specs.EndPorts.{IsEndPort}
 use Rattle.subnet_view.specs.Wires.{IsWire}
 
--- a part of a fabric, by its vertices: the fabric itself, for example, or all that is joined to one vertex
+-- a part of a fabric, as a set of vertices. Examples are the whole fabric, and everything that is joined to one vertex
 abbrev pub Part : Type 1
 Part = NodePort → Type 0
 
@@ -49,16 +49,16 @@ pub record HasWire (part : Part) (f : Fabric) (g p h q : ℕ) : Type 0 where
   pub wire : walks.IsWire f from to
   pub in_part : part (vertex_of f from)
 
--- `cells` have the type and the number of ports of `node`, the GUID of its port `p`, and its table room if it is a
--- switch
+-- `cells` have the type and the number of ports of `node` and the GUID of its port `p`; if `node` is a switch, also its
+-- table size
 pub record TellsEndPort (cells : Cells) (node : fabric.Node) (p : ℕ) : Type 0 where
   pub kind : node_of cells node.guid ≡ Some (node.kind, node.ports)
   pub port_guid : port_guid_of cells node.guid p ≡ Some (node.port_guid p)
   pub cap : IsTrue (is_switch node.kind) → cap_of cells node.guid ≡ Some node.cap
 
--- the view describes the part: it has the part's end ports and their nodes, and in ports of the part it has exactly the
--- part's wires. The part's nodes have different GUIDs. Elsewhere the view may say anything, for instance of nodes that
--- are gone
+-- the view describes the part. It has the part's end ports and their nodes, and in ports of the part it has exactly the
+-- part's wires. The part's nodes have different GUIDs. Elsewhere the view may say anything, for instance about nodes
+-- that are gone
 pub record Covers (part : Part) (cells : Cells) (f : Fabric) : Type 0 where
   pub guids_distinct : (p q : NodePort) (a b : fabric.Node) → IsEndPortIn part f p a → IsEndPortIn part f q b → a.guid
       ≡ b.guid → p.node ≡ q.node
@@ -68,8 +68,8 @@ pub record Covers (part : Part) (cells : Cells) (f : Fabric) : Type 0 where
   pub wires_there : (port : NodePort) (node : fabric.Node) → IsNodeAt f port.node node → part (vertex_of f port)
       → (h q : ℕ) → IsWire cells node.guid port.port h q → HasWire part f node.guid port.port h q
 
--- the view describes the part exactly: it has the part's end ports and their nodes, the part's switches and its wires,
--- and no others. The part's nodes have different GUIDs
+-- the view describes the part exactly. It has the part's end ports and their nodes, the part's switches and the part's
+-- wires, and no others. The part's nodes have different GUIDs
 pub record AgreesOn (part : Part) (cells : Cells) (f : Fabric) : Type 0 where
   pub guids_distinct : (p q : NodePort) (a b : fabric.Node) → IsEndPortIn part f p a → IsEndPortIn part f q b → a.guid
       ≡ b.guid → p.node ≡ q.node

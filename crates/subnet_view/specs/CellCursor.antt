@@ -1,4 +1,4 @@
--- Cells in which rising keys are looked up, so that cells of lesser keys can be passed.
+-- Cells in which keys are looked up in ascending order, so that cells of lesser keys can be passed.
 use Rattle.std.specs.Prelude.{◌≡◌, T, Bool, false, [], ◌∷◌, Option, MatchOption}
 use Rattle.std.specs.Ordering.{is_lt}
 use Rattle.std.specs.FinMap.{find, is_sorted}
@@ -12,11 +12,11 @@ use Rattle.subnet_view.specs.Reading.{Cells}
 abbrev pub is_before : Key → Key → Bool
 is_before k key = is_lt (key_cmp k key)
 
--- `next` and `later` are in the order of keys; if there is no `next`, `later` is empty
+-- `next` and `later` are in the order of keys. If there is no `next`, `later` is empty
 abbrev pub AreLeft : Option (Key × Cell Value) → Cells → Type 0
 AreLeft next later = MatchOption next (later ≡ []) (λ s. T (is_sorted key_cmp (s ∷ later)))
 
--- `key` and each key after it have the cell in `new` that they have in `old`
+-- `key` and each key after it have the same cell in `new` as in `old`
 abbrev pub KeepsFrom : Key → Cells → Cells → Type 0
 KeepsFrom key old new = (k : Key) → is_before k key ≡ false → find key_cmp k new ≡ find key_cmp k old
 

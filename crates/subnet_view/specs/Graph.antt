@@ -6,13 +6,13 @@ use Rattle.subnet_view.specs.Reading.{Cells, is_switch_node, port_count_of, swit
 use Rattle.subnet_view.specs.Wires.{across}
 use Rattle.subnet_view.specs.SwitchEdges.{SwitchEdges}
 
--- the edge of the wire in port `p` of node `g`; None if no wire leads from there to a switch
+-- the edge of the wire in port `p` of node `g`; None if no wire leads from this port to a switch
 abbrev pub edge_at : Cells → ℕ → ℕ → Option Edge
 edge_at cells g p =
     option_and_then (λ q. if is_switch_node cells q.0 then Some (record { port = p; to = q.0 }) else None)
     (across cells g p)
 
--- the edges of node `g`: its wires to usable switches, itself among them, in ascending order of port
+-- the edges of node `g`: its wires to usable switches, which may include itself, in ascending order of port
 abbrev pub edges_of : Cells → ℕ → List Edge
 edges_of cells g = filter_map (edge_at cells g) (range_with_len 1 (port_count_of cells g))
 
@@ -24,7 +24,7 @@ graph_of cells = map (λ g. record { guid = g; edges = edges_of cells g }) (swit
 abbrev pub guids_of : List SwitchEdges → List ℕ
 guids_of graph = map (λ c. c.guid) graph
 
--- the edges of switch `a`; empty if the graph lacks it
+-- the edges of switch `a`; empty if `a` is not in the graph
 abbrev pub edges_at : List SwitchEdges → ℕ → List Edge
 edges_at [] a = []
 edges_at (c ∷ graph) a = if c.guid == a then c.edges else edges_at graph a

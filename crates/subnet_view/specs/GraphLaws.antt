@@ -11,7 +11,7 @@ use Rattle.subnet_view.specs.Graph.{guids_of, edges_at, neighbors, graph_of}
 abbrev pub IsSwitch : List SwitchEdges → ℕ → Type 0
 IsSwitch graph a = Contains (guids_of graph) a
 
--- the switches are listed in ascending order of GUID, and the edges of each in ascending order of port; each edge leads
+-- the switches are listed in ascending order of GUID, and the edges of each in ascending order of port. Each edge leads
 -- to a switch that has an edge back
 pub record IsGraph (graph : List SwitchEdges) : Type 0 where
   pub rising : IsStrictlyIncreasing (guids_of graph)
@@ -19,7 +19,7 @@ pub record IsGraph (graph : List SwitchEdges) : Type 0 where
   pub leads_to_switch : (a b : ℕ) → Contains (neighbors graph a) b → IsSwitch graph b
   pub both_ways : (a b : ℕ) → Contains (neighbors graph a) b → Contains (neighbors graph b) a
 
--- `graph_of` the cells of any facts is a graph (`IsGraph`)
+-- for the cells of any facts, `graph_of` gives a graph (`IsGraph`)
 abbrev pub GraphLaw : Type 0
 GraphLaw = (facts : Facts) → IsGraph (graph_of (cells_of facts))
 

@@ -1,4 +1,5 @@
--- What facts say of the nodes and ports of a subnet: which are switches, which of these are usable, and what is up.
+-- What facts say about the nodes and ports of a subnet: which nodes are switches, which of these are usable, and which
+-- ports are up.
 use Rattle.std.specs.Prelude.{◌≡◌, ◌↔◌, ◌<◌, ℕ, Bool, false, List, Contains, Option, None, Some, IsTrue, IsSome, is_some, ◌&&◌, if◌then◌else◌}
 use Rattle.std.specs.Option.{option_map_or}
 use Rattle.std.specs.List.{filter_map, AllPairs}
@@ -21,7 +22,7 @@ Cells = List (Key × Cell Value)
 abbrev pub is_up : Cells → ℕ → ℕ → Bool
 is_up cells g p = option_map_or (λ up. up) (up_of cells g p) false
 
--- whether `node`, what is known of a node, says that it is a switch; false if nothing is known
+-- whether `node`, which is what is known of a node, says that the node is a switch; false if nothing is known
 abbrev pub is_switch_in : Option (NodeType × ℕ) → Bool
 is_switch_in node = option_map_or (λ n. is_switch n.0) node false
 
@@ -33,7 +34,7 @@ is_switch_node cells g = is_switch_in (node_of cells g)
 abbrev pub port_count_of : Cells → ℕ → ℕ
 port_count_of cells g = option_map_or (λ n. n.1) (node_of cells g) 0
 
--- whether node `g` is known to be a switch, and its table room is known
+-- whether node `g` is known to be a switch whose table size is known
 abbrev pub is_usable : Cells → ℕ → Bool
 is_usable cells g = is_switch_node cells g && is_some (cap_of cells g)
 
@@ -41,7 +42,7 @@ is_usable cells g = is_switch_node cells g && is_some (cap_of cells g)
 abbrev pub is_port_of : Cells → ℕ → ℕ → Bool
 is_port_of cells g p = is_within p (port_count_of cells g)
 
--- the node whose type a cell gives, if this node is a usable switch; None for other nodes and for other cells
+-- the node whose type a cell gives, if this node is a usable switch; None for other nodes, and for other kinds of cells
 abbrev pub usable_guid : Cells → Key × Cell Value → Option ℕ
 usable_guid cells ((Node g), c) = if is_usable cells g then Some g else None
 usable_guid cells (_, c) = None
@@ -52,11 +53,11 @@ switches cells = filter_map (usable_guid cells) cells
 
 -- the laws of these definitions: ------------------------------------------------------
 
--- node `g` is a usable switch: it is known to be a switch, and its table room is known
+-- node `g` is a usable switch: it is known to be a switch, and its table size is known
 abbrev pub IsUsable : Cells → ℕ → Type 0
 IsUsable cells g = (ports : ℕ) × (node_of cells g ≡ Some (Switch, ports)) × IsSome (cap_of cells g)
 
--- `is_usable` answers true exactly for usable switches (`IsUsable`)
+-- `is_usable` answers true exactly when a node is a usable switch (`IsUsable`)
 abbrev pub UsableLaw : Type 0
 UsableLaw = (cells : Cells) (g : ℕ) → IsTrue (is_usable cells g) ↔ IsUsable cells g
 

@@ -15,7 +15,7 @@ LeadBelow n edges = (e : Edge) → Contains edges e → e.to < n
 abbrev pub IsIndexOf : List ℕ → ℕ → ℕ → Type 0
 IsIndexOf numbers number i = (i < length numbers) × (slice_index numbers i ≡ number)
 
--- `found` is the index of `number` in `numbers`; None if `numbers` do not have it
+-- `found` is the index of `number` in `numbers`; None if `numbers` does not have it
 abbrev pub IsIndexIn : List ℕ → ℕ → Option ℕ → Type 0
 IsIndexIn numbers number found = MatchOption found (¬ (Contains numbers number)) (IsIndexOf numbers number)
 
@@ -36,24 +36,26 @@ AreEdgesAt graph i edges = map (by_guid (guids_of graph)) edges ≡ edges_at gra
 abbrev pub distances_from : List SwitchEdges → ℕ → List (Option ℕ)
 distances_from graph i = map (distance graph (switch_at graph i)) (guids_of graph)
 
--- each of the GUIDs with the edges at its index, as many as the shorter list has
+-- the switches that have the GUIDs and, at the same index, the edges. There are as many switches as the shorter list
+-- has items
 abbrev pub switch_edges : List ℕ → List (List Edge) → List SwitchEdges
 switch_edges [] edges = []
 switch_edges (g ∷ guids) [] = []
 switch_edges (g ∷ guids) (es ∷ edges) = record { guid = g; edges = es } ∷ switch_edges guids edges
 
--- the graph of the switches `guids`; `edges` has the edges of each switch, which lead to indices
+-- the graph of the switches `guids`. `edges` has the edges of each switch; they lead to indices
 abbrev pub named : List ℕ → List (List Edge) → List SwitchEdges
 named guids edges = switch_edges guids (map (map (by_guid guids)) edges)
 
--- `edges` has for each switch of `guids` its edges, which lead to indices of switches; the switches with these edges
+-- `edges` has, for each switch of `guids`, its edges, which lead to indices of switches. The switches with these edges
 -- are a graph (`IsGraph`)
 pub record IsSwitchGraph (guids : List ℕ) (edges : List (List Edge)) : Type 0 where
   pub as_many : length edges ≡ length guids
   pub to_switches : LeadToVertices edges
   pub is_graph : IsGraph (named guids edges)
 
--- `edges` has the edges of each switch of the graph, in ascending order of GUID, and they lead to indices
+-- `edges` has the edges of each switch of the graph, with the switches in ascending order of GUID. The edges lead to
+-- indices of switches
 pub record AreEdgesByIndex (graph : List SwitchEdges) (edges : List (List Edge)) : Type 0 where
   pub as_many : length edges ≡ length graph
   pub to_switches : LeadToVertices edges

@@ -20,8 +20,8 @@ use Rattle.subnet_view.specs.Wires.{is_at, is_wire_end}
 abbrev pub end_link : Cells → ℕ → ℕ → Option (ℕ × ℕ)
 end_link cells g p = if is_wire_end cells g p then link_of cells g p else None
 
--- the port whose link a cell gives, and the far end of this link; None if the cell is of no link, the link is disputed,
--- or the port cannot have a wire
+-- the port whose link a cell gives, and the far end of this link. None if the cell is not of a link, if the link is
+-- disputed, or if the port cannot have a wire
 abbrev pub wire_end : Cells → Key × Cell Value → Option ((ℕ × ℕ) × (ℕ × ℕ))
 wire_end cells ((Link g p), c) = option_map (λ q. ((g, p), q)) (end_link cells g p)
 wire_end cells (_, c) = None
@@ -31,24 +31,24 @@ wire_end cells (_, c) = None
 abbrev pub wire_ends : Cells → List ((ℕ × ℕ) × (ℕ × ℕ))
 wire_ends cells = filter_map (wire_end cells) cells
 
--- whether `near` and `far` are different ports, and `back`, the far end of the link of `far`, is `near`; false if
--- `back` is None
+-- whether `near` and `far` are different ports and `back` is `near`; false if `back` is None. `back` is the far end of
+-- the link at `far`
 abbrev pub is_pair : ℕ × ℕ → ℕ × ℕ → Option (ℕ × ℕ) → Bool
 is_pair near far back = not (is_at near.0 near.1 far) && option_map_or (is_at near.0 near.1) back false
 
 -- by what a reader has left: -----------------------------------------------------------
 
--- the number of ports in `node`, what is known of a node; 0 if nothing is known
+-- the number of ports in `node`, which is what is known of a node; 0 if nothing is known
 abbrev pub count_of : Option (NodeType × ℕ) → ℕ
 count_of node = option_map_or (λ n. n.1) node 0
 
--- whether port `p` of node `g` can have a wire, by the cells that the reader has not passed
+-- whether port `p` of node `g` can have a wire, according to the cells that the reader has not passed
 abbrev pub is_end_read : PortReader → ℕ → ℕ → Bool
 is_end_read r g p = let node = node_of r.nodes g in is_up r.ports g p && is_within p (count_of node)
     && (if is_switch_in node then is_some (cap_of r.caps g) else is_some (port_guid_of r.guids g p))
 
--- the port whose link a cell gives, and the far end of this link, by the cells that the reader has not passed; None if
--- the cell is of no link, the link is disputed, or the port cannot have a wire
+-- the port whose link a cell gives, and the far end of this link, according to the cells that the reader has not
+-- passed. None if the cell is not of a link, if the link is disputed, or if the port cannot have a wire
 abbrev pub end_read : PortReader → Key × Cell Value → Option ((ℕ × ℕ) × (ℕ × ℕ))
 end_read r ((Link g p), c) =
     if is_end_read r g p then option_map (λ q. ((g, p), q)) (peer_in (value_in (Some c))) else None
@@ -61,12 +61,12 @@ pub record HasNotPassed (cells : Cells) (r : PortReader) (g p : ℕ) : Type 0 wh
   pub port : find key_cmp (Port g p) r.ports ≡ find key_cmp (Port g p) cells
   pub cap : find key_cmp (Cap g) r.caps ≡ find key_cmp (Cap g) cells
 
--- from `old` to `new` the reader passes nothing that is said of a port if the key of its link is `key` or a later one
+-- from `old` to `new`, the reader passes nothing about a port if the key of the port's link is `key` or a later key
 abbrev pub PassesNone : Key → PortReader → PortReader → Type 0
 PassesNone key old new = (cells : Cells) (h q : ℕ) → is_before (Link h q) key ≡ false → HasNotPassed cells old h q
     → HasNotPassed cells new h q
 
--- from `old` to `new` the reader passes nothing that is said of port `p` of node `g`, or of later ports
+-- from `old` to `new`, the reader passes nothing about port `p` of node `g` or about later ports
 pub record KeepsPort (g p : ℕ) (old new : PortReader) : Type 0 where
   pub node : KeepsFrom (Node g) old.nodes new.nodes
   pub guid : KeepsFrom (PortGuid g p) old.guids new.guids

@@ -9,8 +9,8 @@ use Rattle.subnet_view.specs.Reading.{Cells, is_up, is_switch_node, is_usable, i
 use Rattle.subnet_view.specs.EndPorts.{is_end_port, IsNodeWith}
 use Rattle.subnet_view.specs.declared.end_port.EndPort.{EndPort}
 
--- whether port `p` of node `g` can have a wire: it is up, `p` is from 1 to the node's number of ports, and the node is
--- a usable switch or the port an end port
+-- whether port `p` of node `g` can have a wire. The port must be up, `p` must be from 1 to the node's number of ports,
+-- and either the node is a usable switch or the port is an end port of another node
 abbrev pub is_wire_end : Cells → ℕ → ℕ → Bool
 is_wire_end cells g p = is_up cells g p && is_port_of cells g p
     && (if is_switch_node cells g then is_usable cells g else is_end_port cells g p)
@@ -19,8 +19,8 @@ is_wire_end cells g p = is_up cells g p && is_port_of cells g p
 abbrev pub is_at : ℕ → ℕ → ℕ × ℕ → Bool
 is_at g p q = g == q.0 && p == q.1
 
--- whether a wire joins port `p` of node `g` and the port `q`, which the link of the first port names. They are
--- different ports, both can have a wire, and the link of `q` names the first port
+-- whether a wire joins port `p` of node `g` and the port `q`, given that the link of the first port names `q`. It does
+-- if the two are different ports, both can have a wire, and the link of `q` names the first port
 abbrev pub is_wire : Cells → ℕ → ℕ → ℕ × ℕ → Bool
 is_wire cells g p q = not (is_at g p q) && is_wire_end cells g p && is_wire_end cells q.0 q.1
     && option_map_or (is_at g p) (link_of cells q.0 q.1) false
@@ -29,8 +29,8 @@ is_wire cells g p q = not (is_at g p q) && is_wire_end cells g p && is_wire_end 
 abbrev pub across : Cells → ℕ → ℕ → Option (ℕ × ℕ)
 across cells g p = option_and_then (λ q. if is_wire cells g p q then Some q else None) (link_of cells g p)
 
--- the switch and its port that the wire in port `p` of node `g` leads to; None if `g` is itself a switch, or if no wire
--- leads from the port to a switch
+-- the switch, and the port of it, that the wire in port `p` of node `g` leads to. None if `g` is itself a switch, or if
+-- no wire leads from the port to a switch
 abbrev pub attached : Cells → ℕ → ℕ → Option (ℕ × ℕ)
 attached cells g p =
     if is_switch_node cells g then None else option_and_then (λ q. if is_switch_node cells q.0 then Some q else None)
@@ -38,8 +38,8 @@ attached cells g p =
 
 -- the laws of these definitions: ------------------------------------------------------
 
--- port `p` of node `g` can have a wire: it is up, `p` is from 1 to the node's number of ports, and the node is a switch
--- of known table room, or another node at which the GUID of the port is known
+-- port `p` of node `g` can have a wire. The port is up, and `p` is from 1 to the node's number of ports. The node is a
+-- switch whose table size is known, or another node at which the GUID of the port is known
 abbrev pub CanHaveWire : Cells → ℕ → ℕ → Type 0
 CanHaveWire cells g p = (kind : NodeType) × (ports : ℕ) × IsNodeWith cells g kind ports × (1 ≤ p) × (p ≤ ports)
     × IsTrue (is_up cells g p) × MatchBool (is_switch kind) (IsSome (cap_of cells g)) (IsSome (port_guid_of cells g p))
@@ -53,7 +53,7 @@ pub record IsWire (cells : Cells) (g p h q : ℕ) : Type 0 where
   pub named_there : link_of cells g p ≡ Some (h, q)
   pub named_back : link_of cells h q ≡ Some (g, p)
 
--- `across` gives a port exactly if a wire (`IsWire`) leads there
+-- `across` gives a port exactly when a wire (`IsWire`) leads there
 abbrev pub WireLaw : Type 0
 WireLaw = (cells : Cells) (g p h q : ℕ) → (across cells g p ≡ Some (h, q)) ↔ IsWire cells g p h q
 
@@ -67,7 +67,7 @@ pub record IsAttached (cells : Cells) (g p h q : ℕ) : Type 0 where
   pub wire : IsWire cells g p h q
   pub to_switch : IsUsable cells h
 
--- `attached` gives a port of a switch exactly if the adapter port is attached to it (`IsAttached`)
+-- `attached` gives a port of a switch exactly when the adapter port is attached to it (`IsAttached`)
 abbrev pub AttachedLaw : Type 0
 AttachedLaw = (cells : Cells) (g p h q : ℕ) → (attached cells g p ≡ Some (h, q)) ↔ IsAttached cells g p h q
 

@@ -9,7 +9,7 @@ use fact_store::{Cells, Key, Sighting, Store, Value};
 use smp_bytes::{Guid, NodeType, PortNum};
 use std::marker::Model;
 
-/// A cursor over cells in the order of keys, to look up rising keys.
+/// A cursor over cells in the order of keys. It looks up keys in ascending order.
 #[derive(Drop)]
 pub(crate) struct CellCursor<'s> {
     /// The first cell that has not been passed.
@@ -41,8 +41,8 @@ impl<'s> CellCursor<'s> {
         CellCursor { next, later }
     }
 
-    /// Returns the type of `node` and its number of ports, or `None` if they are not known. Passes the cells of earlier
-    /// keys.
+    /// Returns the type of `node` and its number of ports, or `None` if they are not known. Passes the cells of keys
+    /// before this one.
     pub(crate) fn node(&mut self, node: Guid) -> Option<(NodeType, u8)>
         ensures value { result ≡ node_of self.old node }
         ensures later { KeepsFrom (Node node) self.old self.new }
@@ -53,7 +53,7 @@ impl<'s> CellCursor<'s> {
         }
     }
 
-    /// Returns the GUID of `port` of `node`, or `None` if it is not known. Passes the cells of earlier keys.
+    /// Returns the GUID of `port` of `node`, or `None` if it is not known. Passes the cells of keys before this one.
     pub(crate) fn port_guid(&mut self, node: Guid, port: PortNum) -> Option<Guid>
         ensures value { result ≡ port_guid_of self.old node port }
         ensures later { KeepsFrom (PortGuid node port) self.old self.new }
@@ -64,8 +64,8 @@ impl<'s> CellCursor<'s> {
         }
     }
 
-    /// Returns the number of LIDs that the linear forwarding table of the switch `node` has room for, or `None` if it
-    /// is not known. Passes the cells of earlier keys.
+    /// Returns the number of LIDs that the linear forwarding table of the switch `node` has room for, or `None` if this
+    /// number is not known. Passes the cells of keys before this one.
     pub(crate) fn cap(&mut self, node: Guid) -> Option<u16>
         ensures value { result ≡ cap_of self.old node }
         ensures later { KeepsFrom (Cap node) self.old self.new }
@@ -76,7 +76,7 @@ impl<'s> CellCursor<'s> {
         }
     }
 
-    /// Returns whether `port` of `node` is known to be up. Passes the cells of earlier keys.
+    /// Returns whether `port` of `node` is known to be up. Passes the cells of keys before this one.
     pub(crate) fn is_up(&mut self, node: Guid, port: PortNum) -> bool
         ensures value { result ≡ is_up self.old node port }
         ensures later { KeepsFrom (Port node port) self.old self.new }
@@ -84,8 +84,8 @@ impl<'s> CellCursor<'s> {
         matches!(self.known(Key::Port(node, port)), Some(Value::Up(true)))
     }
 
-    /// Returns the value of `key`, or `None` if it is not known. Passes the cells of earlier keys. Only `key` and later
-    /// keys can be looked up afterwards.
+    /// Returns the value of `key`, or `None` if the value is not known. Passes the cells of keys before `key`.
+    /// Afterwards only `key` and later keys can be looked up.
     fn known(&mut self, key: Key) -> Option<Value>
         ensures value { result ≡ known_in self.old key }
         ensures later { KeepsFrom key self.old self.new }

@@ -10,7 +10,7 @@ use fact_store::{Key, Refused, Sighting, Store};
 use smp_bytes::{Guid, NodeType, PortNum};
 use std::alloc::{AllocError, Global};
 
-/// A port with a LID of its own: port 0 of a switch, or a port of another node.
+/// A port with LIDs of its own: port 0 of a switch, or a port of another node.
 #[derive(Clone, Copy, Debug, PartialEq, Eq)]
 pub struct EndPort {
     /// The GUID of the node.
@@ -19,16 +19,16 @@ pub struct EndPort {
     pub port: PortNum,
 }
 
-/// Returns whether `port` of `node` is an end port: port 0 of a switch, or a port of another node, with a known GUID.
-/// Does at most two binary searches among the cells.
+/// Returns whether `port` of `node` is an end port. An end port is port 0 of a switch, or a port from 1 to the port
+/// count of another node, and its GUID is known. Does at most two binary searches among the cells.
 pub fn is_end_port(store: &Store, node: Guid, port: PortNum) -> bool
     ensures { result ≡ is_end_port (cells_of store.now) node port }
 {
     is_end_port_number(store, node, port) && store.port_guid(node, port).is_some()
 }
 
-/// Returns the end ports, by port GUID, then node GUID, then port. Walks the cells, with a binary search for each port
-/// GUID, and sorts what it finds.
+/// Returns the end ports, in ascending order of port GUID, then node GUID, then port. Walks the cells, with a binary
+/// search for each port GUID, and sorts what it finds. Returns an error if memory runs out.
 pub fn end_ports(alloc: Global, store: &Store) -> Result<Vec<EndPort>, Refused>
     ensures { IfOk result (λ ports. ports.items ≡ end_ports (cells_of store.now)) }
 {
@@ -56,7 +56,7 @@ fn listed_end_ports(alloc: Global, store: &Store) -> Result<Vec<EndPort>, AllocE
     sorted.iter().map(|end| end.1).collect(alloc)
 }
 
-/// Returns the end ports with their port GUIDs, in their order.
+/// Returns the end ports with their port GUIDs, in the order of `end_ports`.
 fn sorted_end_ports(alloc: Global, store: &Store) -> Result<Vec<(Guid, EndPort)>, AllocError>
     ensures { IfOk result (λ sorted. sorted.items
         ≡ in_order (filter_map (guid_and_port (cells_of store.now)) (cells_of store.now))) }
@@ -66,7 +66,7 @@ fn sorted_end_ports(alloc: Global, store: &Store) -> Result<Vec<(Guid, EndPort)>
     Ok(found)
 }
 
-/// Returns the end ports with their port GUIDs, in the order of keys.
+/// Returns the end ports with their port GUIDs, in the order of the cells' keys.
 fn found_end_ports(alloc: Global, store: &Store) -> Result<Vec<(Guid, EndPort)>, AllocError>
     ensures { IfOk result (λ found. found.items
         ≡ filter_map (guid_and_port (cells_of store.now)) (cells_of store.now)) }
@@ -98,9 +98,9 @@ pub(crate) fn sort_key(end: &(Guid, EndPort)) -> [u64; 3]
     ]
 }
 
-/// Returns the end port of a cell with its port GUID, or `None` if the cell does not give the GUID of an end port.
-/// `sighting` must be a cell of `store`. Does a binary search among the cells if the key of `sighting` is that of a
-/// port GUID.
+/// Returns the end port whose GUID `sighting` gives, with this GUID. Returns `None` if `sighting` does not give the
+/// GUID of an end port. `sighting` must be a cell of `store`. Does a binary search among the cells if the key of
+/// `sighting` is that of a port GUID.
 pub(crate) fn guid_and_port(store: &Store, sighting: &Sighting) -> Option<(Guid, EndPort)>
     requires { cell_for store.now sighting.now.0 ≡ Some sighting.now.1 }
     ensures { result ≡ guid_and_port (cells_of store.now) sighting.now }

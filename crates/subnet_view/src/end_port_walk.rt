@@ -1,4 +1,4 @@
-//! The end ports in their order, one after the other, without allocating.
+//! The end ports in their order, one after another, without allocation.
 ghost use Rattle.std.specs.Prelude.{◌≡◌, [], ◌∷◌, Some, MatchOption};
 ghost use Rattle.fact_store.specs.View.{cells_of};
 ghost use Rattle.subnet_view.specs.EndPorts.{comes_before, ports_after};
@@ -25,8 +25,8 @@ pub fn next_end_port(store: &Store, last: Option<(Guid, EndPort)>) -> Option<(Gu
     next
 }
 
-/// Returns `end` if it comes after `last` and before `next`. Otherwise returns `next`. A `last` or a `next` that is
-/// `None` sets no bound.
+/// Returns `end` if it comes after `last` and before `next`. Otherwise returns `next`. If `last` or `next` is `None`,
+/// it sets no bound.
 fn nearer(
     last: &Option<(Guid, EndPort)>,
     next: Option<(Guid, EndPort)>,
@@ -41,7 +41,7 @@ fn nearer(
     }
 }
 
-/// Returns whether `end` comes after `last`, or `true` if `last` is `None`.
+/// Returns whether `end` comes after `last`. Returns `true` if `last` is `None`.
 fn is_after(last: &Option<(Guid, EndPort)>, end: &(Guid, EndPort)) -> bool
     ensures { result ≡ is_after last.now end.now }
 {
@@ -51,7 +51,7 @@ fn is_after(last: &Option<(Guid, EndPort)>, end: &(Guid, EndPort)) -> bool
     }
 }
 
-/// Returns whether `end` comes before `next`, or `true` if `next` is `None`.
+/// Returns whether `end` comes before `next`. Returns `true` if `next` is `None`.
 fn is_before(next: &Option<(Guid, EndPort)>, end: &(Guid, EndPort)) -> bool
     ensures { result ≡ is_before next.now end.now }
 {

@@ -9,7 +9,7 @@ use crate::reading::peer_said;
 use fact_store::{Key, Sighting, Store};
 use smp_bytes::{Guid, NodeType, PortNum};
 
-/// A reader of what is known of ports, to look up rising ports.
+/// A reader of what is known of ports. It looks up ports in ascending order.
 #[derive(Drop)]
 pub(crate) struct PortReader<'s> {
     nodes: CellCursor<'s>,
@@ -31,8 +31,8 @@ impl<'s> PortReader<'s> {
         }
     }
 
-    /// Returns the two ends of the link that `sighting` reports: the port of its key, and the far end. Returns `None`
-    /// if `sighting` is not of a link, if the link is disputed, or if the port of the key cannot have a wire. Passes
+    /// Returns the two ends of the link that `sighting` reports: the port in its key, and the far end. Returns `None`
+    /// if `sighting` is not of a link, if the link is disputed, or if the port in the key cannot have a wire. Passes
     /// what is known of earlier ports.
     pub(crate) fn wire_end(
         &mut self,
@@ -66,7 +66,8 @@ impl<'s> PortReader<'s> {
     }
 }
 
-/// Returns whether `port` is from 1 to the number of ports of `node`. Returns `false` if `node` is not known.
+/// Returns whether `port` is from 1 to the number of ports in `node`, which is what is known of the port's node.
+/// Returns `false` if `node` is `None`.
 fn is_port_of(port: PortNum, node: Option<(NodeType, u8)>) -> bool
     ensures { result ≡ is_within port (count_of node) }
 {
@@ -76,7 +77,7 @@ fn is_port_of(port: PortNum, node: Option<(NodeType, u8)>) -> bool
     }
 }
 
-/// Returns whether `node` is known to be a switch.
+/// Returns whether `node`, which is what is known of a node, says that the node is a switch.
 fn is_switch(node: Option<(NodeType, u8)>) -> bool
     ensures { result ≡ is_switch_in node }
 {

@@ -6,7 +6,8 @@ ghost use Rattle.subnet_view.specs.Reading.{port_count_of, is_up, is_switch_in, 
 use fact_store::{Sighting, Store, Value};
 use smp_bytes::{Guid, NodeType, PortNum};
 
-/// Returns the number of ports of the node `guid`, or 0 if it is not known. Does a binary search among the cells.
+/// Returns the number of ports of the node `guid`, or 0 if this number is not known. Does a binary search among the
+/// cells.
 pub fn port_count(store: &Store, guid: Guid) -> u8
     ensures { result ≡ port_count_of (cells_of store.now) guid }
 {
@@ -37,7 +38,7 @@ pub(crate) fn is_switch_said(sighting: &Sighting) -> bool
     matches!(sighting.value(), Some(Value::Kind(NodeType::Switch, _)))
 }
 
-/// Returns the GUID that is the value of `sighting`, or `None` if the value is disputed or is no GUID.
+/// Returns the GUID that is the value of `sighting`, or `None` if the value is disputed or is not a GUID.
 pub(crate) fn guid_said(sighting: &Sighting) -> Option<Guid>
     ensures { result ≡ guid_in (value_in (Some sighting.now.1)) }
 {
@@ -47,7 +48,8 @@ pub(crate) fn guid_said(sighting: &Sighting) -> Option<Guid>
     }
 }
 
-/// Returns the far end of a link that is the value of `sighting`, or `None` if the value is disputed or is no far end.
+/// Returns the far end of a link that is the value of `sighting`, or `None` if the value is disputed or is not a far
+/// end.
 pub(crate) fn peer_said(sighting: &Sighting) -> Option<(Guid, PortNum)>
     ensures { result ≡ peer_in (value_in (Some sighting.now.1)) }
 {

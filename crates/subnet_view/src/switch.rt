@@ -8,8 +8,8 @@ use fact_store::{Key, Refused, Sighting, Store};
 use smp_bytes::Guid;
 use std::alloc::{AllocError, Global};
 
-/// Returns whether `node` is a usable switch: it is known to be a switch, and its table room is known. Does at most two
-/// binary searches among the cells.
+/// Returns whether `node` is a usable switch: it is known to be a switch, and the size of its forwarding table is
+/// known. Does at most two binary searches among the cells.
 pub fn is_usable(store: &Store, node: Guid) -> bool
     ensures { result ≡ is_usable (cells_of store.now) node }
 {
@@ -55,7 +55,7 @@ pub fn usable_guid(store: &Store, sighting: &Sighting) -> Option<Guid>
     }
 }
 
-/// Returns whether `sighting` says that its node is a switch, and the table room of `node` is known.
+/// Returns whether `sighting` says that its node is a switch, and the table size of `node` is known.
 fn is_usable_said(store: &Store, node: Guid, sighting: &Sighting) -> bool
     ensures { result ≡ (is_switch_in (kind_in (value_in (Some sighting.now.1)))
         && is_some (cap_of (cells_of store.now) node)) }

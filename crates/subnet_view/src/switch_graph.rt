@@ -22,7 +22,7 @@ use std::marker::Model;
 /// The usable switches and the wires between them, as a graph.
 #[derive(Drop)]
 pub struct SwitchGraph {
-    /// The switches in ascending order of GUID. An edge leads to an index in this list.
+    /// The switches in ascending order of GUID. Each edge leads to the index of a switch in this list.
     guids: Vec<Guid>,
     /// The edges of each switch, in ascending order of port.
     edges: Adjacency,
@@ -42,8 +42,9 @@ impl Model for SwitchGraph {
 
 impl SwitchGraph {
     /// Builds the graph of the view's usable switches and the wires between them. Walks the cells, with at most two
-    /// binary searches among them for each switch. For each port of a switch does at most two binary searches among the
-    /// ports that can have a wire. For each wire takes one among the switches.
+    /// binary searches among them for each switch. For each port of a switch, does at most two binary searches among
+    /// the ports that can have a wire. For each wire, does a binary search among the switches. Returns an error if
+    /// memory runs out.
     pub fn of(alloc: Global, wires: &Wires) -> Result<Self, Refused>
         ensures { IfOk result (λ graph. graph ≡ graph_of (cells_of wires.now)) }
     {
@@ -74,22 +75,23 @@ impl SwitchGraph {
         self.guids
     }
 
-    /// Returns the switch at `index`, or `None` if the graph has no such index. Takes constant time.
+    /// Returns the switch at `index`, or `None` if the graph has no switch at this index. Takes constant time.
     pub fn switch(&self, index: usize) -> Option<Guid>
         ensures { result ≡ slice_get (guids_of self.now) index }
     {
         self.guids.get(index).copied()
     }
 
-    /// Returns the index of `switch`, or `None` if it is not in the graph. Does a binary search among the switches.
+    /// Returns the index of `switch`, or `None` if `switch` is not in the graph. Does a binary search among the
+    /// switches.
     pub fn index_of(&self, switch: Guid) -> Option<usize>
         ensures { IsIndexIn (guids_of self.now) switch result }
     {
         index_of(&self.guids, switch)
     }
 
-    /// Returns the edges of the switch at `index`, which must exist. The edges lead to indices of switches. Takes
-    /// constant time.
+    /// Returns the edges of the switch at `index`. There must be a switch at this index. The edges lead to indices of
+    /// switches. Takes constant time.
     pub fn edges(&self, index: usize) -> &[Edge]
         requires { index < length self.now }
         ensures edges { AreEdgesAt self.now index result.now }
@@ -106,8 +108,8 @@ impl SwitchGraph {
         &self.edges
     }
 
-    /// Returns for each switch, in ascending order of GUID, its distance from the switch at index `from`, which must
-    /// exist. The distance is `None` if no walk leads to the switch. Takes a breadth-first search.
+    /// Returns for each switch, in ascending order of GUID, its distance from the switch at index `from`. There must be
+    /// a switch at this index. The distance is `None` if no walk leads to the switch. Does a breadth-first search.
     pub fn distances(&self, alloc: Global, from: usize) -> Result<Vec<Option<usize>>, AllocError>
         requires { from < length self.now }
         ensures { IfOk result (λ found. found.items ≡ distances_from self.now from) }
@@ -116,7 +118,7 @@ impl SwitchGraph {
     }
 
     /// Returns for each switch, in ascending order of GUID, the root of its component, which is the least GUID in the
-    /// component. Takes a breadth-first search for each component.
+    /// component. Does a breadth-first search for each component.
     pub fn roots(&self, alloc: Global) -> Result<Vec<Option<Guid>>, AllocError>
         ensures { IfOk result (λ roots. roots.items ≡ map (root_of self.now) (guids_of self.now)) }
     {
@@ -124,7 +126,7 @@ impl SwitchGraph {
     }
 }
 
-/// Returns the edges of each switch. `guids` must be the usable switches.
+/// Returns the edges of each switch. `guids` must be the usable switches, in ascending order of GUID.
 fn edges(alloc: Global, wires: &Wires, guids: &[Guid]) -> Result<Adjacency, AllocError>
     requires { guids.now ≡ switches (cells_of wires.now) }
     ensures wires { IfOk result (λ edges.
@@ -139,7 +141,8 @@ fn edges(alloc: Global, wires: &Wires, guids: &[Guid]) -> Result<Adjacency, Allo
     Ok(edges)
 }
 
-/// Returns the edges of the switch `guid`, in ascending order of port. `guids` must be the usable switches.
+/// Returns the edges of the switch `guid`, in ascending order of port. `guids` must be the usable switches, in
+/// ascending order of GUID.
 fn edges_of(
     alloc: Global,
     wires: &Wires,
@@ -161,8 +164,8 @@ fn edges_of(
 }
 
 /// Returns the edge of the wire in `port` of `guid`, or `None` if no wire leads from `port` to a switch. `guids` must
-/// be the usable switches. Does at most two binary searches among the ports that can have a wire, and one among the
-/// switches if a wire is in `port`.
+/// be the usable switches, in ascending order of GUID. Does at most two binary searches among the ports that can have a
+/// wire, and one among the switches if a wire is in `port`.
 fn edge_at(wires: &Wires, guids: &[Guid], guid: Guid, port: PortNum) -> Option<Edge>
     requires { guids.now ≡ switches (cells_of wires.now) }
     ensures wire { option_map (by_guid guids.now) result ≡ edge_at (cells_of wires.now) guid port }
@@ -173,8 +176,8 @@ fn edge_at(wires: &Wires, guids: &[Guid], guid: Guid, port: PortNum) -> Option<E
     Some(Edge { port, to })
 }
 
-/// Returns the index of `guid` among `guids`, which must rise, or `None` if `guids` do not contain `guid`. Does a
-/// binary search.
+/// Returns the index of `guid` in `guids`, or `None` if `guids` does not contain `guid`. `guids` must be in strictly
+/// ascending order. Does a binary search.
 fn index_of(guids: &[Guid], guid: Guid) -> Option<usize>
     requires { IsStrictlyIncreasing guids.now }
     ensures { IsIndexIn guids.now guid result }

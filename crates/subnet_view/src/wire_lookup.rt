@@ -7,8 +7,8 @@ use fact_store::Store;
 use smp_bytes::{Guid, NodeType, PortNum};
 
 /// Returns the node and the port at the other end of the wire in `port` of `node`, or `None` if no wire is in the port.
-/// A wire joins two different ports if their links name each other, and each can have a wire. A port can have a wire if
-/// it is up. It must also be a port from 1 on of a usable switch, or an end port of another node. Takes at most eight
+/// A wire joins two different ports if both can have a wire and their links name each other. A port can have a wire if
+/// it is up, and is either a port from 1 on of a usable switch or an end port of another node. Does at most eight
 /// binary searches among the cells.
 pub fn wire(store: &Store, node: Guid, port: PortNum) -> Option<(Guid, PortNum)>
     ensures { result ≡ across (cells_of store.now) node port }
@@ -21,9 +21,9 @@ pub fn wire(store: &Store, node: Guid, port: PortNum) -> Option<(Guid, PortNum)>
     }
 }
 
-/// Returns the switch and its port that the wire in `port` of `node` leads to. Returns `None` if no wire is in the
-/// port, if the wire does not lead to a switch, or if `node` is known to be a switch. Takes at most ten binary searches
-/// among the cells.
+/// Returns the switch, and the port of it, that the wire in `port` of `node` leads to. Returns `None` if no wire is in
+/// the port, if the wire does not lead to a switch, or if `node` is known to be a switch. Does at most ten binary
+/// searches among the cells.
 pub fn attached(store: &Store, node: Guid, port: PortNum) -> Option<(Guid, PortNum)>
     ensures { result ≡ attached (cells_of store.now) node port }
 {
@@ -48,7 +48,7 @@ fn is_wire(store: &Store, near: (Guid, PortNum), far: (Guid, PortNum)) -> bool
         && store.link(far.0, far.1) == Some(near)
 }
 
-/// Returns whether the port `end` can have a wire. Takes at most three binary searches among the cells.
+/// Returns whether the port `end` can have a wire. Does at most three binary searches among the cells.
 fn is_wire_end(store: &Store, end: (Guid, PortNum)) -> bool
     ensures { result ≡ is_wire_end (cells_of store.now) end.0 end.1 }
 {

@@ -35,7 +35,7 @@ impl<'s> Model for Wires<'s> {
 }
 
 impl<'s> Wires<'s> {
-    /// Finds the wires of the view that `store` holds. Walks the cells.
+    /// Finds the wires of the view in `store`. Walks the cells. Returns an error if memory runs out.
     pub fn of(alloc: Global, store: &'s Store) -> Result<Self, Refused>
         ensures { IfOk result (λ wires. wires ≡ store.now) }
     {
@@ -64,8 +64,8 @@ impl<'s> Wires<'s> {
         }
     }
 
-    /// Returns the switch and its port that the wire in `port` of `node` leads to, as `attached` does. Does at most two
-    /// binary searches among the cells, and two among the ports that can have a wire.
+    /// Returns the switch, and the port of it, that the wire in `port` of `node` leads to, as `attached` does. Does at
+    /// most two binary searches among the cells, and two among the ports that can have a wire.
     pub fn attached(&self, node: Guid, port: PortNum) -> Option<(Guid, PortNum)>
         ensures { result ≡ attached (cells_of self.now) node port }
     {
@@ -80,7 +80,7 @@ impl<'s> Wires<'s> {
         }
     }
 
-    /// Returns the far end of the link of `port` of `node`, or `None` if the port cannot have a wire or the link is not
+    /// Returns the far end of the link at `port` of `node`, or `None` if the port cannot have a wire or the link is not
     /// known. Does a binary search among the ports that can have a wire.
     fn end_link(&self, node: Guid, port: PortNum) -> Option<(Guid, PortNum)>
         ensures { result ≡ end_link (cells_of self.now) node port }
@@ -93,7 +93,8 @@ impl<'s> Wires<'s> {
     }
 }
 
-/// Returns whether `near` and `far` are different ports, and `back`, the far end of the link of `far`, is `near`.
+/// Returns whether `near` and `far` are different ports and `back` is `near`. `back` is the far end of the link at
+/// `far`.
 fn is_pair(near: (Guid, PortNum), far: (Guid, PortNum), back: Option<(Guid, PortNum)>) -> bool
     ensures { result ≡ is_pair near far back }
 {

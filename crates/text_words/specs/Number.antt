@@ -8,11 +8,11 @@ use Rattle.std.specs.Result.{result_ok}
 use Rattle.std.specs.Str.Parse.{digits_value}
 use Rattle.hex.specs.Hex.{decode_sized}
 
--- the value of the digit `b` in `base`; None if `b` is no digit of `base`
+-- the value of the digit `b` in `base`; None if `b` is not a digit in `base`
 abbrev pub digit_of : ℕ → ℕ → Option ℕ
 digit_of base b = if is_digit b base then Some (digit_value b) else None
 
--- the number that `word` spells in `base`; None if `word` is empty or has a byte that is no digit of `base`
+-- the number that `word` spells in `base`; None if `word` is empty or has a byte that is not a digit in `base`
 abbrev pub number_of : ℕ → List ℕ → Option ℕ
 number_of base word =
     if nat_le 1 (length word) && list_all (λ b. is_digit b base) word then Some (digits_value base word) else None
@@ -21,12 +21,12 @@ number_of base word =
 abbrev pub up_to : ℕ → ℕ → Option ℕ
 up_to most n = if nat_le 1 n && nat_le n most then Some n else None
 
--- the number that `word` spells in decimal; None if `word` spells none, and an inner None if the number is not from 1
--- to `most`
+-- the number that `word` spells in decimal. None if `word` does not spell a number, and an inner None if the number is
+-- not from 1 to `most`
 abbrev pub count_of : ℕ → List ℕ → Option (Option ℕ)
 count_of most word = option_map (up_to most) (number_of 10 word)
 
--- the GUID that `word` spells as `0x` and one to sixteen hex digits; None if `word` is anything else
+-- the GUID that `word` spells as `0x` followed by one to sixteen hex digits; None if `word` is anything else
 abbrev pub guid_of : List ℕ → Option ℕ
 guid_of word = if bytes_eq (take 2 word) (codes "0x")
     && nat_le (length word) 18 then number_of 16 (drop 2 word) else None
@@ -39,15 +39,15 @@ bare_guid_of word = guid_of (codes "0x" ++ word)
 abbrev pub at_most : ℕ → ℕ → Option ℕ
 at_most most n = if nat_le n most then Some n else None
 
--- the number that `word` spells in decimal; None if `word` spells none, and an inner None if the number is above `most`
+-- the number that `word` spells in decimal. None if `word` does not spell a number, and an inner None if the number is above `most`
 abbrev pub small_of : ℕ → List ℕ → Option (Option ℕ)
 small_of most word = option_map (at_most most) (number_of 10 word)
 
--- the number that `word` writes in decimal, if it is at most `most`; otherwise None
+-- the number that `word` spells in decimal, if it is at most `most`; otherwise None
 abbrev pub number_up_to : ℕ → List ℕ → Option ℕ
 number_up_to most word = option_and_then (at_most most) (number_of 10 word)
 
--- the LID that `word` writes in decimal, up to 65,535; otherwise None
+-- the LID that `word` spells in decimal, at most 65,535; otherwise None
 abbrev pub lid_of : List ℕ → Option ℕ
 lid_of word = number_up_to 0xFFFF word
 

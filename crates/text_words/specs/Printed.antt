@@ -7,7 +7,7 @@ line_text [] = []
 line_text (word ∷ []) = word
 line_text (word ∷ next ∷ later) = word ++ 32 ∷ line_text (next ∷ later)
 
--- the text of lines of words, with a line feed after each
+-- the text of lines that are lists of words, with a line feed after each line
 abbrev pub lines_text : List (List (List ℕ)) → List ℕ
 lines_text [] = []
 lines_text (line ∷ later) = line_text line ++ 10 ∷ lines_text later

@@ -8,8 +8,8 @@ abbrev pub until : ℕ → List ℕ → Option (List ℕ × List ℕ)
 until close [] = None
 until close (b ∷ bytes) = if b == close then Some ([], bytes) else option_map (λ x. (b ∷ x.0, x.1)) (until close bytes)
 
--- the bytes between a `first` at the beginning and the next `close`, and the bytes after that `close`; None if the
--- bytes do not begin with `first`, or no `close` follows
+-- the bytes between a `first` at the beginning and the next `close`, and the bytes after that `close`. None if the
+-- bytes do not begin with `first`, or if no `close` follows
 abbrev pub enclosed : ℕ → ℕ → List ℕ → Option (List ℕ × List ℕ)
 enclosed first close [] = None
 enclosed first close (b ∷ bytes) = if b == first then until close bytes else None
@@ -23,7 +23,7 @@ alone (part, b ∷ rest) = None
 abbrev pub quoted_name : List ℕ → Option (List ℕ)
 quoted_name word = option_and_then name_in (option_and_then alone (enclosed 34 34 word))
 
--- the port that `word` has in square brackets; None if `word` is not a number in square brackets, and an inner None if
+-- the port that `word` has in square brackets. None if `word` is not a number in square brackets, and an inner None if
 -- the number is not from 1 to 254
 abbrev pub bracketed_port : List ℕ → Option (Option ℕ)
 bracketed_port word = option_and_then (count_of 254) (option_and_then alone (enclosed 91 93 word))

@@ -11,8 +11,8 @@ abbrev pub onto_first : ℕ → List (List ℕ) → List (List ℕ)
 onto_first b [] = (b ∷ []) ∷ []
 onto_first b (line ∷ later) = (b ∷ line) ∷ later
 
--- the lines of a text: each ends with a line feed, or with a carriage return and a line feed; the last line may end
--- with the text
+-- the lines of a text. Each ends with a line feed, or with a carriage return and a line feed; the last line may instead
+-- end with the text
 abbrev pub lines : List ℕ → List (List ℕ)
 lines [] = []
 lines (b ∷ bytes) = if b == 10 then []
@@ -40,8 +40,8 @@ is_behind_word quoted b = not quoted && (b == 35 || is_blank b)
 abbrev pub is_quoted_after : Bool → ℕ → Bool
 is_quoted_after quoted b = if b == 34 then not quoted else quoted
 
--- the rest of the current word, which is within quotes if `quoted`, and the words after it; a `#` outside quotes ends
--- the line
+-- the rest of the current word and the words after it; `quoted` says whether the rest begins within quotes. A `#`
+-- outside quotes ends the line
 abbrev pub parts : Bool → List ℕ → List ℕ × List (List ℕ)
 parts quoted [] = ([], [])
 parts quoted (b ∷ bytes) =

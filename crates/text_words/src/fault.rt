@@ -15,7 +15,7 @@ pub trait LineError: Copy {
         ensures { result.now ≡ word self };
 }
 
-/// The first faulty line of a text, counted from 1, and its fault.
+/// The number of the first faulty line of a text, counted from 1, and the fault of this line.
 #[derive(Clone, Copy, Debug, PartialEq, Eq)]
 pub struct LineFault<E> {
     pub line: usize,

@@ -1,4 +1,4 @@
-//! The words of a text: its lines, the words of a line, and the numbers, names and ports that words spell.
+//! The words of a text: the lines of the text, the words of a line, and the numbers, names and ports that words spell.
 #![tactic(auto)]
 
 mod fault;

@@ -3,8 +3,8 @@ ghost use Rattle.text_words.specs.Number.{bare_guid_of, bytes_of, count_of, digi
 
 use smp_bytes::Guid;
 
-/// Parses a word of digits in `base`. Returns `None` if the word is empty or has a byte that is no such digit. A number
-/// over `u64::MAX` gives `u64::MAX`. `base` must be from 2 to 36. Takes time linear in the number of digits.
+/// Parses a word of digits in `base`. Returns `None` if the word is empty or has a byte that is not such a digit. A
+/// number over `u64::MAX` gives `u64::MAX`. `base` must be from 2 to 36. Takes time linear in the number of digits.
 pub fn number(word: &[u8], base: u32) -> Option<u64>
     requires { 2 ≤ base × base ≤ 36 }
     ensures { result ≡ option_map (min (2 ^ 64 - 1)) (number_of base word.now) }
@@ -19,7 +19,7 @@ pub fn number(word: &[u8], base: u32) -> Option<u64>
     Some(number)
 }
 
-/// Returns the value of the digit `byte`, or `None` if it is no digit in `base`, which must be from 2 to 36.
+/// Returns the value of the digit `byte`, or `None` if `byte` is not a digit in `base`. `base` must be from 2 to 36.
 fn digit(byte: u8, base: u32) -> Option<u32>
     requires { 2 ≤ base × base ≤ 36 }
     ensures { result ≡ digit_of base byte }
@@ -37,7 +37,7 @@ fn with_digit(number: u64, base: u32, digit: u32) -> u64
         .saturating_add(u64::from(digit))
 }
 
-/// Parses a word of decimal digits as a number from 1 to `most`. Returns `None` if the word is no number, and
+/// Parses a word of decimal digits as a number from 1 to `most`. Returns `None` if the word is not a number, and
 /// `Some(None)` if the number is 0 or over `most`.
 pub fn count(word: &[u8], most: u16) -> Option<Option<u16>>
     ensures { result ≡ count_of most word.now }
@@ -47,8 +47,8 @@ pub fn count(word: &[u8], most: u16) -> Option<Option<u16>>
     Some(if is_within { Some(number as u16) } else { None })
 }
 
-/// Parses a word of decimal digits as a port from 1 to 254. Returns `None` if the word is no number, and `Some(None)`
-/// if the number is 0 or over 254.
+/// Parses a word of decimal digits as a port from 1 to 254. Returns `None` if the word is not a number, and
+/// `Some(None)` if the number is 0 or over 254.
 pub fn port_number(word: &[u8]) -> Option<Option<u8>>
     ensures { result ≡ count_of 254 word.now }
 {

@@ -4,8 +4,8 @@ ghost use Rattle.std.specs.Str.{bytes_eq};
 ghost use Rattle.text_words.specs.Text.{lines, words, is_blank, parts, is_behind_word, is_quoted_after};
 ghost use Rattle.text_words.specs.Text.{only_word, two_words, without_return};
 
-/// Returns the first line of `text` without its line end, and the text after the line end. Returns `None` if `text` is
-/// empty.
+/// Returns the first line of `text`, without its line end, and the text after this line end. Returns `None` if `text`
+/// is empty.
 #[tactic(auto, using(crate::proofs::Splits::lines_at, crate::proofs::Splits::lines_none))]
 pub fn split_line(text: &[u8]) -> Option<(&[u8], &[u8])>
     ensures line { MatchOption result (lines text.now ≡ [])
@@ -21,7 +21,7 @@ pub fn split_line(text: &[u8]) -> Option<(&[u8], &[u8])>
     }
 }
 
-/// Returns `line` without its carriage return, if it ends with one.
+/// Returns `line` without the carriage return at its end, if it ends with one.
 #[tactic(auto, using(crate::proofs::Splits::return_at_end, crate::proofs::Splits::no_return_at_end))]
 fn without_return(line: &[u8]) -> &[u8]
     ensures { result.now ≡ without_return line.now }
@@ -33,7 +33,7 @@ fn without_return(line: &[u8]) -> &[u8]
 }
 
 /// Returns the first word of `line` and the bytes after it, or `None` if `line` has no word. A `#` outside quotes ends
-/// the line.
+/// the words of the line.
 pub fn split_word(line: &[u8]) -> Option<(&[u8], &[u8])>
     ensures { MatchOption result (words line.now ≡ [])
         (λ x. words line.now ≡ x.0.now ∷ words x.1.now) }
@@ -77,7 +77,7 @@ fn word_start(line: &[u8]) -> Option<usize>
     line.iter().position(|byte| !is_blank(*byte))
 }
 
-/// Returns the length of the word that `line` begins with, or 0 if `line` begins with no word.
+/// Returns the length of the word that `line` begins with, or 0 if `line` does not begin with a word.
 fn word_len(line: &[u8]) -> usize
     ensures within { result ≤ length line.now }
     ensures word { (parts false line.now).0 ≡ take result line.now }
@@ -122,7 +122,7 @@ pub(crate) fn place_of(bytes: &[u8], byte: u8) -> Option<usize>
     bytes.iter().position(|b| *b == byte)
 }
 
-/// Returns whether `byte` is a blank or a tab, which separate words.
+/// Returns whether `byte` is a blank or a tab. These separate words.
 fn is_blank(byte: u8) -> bool
     ensures { result ≡ is_blank byte }
 {

@@ -1,4 +1,4 @@
--- The order of the least trial load among those that are tried: the given one, and orders by depth.
+-- The order of the least trial load among those that are tried: the given order, and orders by depth.
 use Rattle.std.specs.Prelude.{ℕ, Bool, min, nat_lt, List, [], ◌∷◌, ◌++◌, map, length, if◌then◌else◌}
 use Rattle.port_graph.specs.declared.edge.Edge.{Edge}
 use Rattle.spread_labels.specs.declared.vertex_key.VertexKey.{VertexKey}
@@ -10,7 +10,7 @@ use Rattle.depth_orders.specs.DepthOrders.{order_by_depth, turned}
 use Rattle.balanced_choices.specs.BalancedChoices.{are_even}
 use Rattle.trial_loads.specs.TrialLoads.{trial_load, trial_loads}
 
--- the key of vertex `s` by its position in `vertices`; by the length of `vertices` if `s` is not there
+-- the key of vertex `s`: its position in `vertices`, or the length of `vertices` if it does not have `s`
 abbrev pub key_in : List ℕ → ℕ → VertexKey
 key_in vertices s = record { distance_class = 0; distance = position_of vertices s }
 
@@ -18,16 +18,16 @@ key_in vertices s = record { distance_class = 0; distance = position_of vertices
 abbrev pub keys_in : List ℕ → ℕ → List VertexKey
 keys_in vertices n = map (key_in vertices) (numbers_from 0 n)
 
--- the keys by positions in the order by depth from `root`; between equals `keys` decide, in the direction given
+-- the keys that are positions in the order by depth from `root`. Between equals, `keys` decide, in the given direction
 abbrev pub keys_by_depth : List (List Edge) → List VertexKey → Direction → ℕ → List VertexKey
 keys_by_depth edges keys direction root =
     keys_in (order_by_depth edges (turned direction (before_by keys)) root) (length edges)
 
--- the keys by the orders by depth from each of the first eight vertices, or from all if there are fewer
+-- the keys for the orders by depth from each of the first eight vertices, or from all vertices if there are fewer
 abbrev pub tried_by_depth : List (List Edge) → List VertexKey → Direction → List (List VertexKey)
 tried_by_depth edges keys direction = map (keys_by_depth edges keys direction) (numbers_from 0 (min (length edges) 8))
 
--- of `keys` and the others, the first of least load
+-- of `keys` and the others, the first that has the least load
 abbrev pub least_by : (List VertexKey → ℕ) → List VertexKey → List (List VertexKey) → List VertexKey
 least_by load keys [] = keys
 least_by load keys (other ∷ others) = least_by load (if nat_lt (load other) (load keys) then other else keys) others
@@ -36,8 +36,8 @@ least_by load keys (other ∷ others) = least_by load (if nat_lt (load other) (l
 abbrev pub is_even : List (List Edge) → List ℕ → List VertexKey → Bool
 is_even edges adapters keys = are_even edges (trial_loads edges adapters keys)
 
--- `keys` if their trial loads are even; else, of `keys`, the keys by depth forwards and those backwards, the first of
--- least trial load
+-- `keys` if their trial loads are even. Otherwise, of `keys`, the keys by depth forwards and the keys by depth
+-- backwards, the first that have the least trial load
 unfoldable pub least_loaded_keys : List (List Edge) → List ℕ → List VertexKey → List VertexKey
 least_loaded_keys edges adapters keys =
     if is_even edges adapters keys then keys

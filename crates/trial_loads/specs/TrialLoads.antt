@@ -1,4 +1,4 @@
--- The trial loads of an order: each adapter sends packets to each adapter, and each vertex on their way shares its
+-- The trial loads of an order. Each adapter sends packets to each adapter, and each vertex on their way shares out its
 -- packets evenly over its candidates.
 use Rattle.std.specs.Prelude.{◌≡◌, ◌<◌, ℕ, zero, suc, Bool, not, ◌+◌, ◌-◌, ◌*◌, ◌/◌, ◌^◌, min}
 use Rattle.std.specs.Prelude.{List, [], ◌∷◌, ◌++◌, map, filter, length, replicate, slice_index, slice_set}
@@ -15,46 +15,47 @@ use Rattle.spread_labels.specs.Orders.{by_position, numbers_from, order}
 use Rattle.spread_labels.specs.TargetSets.{EachTarget, has}
 use Rattle.balanced_choices.specs.Ways.{channel_by}
 
--- `numbers`, with `more` added at each index of a list; each sum stops at 2^64 - 1
+-- `numbers`, with `more` added at each index of a list; each sum is capped at 2^64 - 1
 abbrev pub with_more : ℕ → List ℕ → List ℕ → List ℕ
 with_more more numbers [] = numbers
 with_more more numbers (i ∷ is) =
     with_more more (slice_set numbers i (min (slice_index numbers i + more) (2 ^ 64 - 1))) is
 
--- packets on their way to a target: how many each vertex has had so far, and how many each channel carries, including
--- packets to earlier targets
+-- packets on their way to a target: how many packets each vertex has had so far, its own and those that have reached
+-- it; and how many each channel carries, including packets to earlier targets
 pub record Packets : Type 0 where
   pub had : List ℕ
   pub carried : List ℕ
 
--- the share of `n` packets that each of the candidates `es` gets; the rest of the division is dropped
+-- the share of `n` packets that each of the candidates `es` gets; the remainder of the division is dropped
 abbrev pub share : ℕ → List Edge → ℕ
 share n es = n / length es
 
--- the packets once vertex `s` has shared the packets that it had evenly over its candidates `es`
+-- the packets after vertex `s` has shared out, evenly over its candidates `es`, the packets that it had
 abbrev pub with_shares : ℕ → List Edge → Packets → Packets
 with_shares s es packets = record {
   had = with_more (share (slice_index packets.had s) es) packets.had (map (λ e. e.to) es);
   carried = with_more (share (slice_index packets.had s) es) packets.carried (map (channel_by s) es);
 }
 
--- the packets once each vertex of a list has shared, one after the other; `towards` has the candidates of each vertex
+-- the packets after each vertex of a list has shared out its packets, one after another; `towards` has the candidates
+-- of each vertex
 abbrev pub shared : (ℕ → List Edge) → List ℕ → Packets → Packets
 shared towards [] packets = packets
 shared towards (s ∷ ss) packets = shared towards ss (with_shares s (towards s) packets)
 
--- the numbers less than `n`, falling
+-- the numbers less than `n`, in descending order
 abbrev pub last_first : ℕ → List ℕ
 last_first zero = []
 last_first (suc n) = n ∷ last_first n
 
--- whether a candidate of vertex `s` leads up
+-- whether any candidate of vertex `s` leads up
 abbrev pub goes_up : (ℕ → List Edge) → ℕ → Bool
 goes_up towards s = leads_up s (towards s)
 
--- the order in which `n` vertices share: those with a candidate that leads up, from the last to the first, and then the
--- others, from the first to the last. If `towards` has the candidates towards a target, each vertex shares once all
--- packets have reached it
+-- the order in which `n` vertices share. First come those with a candidate that leads up, from the last to the first,
+-- and then the others, from the first to the last. If `towards` has the candidates towards a target, each vertex shares
+-- once all packets have reached it
 abbrev pub in_turn : (ℕ → List Edge) → ℕ → List ℕ
 in_turn towards n =
     filter (goes_up towards) (last_first n) ++ filter (λ s. not (goes_up towards s)) (numbers_from 0 n)
@@ -64,7 +65,7 @@ in_turn towards n =
 abbrev pub first_had : ℕ → List ℕ → List ℕ
 first_had to adapters = map (λ from. 65536 * from * to) adapters
 
--- the loads `carried` of channels, with the packets to one target added; vertex `s` of `n` starts with `had[s]` packets
+-- the loads `carried` of channels, with the packets to one target added. Vertex `s` of `n` starts with `had[s]` packets
 abbrev pub carried_to : (ℕ → List Edge) → ℕ → List ℕ → List ℕ → List ℕ
 carried_to towards n had carried = (shared towards (in_turn towards n) (record { had = had; carried = carried })).carried
 
@@ -92,11 +93,11 @@ trial_load edges adapters keys = greatest 0 (trial_loads edges adapters keys)
 
 -- how candidates are found: ----------------------------------------------------------------------------
 
--- the candidates of vertex `s` towards target `k`, from the sets of each edge
+-- the candidates of vertex `s` towards target `k`, from the sets of its edges in `rows`
 abbrev pub candidates_in : List (List Edge) → List (List TargetSet) → ℕ → ℕ → List Edge
 candidates_in graph rows k s = picked k (sets_at rows s) (edges_at graph s)
 
--- `ups` has for each vertex the targets towards which one of its candidates leads up
+-- for each vertex, `ups` has the targets towards which any of its candidates leads up
 pub record AreUpward (graph : List (List Edge)) (rows : List (List TargetSet)) (ups : List TargetSet) : Type 0 where
   pub all : length ups ≡ length graph
   pub each : EachTarget (λ k. (s : ℕ) → s < length graph

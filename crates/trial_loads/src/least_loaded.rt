@@ -15,7 +15,7 @@ use std::alloc::{AllocError, Global};
 /// The greatest number of vertices from which orders by depth are tried.
 const TRIED: usize = 8;
 
-/// Keys, and the trial load of the order that grows by them.
+/// Keys, and the trial load of the order that grows by these keys.
 #[derive(Drop)]
 struct Trial {
     keys: Vec<VertexKey>,
@@ -23,9 +23,10 @@ struct Trial {
 }
 
 /// Returns `keys` if the trial loads of the order that grows by them are even. Otherwise returns the keys of the order
-/// with the least trial load: `keys` themselves, or the keys by an order by depth from one of the first eight vertices,
-/// forwards or backwards. Of equal trial loads the first counts. There must be a key for each vertex. For each edge
-/// there must be an edge back. `adapters` must have the number of adapters at each vertex. Takes at most 17 trials.
+/// with the least trial load. The orders tried are that of `keys` and the orders by depth from each of the first eight
+/// vertices, forwards and backwards. If loads are equal, the order tried first counts. There must be a key for each
+/// vertex. For each edge there must be an edge back. `adapters` must have the number of adapters at each vertex.
+/// Computes the trial loads of at most 17 orders.
 pub fn least_loaded_keys(
     alloc: Global,
     edges: &Adjacency,
@@ -52,8 +53,9 @@ pub fn least_loaded_keys(
     Ok(best.keys)
 }
 
-/// Tries the order by depth in `direction` from each of the first eight vertices, or from all if there are fewer.
-/// Returns whichever of `first` and these trials has the least load. Ties go to the earliest.
+/// Tries the order by depth in `direction` from each of the first eight vertices, or from all vertices if there are
+/// fewer. Returns whichever of `first` and these trials has the least load. If loads are equal, returns the earliest.
+/// The load of `first` must be its trial load. The other preconditions are those of `least_loaded_keys`.
 fn try_by_depth(
     alloc: Global,
     edges: &Adjacency,
@@ -80,7 +82,8 @@ fn try_by_depth(
     Ok(best)
 }
 
-/// Returns `keys` with the trial load of the order that grows by them.
+/// Returns the trial of `keys`: the keys, with the trial load of the order that grows by them. The preconditions are
+/// those of `least_loaded_keys`.
 fn trial_of(
     alloc: Global,
     edges: &Adjacency,
@@ -105,8 +108,8 @@ fn lesser(best: Trial, other: Trial) -> Trial
     if other.load < best.load { other } else { best }
 }
 
-/// Returns the keys of the vertices by the order by depth from `root`. In this order, `keys` and `direction` decide
-/// between equals.
+/// Returns the keys of vertices that give the order by depth from `root`. In this order, `keys` and `direction` decide
+/// between equals. There must be a key for each vertex, and `root` must be a vertex.
 fn keys_by_depth(
     alloc: Global,
     edges: &Adjacency,
@@ -123,8 +126,8 @@ fn keys_by_depth(
     keys_in(alloc, &vertices, edges.len())
 }
 
-/// Returns the key of each of `count` vertices: its position in `vertices`, or the length of `vertices` for a vertex
-/// that is not there.
+/// Returns the key of each of `count` vertices: its position in `vertices`, or the length of `vertices` if it does not
+/// have the vertex.
 fn keys_in(alloc: Global, vertices: &[usize], count: usize) -> Result<Vec<VertexKey>, AllocError>
     ensures { IfOk result (λ keys. keys.items ≡ keys_in vertices.now count) }
 {

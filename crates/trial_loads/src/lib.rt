@@ -1,4 +1,5 @@
-//! The trial loads of channels in an order of vertices, and the order of least trial load among those that are tried.
+//! The trial loads of channels in an order of vertices, and the order that has the least trial load among those that
+//! are tried.
 #![tactic(auto)]
 
 pub mod laws;

@@ -1,4 +1,4 @@
-//! How packets are shared over candidates.
+//! How packets are shared out over candidates.
 ghost use Rattle.std.specs.Prelude.{◌≡◌, ◌<◌, ◌≤◌, ◌*◌, All, IfOk, OnOk, count_by, filter, length, not};
 ghost use Rattle.port_graph.specs.Heads.{LeadToVertices};
 ghost use Rattle.spread_labels.specs.MarkSets.{AreRowsOf, picked};
@@ -13,11 +13,12 @@ use port_graph::{Adjacency, Edge};
 use spread_labels::{CandidateSets, TARGETS, TargetSet, leaf_vertices};
 use std::alloc::{AllocError, Global};
 
-/// The number of packets from each adapter to each adapter.
+/// The number of packets from each adapter to each adapter, in a trial.
 const PACKETS: usize = 65_536;
 
 /// Adds to the load of each channel the packets that the channel carries from all adapters to the adapters of each of
-/// `targets`. There must be at most 64 targets. Loads stop at 2^64 - 1.
+/// `targets`. There must be at most 64 targets. `adapters` must have the number of adapters at each vertex, each of
+/// `targets` must be a vertex, and `loads` must have 256 loads for each vertex. Loads are capped at 2^64 - 1.
 pub(crate) fn add_packets_between(
     alloc: Global,
     graph: &Adjacency,
@@ -43,7 +44,9 @@ pub(crate) fn add_packets_between(
 }
 
 /// Adds to the load of each channel the packets that the channel carries to target `k`. At first `had` must have the
-/// number of packets that each position starts with. The packets that reach a position are added to its number.
+/// number of packets that each position starts with. Packets that reach a position on the way are added to its number
+/// in `had`. `k` must be less than 64, and `loads` must have 256 loads for each position. `sets` must be for the edges
+/// of `graph`, and `ups` must be what `upward` gives for it.
 fn add_packets_to(
     graph: &Adjacency,
     sets: &CandidateSets,
@@ -76,8 +79,8 @@ fn start(adapters: &[u16], to: u16, had: &mut [usize])
     }
 }
 
-/// Shares the packets of each position with a candidate that leads up towards target `k`, from the last position to the
-/// first.
+/// For each position with a candidate that leads up towards target `k`, shares out its packets. Goes from the last
+/// position to the first. The preconditions are those of `add_packets_to`.
 fn share_up(
     graph: &Adjacency,
     sets: &CandidateSets,
@@ -105,8 +108,8 @@ fn share_up(
     }
 }
 
-/// Shares the packets of each position without a candidate that leads up towards target `k`, from the first position to
-/// the last.
+/// For each position without a candidate that leads up towards target `k`, shares out its packets. Goes from the first
+/// position to the last. The preconditions are those of `add_packets_to`.
 fn share_down(
     graph: &Adjacency,
     sets: &CandidateSets,
@@ -134,8 +137,9 @@ fn share_down(
     }
 }
 
-/// Shares the packets of `position` evenly over its candidates towards target `k`: those of `edges` whose set has the
-/// target. The rest of the division is dropped. Without a candidate, nothing is shared.
+/// Shares out the packets of `position` evenly over its candidates towards target `k`: those of `edges` whose set in
+/// `sets` has the target. The remainder of the division is dropped. If there is no candidate, nothing is shared. `k`
+/// must be less than 64. There must be a set for each edge, and 256 loads for each position.
 fn share(
     edges: &[Edge],
     sets: &[TargetSet],
@@ -169,7 +173,7 @@ fn share(
     }
 }
 
-/// Returns the number of `sets` that have `target`, which must be less than 64.
+/// Returns how many of `sets` have `target`. `target` must be less than 64.
 fn count_having(sets: &[TargetSet], target: usize) -> usize
     requires { target < 64 }
     ensures { result ≡ count_by (λ set. has set target) sets.now }

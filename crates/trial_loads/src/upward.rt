@@ -9,7 +9,8 @@ use port_graph::{Adjacency, Edge};
 use spread_labels::{CandidateSets, TargetSet};
 use std::alloc::{AllocError, Global};
 
-/// Returns for each position the targets towards which one of its candidates leads up.
+/// Returns, for each position, the targets towards which any of its candidates leads up. `sets` must be for the edges
+/// of `graph`.
 pub(crate) fn upward(
     alloc: Global,
     graph: &Adjacency,
@@ -25,7 +26,8 @@ pub(crate) fn upward(
     Ok(ups)
 }
 
-/// Returns the targets in the sets of those of `edges` that lead up from `position`.
+/// Returns the targets towards which any of `edges` is a candidate that leads up from `position`. `sets` has, for each
+/// edge, the targets towards which the edge is a candidate.
 fn upward_from(edges: &[Edge], sets: &[TargetSet], position: usize) -> TargetSet
     requires { length sets.now ≡ length edges.now }
     ensures { EachTarget (λ k. has result k ≡ leads_up position (picked k sets.now edges.now)) }

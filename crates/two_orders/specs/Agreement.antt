@@ -1,4 +1,5 @@
--- How far positions agree with the order that grows by a plan, and how far orders that grow from these positions do.
+-- How far positions agree with the order that grows by a plan, and how far the orders that grow from these positions
+-- agree with it.
 use Rattle.std.specs.Prelude.{◌<◌, ℕ, suc, List, Contains, length}
 use Rattle.std.specs.Prelude.{◌≡◌}
 use Rattle.port_graph.specs.declared.edge.Edge.{Edge}
@@ -8,7 +9,7 @@ use Rattle.spread_labels.specs.LabelLaws.{IsSymmetric}
 use Rattle.two_orders.specs.Growth.{grown_by, number_at, positions_in}
 use Rattle.two_orders.specs.Trees.{tree}
 
--- `vertices` has each of `n` vertices once, and nothing else
+-- `vertices` has each of `n` vertices once, and no others
 pub record AreVertices (n : ℕ) (vertices : List ℕ) : Type 0 where
   pub all : (s : ℕ) → s < n → Contains vertices s
   pub vertex : (i : ℕ) → i < length vertices → number_at vertices i < n
@@ -20,37 +21,37 @@ AgreesUpTo vertices position k =
     (i j : ℕ) → i < k → i < j → j < length vertices
     → position (number_at vertices i) < position (number_at vertices j)
 
--- the order that grows by `told` agrees with the order that grows by `plan` up to its first `k` vertices
--- (`AgreesUpTo`), if the positions `told` do
+-- if the positions `told` agree with the order that grows by `plan` up to its first `k` vertices (`AgreesUpTo`), so
+-- does the order that grows by `told`
 abbrev pub AgreementStays : Type 0
 AgreementStays =
     (edges : List (List Edge)) → LeadToVertices edges → (plan told : List ℕ) (k : ℕ)
     → AgreesUpTo (grown_by edges plan) (number_at told) k
     → AgreesUpTo (grown_by edges plan) (number_at (positions_in (grown_by edges told) (length edges))) k
 
--- the order that grows by `plan` over the tree of `told` agrees with the order that grows by `plan` up to its first `k`
--- + 1 vertices (`AgreesUpTo`), if the positions `told` agree up to the first `k`
+-- suppose the positions `told` agree with the order that grows by `plan` up to its first `k` vertices (`AgreesUpTo`).
+-- Then the order that grows by `plan` over the tree of `told` agrees with it up to its first `k` + 1 vertices
 abbrev pub AgreementGrows : Type 0
 AgreementGrows =
     (edges : List (List Edge)) → LeadToVertices edges → (plan told : List ℕ) (k : ℕ)
     → AgreesUpTo (grown_by edges plan) (number_at told) k
     → AgreesUpTo (grown_by edges plan) (number_at (positions_in (grown_by (tree edges told) plan) (length edges))) (suc k)
 
--- the order that grows by the positions in a grown order is that order
+-- the order that grows by the positions in a grown order is the same order
 abbrev pub GrowsAgain : Type 0
 GrowsAgain =
     (edges : List (List Edge)) → LeadToVertices edges → (positions : List ℕ)
     → grown_by edges (positions_in (grown_by edges positions) (length edges)) ≡ grown_by edges positions
 
--- different vertices have different positions; each vertex from which a walk leads to an earlier vertex has an edge to
+-- different vertices have different positions. Each vertex from which a walk leads to an earlier vertex has an edge to
 -- an earlier vertex
 pub record CouldGrow (edges : List (List Edge)) (position : ℕ → ℕ) : Type 0 where
   pub apart : (a b : ℕ) → a < length edges → b < length edges → position a ≡ position b → a ≡ b
   pub earlier : (a b k : ℕ) → a < length edges → b < length edges → Walk (heads edges) a b k → position b < position a
       → (e : Edge) × Contains (edges_at edges a) e × (position e.to < position a)
 
--- if positions could have grown and edges go both ways, the order that grows by the positions keeps the order of
--- vertices within each component
+-- if positions could have grown (`CouldGrow`) and edges go both ways, the order that grows by the positions keeps the
+-- order of the positions within each component
 abbrev pub GrownOrdersStay : Type 0
 GrownOrdersStay =
     (edges : List (List Edge)) → LeadToVertices edges → IsSymmetric edges → (positions : List ℕ)

@@ -1,4 +1,4 @@
--- The order that grows by positions, and positions in a list.
+-- The order that grows by positions, and the positions of vertices in a list.
 use Rattle.std.specs.Prelude.{ℕ, List, map, slice_index_or}
 use Rattle.std.specs.List.{range_with_len}
 use Rattle.port_graph.specs.declared.edge.Edge.{Edge}
@@ -14,10 +14,10 @@ key_of position = record { distance_class = 0; distance = position }
 abbrev pub grown_by : List (List Edge) → List ℕ → List ℕ
 grown_by edges positions = order edges (before_by (map key_of positions))
 
--- the position in `vertices` of each of `n` vertices; the length of the list for one that is not there
+-- the position in `vertices` of each of `n` vertices; the length of the list for a vertex that it does not have
 abbrev pub positions_in : List ℕ → ℕ → List ℕ
 positions_in vertices n = map (position_of vertices) (range_with_len 0 n)
 
--- the number at index `i`; 0 past the end
+-- the number at index `i`; 0 if `i` is past the end
 abbrev pub number_at : List ℕ → ℕ → ℕ
 number_at numbers i = slice_index_or numbers i 0

@@ -1,5 +1,5 @@
--- Labels of vertices: whether a walk from a vertex to a target begins up or down, by each of two orders. Walks that
--- follow labels go up and then down by both orders.
+-- Labels of vertices. A label says, for each of two orders, whether a walk from the vertex to a target begins up or
+-- down. Walks that follow labels go up and then down by both orders.
 use Rattle.std.specs.Prelude.{ℕ, ◌&&◌, ◌||◌, not, Bool, true, false, List, [], ◌∷◌, Option, None, Some, slice_get, slice_index_or, slice_set, if◌then◌else◌}
 use Rattle.std.specs.List.{list_any}
 use Rattle.port_graph.specs.declared.edge.Edge.{Edge}
@@ -8,7 +8,8 @@ use Rattle.two_orders.specs.declared.labels.Sides.{Sides}
 use Rattle.two_orders.specs.TwoOrders.{TwoOrders}
 use Rattle.two_orders.specs.Trees.{is_earlier}
 
--- whether an edge from vertex `i` to `j` leads to an earlier position if `up`, or to a later one if not
+-- if `up`, whether an edge from vertex `i` to `j` leads to an earlier position; otherwise whether it leads to a later
+-- position
 abbrev pub is_side : List ℕ → Bool → ℕ → ℕ → Bool
 is_side positions up i j = if up then is_earlier positions j i else is_earlier positions i j
 
@@ -16,13 +17,13 @@ is_side positions up i j = if up then is_earlier positions j i else is_earlier p
 abbrev pub leads : TwoOrders → Sides → ℕ → ℕ → Bool
 leads orders sides i j = is_side orders.first sides.first_up i j && is_side orders.second sides.second_up i j
 
--- whether a walk may go on by an edge that leads as `after` says, if its last edge led as `before` says: it may go up
--- by an order only if that edge led up by this order
+-- whether a walk may go on by an edge that leads as `after` says, if its last edge led as `before` says. The next edge
+-- may lead up by an order only if the last edge led up by that order
 abbrev pub may_follow : Sides → Sides → Bool
 may_follow before after = (not after.first_up || before.first_up) && (not after.second_up || before.second_up)
 
--- whether a walk whose last edge led as `before` says may go on from a vertex with the given label; false if the vertex
--- has no label
+-- whether a walk may go on from a vertex with the given label, if its last edge led as `before` says; false if the
+-- vertex has no label
 abbrev pub goes_on : Sides → Option Sides → Bool
 goes_on before None = false
 goes_on before (Some after) = may_follow before after
@@ -31,7 +32,8 @@ goes_on before (Some after) = may_follow before after
 abbrev pub label_at : List (Option Sides) → ℕ → Option Sides
 label_at labels i = slice_index_or labels i None
 
--- whether an edge from vertex `i` to `j` leads up or down as `sides` says, and a walk may go on from `j`
+-- whether an edge from vertex `i` to `j` leads up or down as `sides` says, and a walk may go on from `j` by the label
+-- of `j`
 abbrev pub leads_on : TwoOrders → List (Option Sides) → Sides → ℕ → ℕ → Bool
 leads_on orders labels sides i j = leads orders sides i j && goes_on sides (label_at labels j)
 
@@ -41,18 +43,18 @@ is_open None = false
 is_open (Some None) = true
 is_open (Some (Some label)) = false
 
--- whether vertex `i` has no label, and one of its edges leads on by the label `sides`
+-- whether vertex `i` exists and has no label, and one of its edges leads on by the label `sides`
 abbrev pub gets_label : List (List Edge) → TwoOrders → Sides → List (Option Sides) → ℕ → Bool
 gets_label edges orders sides labels i =
     is_open (slice_get labels i) && list_any (λ e. leads_on orders labels sides i e.to) (edges_at edges i)
 
--- the labels once vertex `i` has the label `sides`, if it had none and one of its edges leads on by `sides`; else
--- unchanged
+-- the labels after vertex `i` gets the label `sides`, if it had no label and one of its edges leads on by `sides`;
+-- otherwise unchanged
 abbrev pub labelled : List (List Edge) → TwoOrders → Sides → List (Option Sides) → ℕ → List (Option Sides)
 labelled edges orders sides labels i =
     if gets_label edges orders sides labels i then slice_set labels i (Some sides) else labels
 
--- the labels once each vertex of a list, one after the other, has the label `sides`, if it had none and one of its
+-- the labels after each vertex of a list, one after another, gets the label `sides`, if it had no label and one of its
 -- edges leads on by `sides`
 abbrev pub all_labelled : List (List Edge) → TwoOrders → Sides → List (Option Sides) → List ℕ → List (Option Sides)
 all_labelled edges orders sides labels [] = labels
@@ -75,8 +77,8 @@ second_goes_up = record { first_up = false; second_up = true }
 abbrev pub both_up : Sides
 both_up = record { first_up = true; second_up = true }
 
--- the labels of vertices, from the first labels `labels`, in four rounds: down by both orders; up by the first alone;
--- up by the second alone; up by both
+-- the labels of vertices, from the first labels `labels`, after four rounds. The rounds give the labels down by both
+-- orders, up by the first alone, up by the second alone, and up by both
 unfoldable pub labels_from : List (List Edge) → TwoOrders → List (Option Sides) → List (Option Sides)
 labels_from edges orders labels =
     all_labelled edges orders both_up

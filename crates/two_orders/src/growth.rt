@@ -1,4 +1,4 @@
-//! The order that grows by positions, and positions in a list.
+//! The order that grows by positions, and the positions of vertices in a list.
 ghost use Rattle.std.specs.Prelude.{◌≡◌, IfOk, length, map};
 ghost use Rattle.port_graph.specs.Heads.{LeadToVertices};
 ghost use Rattle.spread_labels.specs.LabelLaws.{IsSymmetric};
@@ -45,8 +45,8 @@ fn key_of(position: usize) -> VertexKey
     }
 }
 
-/// Returns the position of each of `count` vertices in `vertices`, or the length of `vertices` for a vertex that is not
-/// there. Takes time linear in that length for each of the `count` vertices.
+/// Returns the position in `vertices` of each of `count` vertices, or the length of `vertices` for a vertex that it
+/// does not have. For each of the `count` vertices, takes time linear in the length of `vertices`.
 pub fn positions_in(
     alloc: Global,
     vertices: &[usize],
@@ -59,7 +59,7 @@ pub fn positions_in(
         .collect(alloc)
 }
 
-/// Returns the position of `vertex` in `vertices`, or the length of `vertices` if `vertex` is not there.
+/// Returns the position of `vertex` in `vertices`, or the length of `vertices` if it does not have `vertex`.
 fn position_of(vertices: &[usize], vertex: usize) -> usize
     ensures { result ≡ position_of vertices.now vertex }
 {

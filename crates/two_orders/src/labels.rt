@@ -1,5 +1,5 @@
-//! Labels of vertices: whether a walk from a vertex to a target begins up or down, by each of two orders. Walks that
-//! follow labels go up and then down by both orders.
+//! Labels of vertices. A label says, for each of two orders, whether a walk from the vertex to a target begins up or
+//! down. Walks that follow labels go up and then down by both orders.
 ghost use Rattle.std.specs.Prelude.{◌≡◌, slice_get};
 ghost use Rattle.std.specs.List.{list_any};
 ghost use Rattle.two_orders.specs.Labels.{all_labelled, gets_label, goes_on, is_open, is_side, label_at};
@@ -9,7 +9,7 @@ use crate::orders::Orders;
 use crate::trees::is_earlier;
 use port_graph::{Adjacency, Edge};
 
-/// How an edge leads by each of two orders: up, to an earlier vertex, or down, to a later one.
+/// How an edge leads by each of two orders: up to an earlier vertex, or down to a later vertex.
 #[derive(Clone, Copy, Debug, PartialEq, Eq)]
 pub struct Sides {
     /// Whether the edge leads up by the first order.
@@ -23,9 +23,10 @@ const BOTH_DOWN: Sides = Sides {
     second_up: false,
 };
 
-/// Gives labels to vertices without one, in four rounds: down by both orders, up by the first alone, up by the second
-/// alone, and up by both. In a round, a vertex gets the label if one of its edges leads on by the label. Looks at most
-/// four times at each vertex that the second order lists, and at its edges.
+/// Gives labels to vertices that have none, in four rounds. The labels are, in this order: down by both orders, up by
+/// the first alone, up by the second alone, and up by both. In a round, a vertex gets the label if one of its edges
+/// leads on by the label (`leads_on`). Looks at most four times at each vertex that the second order lists, and at its
+/// edges.
 pub fn label_all(labels: &mut Vec<Option<Sides>>, edges: &Adjacency, orders: &Orders)
     ensures { labels.new.items ≡ labels_from edges.now orders.now labels.old.items }
 {
@@ -47,7 +48,7 @@ pub fn label_all(labels: &mut Vec<Option<Sides>>, edges: &Adjacency, orders: &Or
     label_each(labels, edges, orders, to_sides(true, true), orders.rising());
 }
 
-/// Returns the sides of an edge that leads up by the first order if `first_up`, and up by the second order if
+/// Returns the sides of an edge. The edge leads up by the first order if `first_up`, and up by the second order if
 /// `second_up`. If a flag is false, the edge leads down by that order.
 fn to_sides(first_up: bool, second_up: bool) -> Sides
     ensures { result ≡ record { first_up = first_up; second_up = second_up } }
@@ -59,7 +60,7 @@ fn to_sides(first_up: bool, second_up: bool) -> Sides
 }
 
 /// Gives each of `vertices` in turn the label `sides`, if the vertex has no label and one of its edges leads on by
-/// `sides`.
+/// `sides` (`leads_on`).
 fn label_each(
     labels: &mut Vec<Option<Sides>>,
     edges: &Adjacency,
@@ -74,7 +75,7 @@ fn label_each(
     }
 }
 
-/// Gives `vertex` the label `sides`, if `vertex` has no label and one of its edges leads on by `sides`.
+/// Gives `vertex` the label `sides`, if `vertex` has no label and one of its edges leads on by `sides` (`leads_on`).
 fn label(
     labels: &mut Vec<Option<Sides>>,
     edges: &Adjacency,
@@ -102,7 +103,7 @@ fn gets_label(
     is_open(labels, vertex) && some_leads_on(edges.at(vertex), orders, labels, sides, vertex)
 }
 
-/// Returns whether one of `edges`, which are those of `vertex`, leads on by `sides`.
+/// Returns whether any of `edges` leads on by `sides`. `edges` are the edges of `vertex`.
 fn some_leads_on(
     edges: &[Edge],
     orders: &Orders,
@@ -147,7 +148,8 @@ fn leads(orders: &Orders, sides: Sides, from: usize, to: usize) -> bool
         && is_side(orders.second(), sides.second_up, from, to)
 }
 
-/// Returns whether an edge from `from` to `to` leads to an earlier position if `up`, or to a later one otherwise.
+/// If `up`, returns whether an edge from `from` to `to` leads to an earlier position. Otherwise returns whether it
+/// leads to a later position.
 fn is_side(positions: &[usize], up: bool, from: usize, to: usize) -> bool
     ensures { result ≡ is_side positions.now up from to }
 {
@@ -158,7 +160,7 @@ fn is_side(positions: &[usize], up: bool, from: usize, to: usize) -> bool
     }
 }
 
-/// Returns whether a walk whose last edge led as `before` says may go on from a vertex with the label `label`. Returns
+/// Returns whether a walk may go on from a vertex with the label `label` if its last edge led as `before` says. Returns
 /// false if `label` is `None`.
 fn goes_on(before: Sides, label: Option<Sides>) -> bool
     ensures { result ≡ goes_on before label }
@@ -170,7 +172,7 @@ fn goes_on(before: Sides, label: Option<Sides>) -> bool
 }
 
 /// Returns whether a walk whose last edge led as `before` says may go on by an edge that leads as `after` says. The
-/// walk may go up by an order only if the last edge led up by that order.
+/// next edge may lead up by an order only if the last edge led up by that order.
 fn may_follow(before: Sides, after: Sides) -> bool
     ensures { result ≡ may_follow before after }
 {

@@ -1,5 +1,5 @@
-//! Two orders of the vertices of a graph: the tree of an order, the orders that grow over a tree, and labels by which
-//! walks go up and then down by both orders.
+//! Two orders of the vertices of a graph. This includes the tree of an order, orders that grow over a tree, and labels.
+//! Walks that follow labels go up and then down by both orders.
 #![tactic(auto)]
 
 mod growth;

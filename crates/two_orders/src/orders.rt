@@ -6,8 +6,8 @@ use crate::growth::positions_in;
 use std::alloc::{AllocError, Global};
 use std::marker::Model;
 
-/// Two orders of vertices: the position of each vertex in the first and in the second, and the vertices of the second
-/// in order.
+/// Two orders of vertices. They are stored as the position of each vertex in the first order and in the second, and as
+/// the list of vertices in the second order.
 #[derive(Drop)]
 pub struct Orders {
     /// The position of each vertex in the first order.
@@ -83,7 +83,7 @@ impl Orders {
         &self.falling
     }
 
-    /// Returns the position of each vertex in the first order, and drops the second order.
+    /// Returns the position of each vertex in the first order, and frees the second order.
     pub fn into_first(self) -> Vec<usize>
         ensures { result.items ≡ self.first }
     {

@@ -7,8 +7,8 @@ ghost use Rattle.two_orders.specs.Trees.{tree, tree_by, tree_edges};
 use port_graph::{Adjacency, Edge};
 use std::alloc::{AllocError, Global};
 
-/// Returns the edges between each vertex and the earliest, by `positions`, of itself and its neighbors. Takes time
-/// linear in the number of vertices and edges.
+/// Returns the tree of an order: the edges between each vertex and the earliest, by `positions`, of the vertex and its
+/// neighbors. Takes time linear in the number of vertices and edges.
 pub fn tree(alloc: Global, edges: &Adjacency, positions: &[usize]) -> Result<Adjacency, AllocError>
     ensures { IfOk result (λ found. found ≡ tree edges.now positions.now) }
 {
@@ -95,7 +95,7 @@ fn is_in_tree(earliest: &[usize], vertex: usize, edge: &Edge) -> bool
     number_at(earliest, vertex) == edge.to || number_at(earliest, edge.to) == vertex
 }
 
-/// Returns the number at `index`, or 0 past the end.
+/// Returns the number at `index`, or 0 if `index` is past the end.
 fn number_at(numbers: &[usize], index: usize) -> usize
     ensures { result ≡ number_at numbers.now index }
 {

@@ -1,4 +1,4 @@
--- The numbers of channels by up/down routing. They rise along each way, so packets never wait for each other in a
+-- The numbers of channels in up/down routing. They rise along each way, so packets never wait for each other in a
 -- credit loop.
 use Rattle.std.specs.Prelude.{ℕ, ◌+◌, ◌-◌, List, ◌++◌, count_by, ◌&&◌, if◌then◌else◌}
 use Rattle.std.specs.List.Sorted.{IsStrictlyIncreasing}
@@ -18,14 +18,14 @@ component_size graph b = count_by (in_one_component graph b) (guids_of graph)
 abbrev pub position_of : List SwitchEdges → ℕ → ℕ
 position_of graph b = count_by (λ a. in_one_component graph b a && is_before graph a b) (guids_of graph)
 
--- the number of the channel from switch `a` to switch `b`: the size of the component of `b`, minus the position of `b`
--- if `b` is before `a`; else the size plus that position
+-- the number of the channel from switch `a` to switch `b`. If `b` is before `a`, it is the size of the component of `b`
+-- minus the position of `b`; otherwise it is that size plus that position
 abbrev pub channel_number : List SwitchEdges → ℕ → ℕ → ℕ
 channel_number graph a b =
     if is_before graph b a then component_size graph b - position_of graph b else component_size graph b
     + position_of graph b
 
--- along each way that goes up and then down from a switch of `graph`, the numbers of channels rise
+-- along each way that goes up and then down from a switch of `graph`, the channel numbers rise
 abbrev pub ChannelLaw : Type 0
 ChannelLaw = (graph : List SwitchEdges) → IsGraph graph → (s t n : ℕ) → IsSwitch graph s
     → (w : Way (slopes_of graph) s t n)

@@ -13,13 +13,14 @@ goes_before ranks a b = let ra = unwrap_or (slice_index_or ranks a None) 0 in le
 abbrev pub ranked : List (Option ℕ) → List (ℕ × ℕ)
 ranked ranks = map (λ x. (unwrap_or x.1 0, x.0)) (enumerate_from 0 ranks)
 
--- each index of `new` has the value in `ranks` if there is one, else the value in `distances`; None if neither has one
+-- each index of `new` has the value in `ranks`, if there is one, and otherwise the value in `distances`; None if
+-- neither has one
 abbrev pub FillsIn : List (Option ℕ) → List (Option ℕ) → List (Option ℕ) → Type 0
 FillsIn ranks distances new =
     EachIndex new (λ k. slice_index_or new k None
     ≡ option_or (slice_index_or ranks k None) (slice_index_or distances k None))
 
--- `order` has each index of `ranks` once, by rank and then by index; a missing rank counts as 0
+-- `order` has each index of `ranks` once, in ascending order of rank and then of index. A missing rank counts as 0
 pub record IsOrder (ranks : List (Option ℕ)) (order : List ℕ) : Type 0 where
   pub all : length order ≡ length ranks
   pub each : (i : ℕ) → i < length ranks → Contains order i

@@ -8,7 +8,8 @@ use Rattle.subnet_view.specs.Graph.{guids_of}
 use Rattle.subnet_view.specs.GraphLaws.{IsGraph}
 use Rattle.updown_routes.specs.Ranks.{slopes_of}
 
--- the next port of each switch, in ascending order of GUID, towards switch `t`; None for a switch without one
+-- the next port of each switch towards switch `t`, with the switches in ascending order of GUID; None for a switch that
+-- has no next port
 abbrev pub ports_to : List SwitchEdges → ℕ → List (Option ℕ)
 ports_to graph t = map (λ s. next_port (slopes_of graph) s t) (guids_of graph)
 
@@ -16,15 +17,15 @@ ports_to graph t = map (λ s. next_port (slopes_of graph) s t) (guids_of graph)
 abbrev pub ports_of : List SwitchEdges → List (List (Option ℕ))
 ports_of graph = map (ports_to graph) (guids_of graph)
 
--- the next port from the switch at index `i` towards the switch at index `j`, in ascending order of GUID; None if there
--- is no next port, or no switch at one of the indices
+-- the next port from the switch at index `i` towards the switch at index `j`, with the switches in ascending order of
+-- GUID. None if there is no next port, or if one of the indices has no switch
 abbrev pub next_port_at : List SwitchEdges → ℕ → ℕ → Option ℕ
 next_port_at graph i j =
     option_and_then (λ t. option_and_then (λ s. next_port (slopes_of graph) s t) (slice_get (guids_of graph) i))
     (slice_get (guids_of graph) j)
 
--- for each vertex of `positions` as a target, the next port of each vertex of `positions` towards that target; None for
--- a vertex without one
+-- for each vertex of `positions` as a target, the next port of each vertex of `positions` towards this target, or None
+-- if there is no next port
 abbrev pub port_rows : List (List Edge) → List (List Edge) → List ℕ → List (List (Option ℕ))
 port_rows ups downs positions = map (λ t. map (λ s. next_port (indexed ups downs) s t) positions) positions
 

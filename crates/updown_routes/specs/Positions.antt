@@ -27,15 +27,15 @@ ups_from p edges = filter (λ e. nat_lt e.to p) edges
 abbrev pub downs_from : ℕ → List Edge → List Edge
 downs_from p edges = filter (λ e. nat_lt p e.to) edges
 
--- `ups` and `downs` are the edges up and down of the switch at position `p`, as edges to positions; each edge of `ups`
--- leads to a position less than `p`, and each edge of `downs` to a position of `order`
+-- `ups` and `downs` are the edges up and down of the switch at position `p`, as edges to positions. Each edge of `ups`
+-- leads to a position less than `p`. Each edge of `downs` leads to a position of `order`
 pub record IsAtPosition (graph : List SwitchEdges) (order : List ℕ) (p : ℕ) (ups downs : List Edge) : Type 0 where
   pub up : ups_at (slopes_of graph) (switch_at_position graph order p) ≡ map (by_position graph order) ups
   pub down : downs_at (slopes_of graph) (switch_at_position graph order p) ≡ map (by_position graph order) downs
   pub to_lesser : (e : Edge) → Contains ups e → e.to < p
   pub to_position : (e : Edge) → Contains downs e → e.to < length order
 
--- `ups` and `downs` have at each position the edges up and down of the switch there, which lead to positions
+-- at each position, `ups` and `downs` have the edges up and down of the switch there, as edges to positions
 pub record AreAtPositions (graph : List SwitchEdges) (order : List ℕ) (ups downs : List (List Edge)) : Type 0 where
   pub all_up : length ups ≡ length order
   pub all_down : length downs ≡ length order

@@ -1,4 +1,4 @@
--- Laws of ranks: what a root, a rank, up and down are.
+-- Laws of ranks: what roots, ranks, up and down are.
 use Rattle.std.specs.Prelude.{◌≡◌, ◌<◌, ◌≤◌, ◌↔◌, ◌⊎◌, ℕ, List, Contains, IsTrue, MatchOption}
 use Rattle.port_graph.specs.declared.edge.Edge.{Edge}
 use Rattle.port_graph.specs.Walks.{Walk, IsShortest}
@@ -8,7 +8,7 @@ use Rattle.subnet_view.specs.Graph.{edges_at, neighbors}
 use Rattle.subnet_view.specs.GraphLaws.{IsGraph, IsSwitch}
 use Rattle.updown_routes.specs.Ranks.{rank_of, is_before, slopes_of}
 
--- `root` is the root of the component of switch `a`: a walk from `a` leads to `root`, and no walk from `a` leads to a
+-- `root` is the root of the component of switch `a`: a walk leads from `a` to `root`, and no walk leads from `a` to a
 -- lesser GUID
 pub record IsRoot (graph : List SwitchEdges) (a root : ℕ) : Type 0 where
   pub reached : (n : ℕ) × Walk (neighbors graph) a root n
@@ -18,7 +18,7 @@ pub record IsRoot (graph : List SwitchEdges) (a root : ℕ) : Type 0 where
 abbrev pub HasRank : List SwitchEdges → ℕ → ℕ → Type 0
 HasRank graph a n = (root : ℕ) × IsRoot graph a root × IsShortest (neighbors graph) root a n
 
--- switch `a` is before switch `b`: of lesser rank, or of equal rank and lesser GUID; true if one of them has no rank
+-- switch `a` is before switch `b`: it has a lesser rank, or an equal rank and a lesser GUID; true if either has no rank
 abbrev pub IsBefore : List SwitchEdges → ℕ → ℕ → Type 0
 IsBefore graph a b = (m n : ℕ) → HasRank graph a m → HasRank graph b n → (m < n) ⊎ ((m ≡ n) × (a < b))
 
@@ -29,7 +29,7 @@ abbrev pub RankLaw : Type 0
 RankLaw = (graph : List SwitchEdges) → IsGraph graph → (a : ℕ) → IsSwitch graph a
     → MatchOption (rank_of graph a) ⊥ (HasRank graph a)
 
--- for switches of a graph, `is_before` is true exactly if `IsBefore` holds
+-- for switches of a graph, `is_before` is true exactly when `IsBefore` holds
 abbrev pub BeforeLaw : Type 0
 BeforeLaw = (graph : List SwitchEdges) → IsGraph graph → (a b : ℕ) → IsSwitch graph a → IsSwitch graph b
     → IsTrue (is_before graph a b) ↔ IsBefore graph a b

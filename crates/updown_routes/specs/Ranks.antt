@@ -6,12 +6,13 @@ use Rattle.subnet_view.specs.Graph.{guids_of}
 use Rattle.subnet_view.specs.GraphLaws.{IsGraph}
 use Rattle.subnet_view.specs.Components.{distance, root_of}
 
--- the rank of switch `a`: the length of a shortest walk from the root of its component to `a`; None if `a` is no switch
--- of the graph
+-- the rank of switch `a`: the length of a shortest walk from the root of its component to `a`; None if `a` is not a
+-- switch of the graph
 abbrev pub rank_of : List SwitchEdges → ℕ → Option ℕ
 rank_of graph a = option_and_then (λ root. distance graph root a) (root_of graph a)
 
--- whether switch `a` is before switch `b`: of lesser rank, or of equal rank and lesser GUID; a missing rank counts as 0
+-- whether switch `a` is before switch `b`: it has a lesser rank, or an equal rank and a lesser GUID. A missing rank
+-- counts as 0
 abbrev pub is_before : List SwitchEdges → ℕ → ℕ → Bool
 is_before graph a b = let ra = unwrap_or (rank_of graph a) 0 in let rb =
     unwrap_or (rank_of graph b) 0 in nat_lt ra rb || (ra == rb && nat_lt a b)

@@ -7,8 +7,8 @@ use Rattle.subnet_view.specs.Routing.{Routing, IsRouting}
 use Rattle.updown_routes.specs.Ranks.{slopes_of}
 use Rattle.updown_routes.specs.Channels.{channel_number}
 
--- up/down routing: a packet leaves by the next port, which leads down if a walk down leads to the target, and else up;
--- the LID makes no difference
+-- up/down routing. A packet leaves by the next port, which leads down if a walk down leads to the target, and otherwise
+-- up. The LID makes no difference
 abbrev pub updown : List SwitchEdges → Routing
 updown graph = record {
   next = λ lid s t. next_port (slopes_of graph) s t;

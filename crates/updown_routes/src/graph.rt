@@ -37,7 +37,8 @@ impl Model for Graph {
 impl Graph {
     /// Builds the graph of the usable switches that the view of `wires` has, and of the wires between them. For each
     /// port of a switch, does at most two binary searches among the ports that can have a wire. For each wire, does a
-    /// binary search among the switches. For each component, takes a breadth-first search.
+    /// binary search among the switches. For each component, does a breadth-first search. Returns an error if memory
+    /// runs out.
     pub fn of(alloc: Global, wires: &Wires) -> Result<Self, Refused>
         ensures { IfOk result (λ graph. graph ≡ graph_of (cells_of wires.now)) }
     {
@@ -61,22 +62,23 @@ impl Graph {
         self.graph.switches()
     }
 
-    /// Returns the switches, in ascending order of GUID, and drops the graph.
+    /// Returns the switches, in ascending order of GUID, and frees the rest of the graph.
     pub fn into_switches(self) -> Vec<Guid>
         ensures { result.items ≡ guids_of self }
     {
         self.graph.into_switches()
     }
 
-    /// Returns the switch at `index` among the switches in ascending order of GUID, or `None` past the end. Takes
-    /// constant time.
+    /// Returns the switch at `index`, with the switches in ascending order of GUID, or `None` if `index` is past the
+    /// end. Takes constant time.
     pub fn switch(&self, index: usize) -> Option<Guid>
         ensures { result ≡ slice_get (guids_of self.now) index }
     {
         self.graph.switch(index)
     }
 
-    /// Returns the index of `switch`, or `None` if the graph lacks `switch`. Does a binary search among the switches.
+    /// Returns the index of `switch`, or `None` if `switch` is not in the graph. Does a binary search among the
+    /// switches.
     pub fn index_of(&self, switch: Guid) -> Option<usize>
         ensures { IsIndexIn (guids_of self.now) switch result }
     {
@@ -84,7 +86,7 @@ impl Graph {
     }
 
     /// Returns the rank of `switch`: the length of a shortest walk from the root of its component to `switch`. Returns
-    /// `None` if the graph lacks `switch`. Does a binary search among the switches.
+    /// `None` if `switch` is not in the graph. Does a binary search among the switches.
     pub fn rank(&self, switch: Guid) -> Option<usize>
         ensures { result ≡ rank_of self.now switch }
     {
@@ -92,15 +94,15 @@ impl Graph {
         self.ranks[index]
     }
 
-    /// Returns, for each switch in ascending order of GUID, the root of its component: the switch of least GUID there.
-    /// Each switch has one. Takes a breadth-first search for each component.
+    /// Returns, for each switch in ascending order of GUID, the root of its component: the switch with the least GUID
+    /// in the component. Each switch has a root. Does a breadth-first search for each component.
     pub fn roots(&self, alloc: Global) -> Result<Vec<Option<Guid>>, AllocError>
         ensures { IfOk result (λ roots. roots.items ≡ map (root_of self.now) (guids_of self.now)) }
     {
         self.graph.roots(alloc)
     }
 
-    /// Returns the rank of each switch, in ascending order of GUID. Each switch has one.
+    /// Returns the rank of each switch, in ascending order of the switches' GUIDs. Each switch has a rank.
     pub(crate) fn ranks(&self) -> &[Option<usize>]
         ensures ranks { result.now ≡ map (rank_of self.now) (guids_of self.now) }
         ensures is_graph { IsGraph self.now }

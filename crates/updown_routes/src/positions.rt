@@ -4,7 +4,7 @@ ghost use Rattle.updown_routes.specs.Order.{ranked, IsOrder, ArePositions};
 
 use std::alloc::{AllocError, Global};
 
-/// Returns the indices of `ranks`, by rank and then by index. A missing rank counts as 0.
+/// Returns the indices of `ranks`, in ascending order of rank and then of index. A missing rank counts as 0.
 pub(crate) fn order(alloc: Global, ranks: &[Option<usize>]) -> Result<Vec<usize>, AllocError>
     ensures { IfOk result (λ order. IsOrder ranks.now order.items) }
 {
@@ -31,7 +31,7 @@ fn ranked(alloc: Global, ranks: &[Option<usize>]) -> Result<Vec<(usize, usize)>,
         .collect(alloc)
 }
 
-/// Returns the position of each index in `order`. `order` must have each index less than its length once.
+/// Returns the position of each index in `order`. `order` must contain each index below its length once.
 pub(crate) fn positions(alloc: Global, order: &[usize]) -> Result<Vec<usize>, AllocError>
     requires { NamesEachOnce (length order.now) order.now }
     ensures { IfOk result (λ positions. ArePositions order.now positions.items) }

@@ -7,7 +7,7 @@ use std::alloc::{AllocError, Global};
 use subnet_view::SwitchGraph;
 
 /// Returns the rank of each switch, in ascending order of GUID: its distance from the root of its component. The root
-/// is the first switch of the component. Takes one breadth-first search for each component.
+/// is the first switch of the component. Does a breadth-first search for each component.
 pub(crate) fn ranks(alloc: Global, graph: &SwitchGraph) -> Result<Vec<Option<usize>>, AllocError>
     ensures { IfOk result (λ ranks. ranks.items ≡ map (rank_of graph.now) (guids_of graph.now)) }
 {

@@ -17,8 +17,8 @@ use std::marker::Model;
 #[derive(Drop)]
 pub struct Routes<'g> {
     graph: &'g Graph,
-    /// For each target, in ascending order of GUID, the next port of each switch, in ascending order of GUID. `None`
-    /// for the target itself, and for a switch of another component.
+    /// For each target, in ascending order of GUID, the next port of each switch, in ascending order of GUID. The port
+    /// is `None` for the target itself, and for each switch of another component.
     towards: Vec<Vec<Option<PortNum>>>,
 }
 
@@ -36,6 +36,7 @@ impl<'g> Model for Routes<'g> {
 
 impl<'g> Routes<'g> {
     /// Computes the routes of `graph`. For each target, takes at most time linear in the number of switches and wires.
+    /// Returns an error if memory runs out.
     pub fn of(alloc: Global, graph: &'g Graph) -> Result<Self, Refused>
         ensures { IfOk result (λ routes. routes ≡ graph.now) }
     {
@@ -48,7 +49,7 @@ impl<'g> Routes<'g> {
 
     /// Returns the port by which a packet leaves `switch` for `target`. The port leads down if a walk down leads to
     /// `target`, and otherwise up. Returns `None` if `switch` is `target`, if the two are in different components, or
-    /// if the graph lacks one of the two. Does two binary searches among the switches.
+    /// if one of the two is not in the graph. Does two binary searches among the switches.
     pub fn next_port(&self, switch: Guid, target: Guid) -> Option<PortNum>
         ensures { result ≡ next_port (slopes_of self.now) switch target }
     {
@@ -58,7 +59,7 @@ impl<'g> Routes<'g> {
     }
 
     /// Returns the next port of the switch at index `switch` towards the switch at index `target`. Returns `None` if
-    /// there is no next port, or no switch at one of the indices. Takes constant time.
+    /// there is no next port, or if one of the indices has no switch. Takes constant time.
     pub fn next_port_at(&self, switch: usize, target: usize) -> Option<PortNum>
         ensures { result ≡ next_port_at self.now switch target }
     {
@@ -67,8 +68,9 @@ impl<'g> Routes<'g> {
     }
 }
 
-/// Returns, for each of `positions` as a target, the next port of each of `positions`, or `None` for a position without
-/// one. Each of `positions` must be less than the number of vertices of `slopes`.
+/// Returns a row for each of `positions` as a target. The row has the next port of each of `positions` towards the
+/// target, or `None` if there is no next port. Each of `positions` must be less than the number of vertices of
+/// `slopes`. The edges of `slopes` must be slopes (`AreSlopes`).
 fn towards(
     alloc: Global,
     slopes: &UpDownEdges,

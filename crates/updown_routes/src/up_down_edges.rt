@@ -18,8 +18,8 @@ pub(crate) struct UpDownEdges {
 }
 
 impl UpDownEdges {
-    /// Finds the wires up and down of each switch. `order` must have the indices by rank and then by GUID, and
-    /// `positions` the position of each index in `order`.
+    /// Finds the wires up and down of each switch. `order` must have the indices of switches, in ascending order of
+    /// rank and then of GUID. `positions` must have the position of each index in `order`.
     pub(crate) fn of(
         alloc: Global,
         graph: &Graph,
