@@ -107,14 +107,14 @@ HasPeerSlot peers p = p.port < length (slice_index_or peers p.node [])
 abbrev pub FitsPorts : Simulation → Type 0
 FitsPorts s = (id : ℕ) (a : Agent) → agent_at s id ≡ Some a → length (slice_index_or s.peers id []) ≡ a.node.ports + 1
 
--- a port from 1 on is Down exactly if no cable is in it
+-- a port from 1 on is Down exactly when no cable is in it
 abbrev pub AreUncabledDown : Simulation → Type 0
 AreUncabledDown s =
     (p : NodePort) (a : Agent) → agent_at s p.node ≡ Some a → is_cable_port s p ≡ true → (state_at a p.port ≡ Down)
     ↔ (across s.peers p ≡ None)
 
--- the cables fit the nodes and their agents: each end is in a cable port, and each cable leads back from its other end.
--- A cable port is Down exactly if no cable is in it
+-- the cables fit the nodes and their agents: each end is in a cable port, and each cable leads back from its other
+-- end. A cable port is Down exactly when no cable is in it
 pub record AreCables (s : Simulation) : Type 0 where
   pub lists : length s.peers ≡ length s.agents
   pub fit : FitsPorts s

@@ -40,7 +40,7 @@ IsUpState state = (2 ≤ state) × (state ≤ 4)
 abbrev pub port_asked : Node → ℕ → ℕ → ℕ
 port_asked node modifier arrival = if is_switch node.kind then modifier else arrival
 
--- `port` is a port of the node, and `state`, the port state in PortInfo, is up exactly if this port is up
+-- `port` is a port of the node, and `state`, the port state in PortInfo, is up exactly when this port is up
 pub record SaysPort (f : Fabric) (id : ℕ) (node : Node) (port state : ℕ) : Type 0 where
   pub within : port ≤ node.ports
   pub up : IsUpState state ↔ IsUp f id node port

@@ -36,7 +36,7 @@ owner_more Several e = Several
 abbrev pub is_sole : EndPort → List EndPort → Bool
 is_sole port owners = list_all (is_same_end port) owners
 
--- if `port` owns a LID, then all its owners are `port` exactly if the list of owners is `port` alone
+-- if `port` owns a LID, then all its owners are `port` exactly when the list of owners is `port` alone
 abbrev pub SoleOwnersAreAlone : Type 0
 SoleOwnersAreAlone =
     (held : HeldPlan) (lid : ℕ) (port : EndPort) → IsTrue (is_owner (owners_of held lid) port)

@@ -61,8 +61,8 @@ RefusalsChangeNothing =
 
 -- what is said ------------------------------------------------------------------------------
 
--- PortInfo says `number` as the state of the port that `modifier` and `arrival` mean: the number of a state other than
--- no change, which is Down exactly if that port is Down
+-- PortInfo says `number` as the state of the port that `modifier` and `arrival` mean: the number of a state other
+-- than no change, which is Down exactly when that port is Down
 pub record SaysPort (a : Agent) (modifier arrival number : ℕ) : Type 0 where
   pub port : ℕ
   pub meant : port_meant a modifier arrival ≡ Some port

@@ -113,7 +113,7 @@ end_for cells held lid e =
     end_of (after (length (switches cells)) (next_hops_of cells held lid)
     (first_hop (owners_of held lid) (sender_of cells e)))
 
--- the packet that an end port sends for a LID ends at `end` exactly if `end` is the end that `end_for` gives
+-- the packet that an end port sends for a LID ends at `end` exactly when `end` is the end that `end_for` gives
 abbrev pub EndsAreFound : Type 0
 EndsAreFound = (cells : Cells) (held : HeldPlan) (lid : ℕ) (e : EndPort) (end : Option End)
     → IsBrought cells held lid e end ↔ (end ≡ end_for cells held lid e)

@@ -16,7 +16,7 @@ pub(crate) fn number_up_to(word: &[u8], most: u32) -> Option<u32>
     }
 }
 
-/// Parses `word` as a decimal number of 64 bits. Returns `None` if `word` is no decimal number, or does not fit 64
+/// Parses `word` as a decimal number of 64 bits. Returns `None` if `word` is no decimal number, or does not fit in 64
 /// bits. Takes time linear in the length of `word`.
 pub(crate) fn serial(word: &[u8]) -> Option<u64>
     ensures { result ≡ number_up_to (2 ^ 64 - 1) word.now }

@@ -73,7 +73,7 @@ impl Topology {
         self.nodes.id(&NodeName::new(name.as_bytes())?)
     }
 
-    /// Returns whether a node is a switch with the GUID `guid`. Takes time linear in the number of nodes.
+    /// Returns whether some node is a switch with the GUID `guid`. Takes time linear in the number of nodes.
     pub fn has_switch(&self, guid: Guid) -> bool
         ensures { result ≡ has_switch self.now.nodes guid }
     {
@@ -122,7 +122,8 @@ pub fn parse(alloc: Global, text: &str) -> Result<Topology, TopoFault>
     }
 }
 
-/// Parses the lines of `text` into nodes and links. Returns the first fault of a line, and `Memory` if memory runs out.
+/// Parses the lines of `text` into nodes and links. Returns the first fault of a line, or `Memory` if memory runs
+/// out.
 fn read_lines(alloc: Global, text: &[u8]) -> Result<Draft, TopoFault>
     ensures { Reads result (nodes_of_lines (lines text.now)) }
 {
@@ -137,8 +138,8 @@ fn read_lines(alloc: Global, text: &[u8]) -> Result<Draft, TopoFault>
     Ok(draft)
 }
 
-/// Builds the topology of `draft`. Returns the first fault of a link, and `Memory` if memory runs out. The nodes must
-/// be nodes that a topology may have. Each port of a link must be at least 1, unless it is out of range (`None`).
+/// Builds the topology of `draft`. Returns the first fault of a link, or `Memory` if memory runs out. The nodes of
+/// `draft` must be nodes that a topology may have. Each port of a link must be `None` or at least 1.
 fn finish(alloc: Global, draft: Draft) -> Result<Topology, TopoFault>
     requires { IsDraft draft }
     ensures { Reads result (topology_in draft) }
