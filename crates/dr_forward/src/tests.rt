@@ -18,8 +18,8 @@ fn out(port: u8) -> Verdict {
     Verdict::Out(PortNum::new(port))
 }
 
-/// Builds a request for NodeInfo over a path of `hops` hops that begins with `path`. Its hop pointer is `pointer`. It is
-/// on its way back if `is_returning`, otherwise on its way out.
+/// Builds a request for NodeInfo over a path of `hops` hops that begins with `path`. The hop pointer is `pointer`.
+/// The request is on its way back if `is_returning`, and otherwise on its way out.
 fn packet(hops: u8, path: [u8; 2], pointer: u8, is_returning: bool) -> Result<Smp, SmpFault> {
     let (get, node_info) = (Method::GET, AttributeId::NODE_INFO);
     let request = Smp::directed(get, node_info, 0, 1, &Path::<63>::new(), &[0; 64]);
