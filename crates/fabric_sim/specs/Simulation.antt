@@ -78,7 +78,7 @@ port_of (Seat p) = p
 port_of (Arrived p) = p
 port_of (Made p) = p
 
--- the whereabouts are a seat
+-- whether the whereabouts are a seat
 abbrev pub is_at_seat : Whereabouts → Bool
 is_at_seat (Seat p) = true
 is_at_seat (Arrived p) = false
