@@ -4,13 +4,13 @@ use Rattle.std.specs.Io.KnownBytes.{Appends}
 use Rattle.schedule_lines.specs.declared.run_fault.RunFault.{RunFault}
 use Rattle.schedule_lines.specs.declared.run_fault.RunFault.TheVariants.{Write, Memory}
 
--- `text` was appended to what was written, and the output did not fail meanwhile
+-- `text` was appended to the output, and the output did not fail meanwhile
 pub record Prints {W : Type 0} (written : W → Option (List ℕ)) (has_failed : W
     → Bool) (old new : W) (text : List ℕ) : Type 0 where
   pub grown : Appends (written old) (written new) text
   pub works : has_failed old ≡ false → has_failed new ≡ false
 
--- the beginning or all of `text` was appended to the output, which did not fail meanwhile
+-- the beginning or all of `text` was appended to the output, and the output did not fail meanwhile
 pub record PrintsSome {W : Type 0} (written : W → Option (List ℕ)) (has_failed : W
     → Bool) (old new : W) (text : List ℕ) : Type 0 where
   pub front : List ℕ

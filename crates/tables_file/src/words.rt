@@ -1,4 +1,4 @@
-//! The numbers, ports and entries that words spell.
+//! The numbers, ports and entries that words give.
 ghost use Rattle.std.specs.Prelude.{◌≡◌, ◌≤◌, ◌==◌, IfSome, option_map, position};
 ghost use Rattle.text_words.specs.Quoted.{until};
 ghost use Rattle.tables_file.specs.Words.{small_of, bare_guid_of, port_of, entries_of};
@@ -7,8 +7,8 @@ use attr_codec::Lmc;
 use smp_bytes::{Guid, PortNum};
 use text_words::number;
 
-/// Parses a number in decimal. The inner value is `None` if the number is above `most`. Returns `None` if `word` is no
-/// decimal number.
+/// Parses a number in decimal. Returns `None` if `word` is not a decimal number. The inner value is `None` if the
+/// number is above `most`.
 pub(crate) fn small(word: &[u8], most: u16) -> Option<Option<u16>>
     ensures { result ≡ small_of most word.now }
 {
@@ -31,8 +31,8 @@ pub(crate) fn bare_guid(word: &[u8]) -> Option<Guid>
     Some(Guid::new(number(word, 16)?))
 }
 
-/// Parses a node's GUID and the number of one of its ports, as in `0000000000000100/1`. The port is `None` if its
-/// number is above 254. Returns `None` if `word` is not of this form.
+/// Parses a node's GUID and the number of one of its ports, as in `0000000000000100/1`. Returns `None` if `word` does
+/// not have this form. The port is `None` if its number is above 254.
 pub(crate) fn node_port(word: &[u8]) -> Option<(Guid, Option<PortNum>)>
     ensures { result ≡ port_of word.now }
 {
