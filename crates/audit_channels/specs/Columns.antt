@@ -1,5 +1,5 @@
--- The channels of edges, and the channels that packets for one LID take one after the other. A column has, for each
--- vertex, the edge by which these packets leave it.
+-- The channels of edges, and the channels that packets for the same LID take one after the other. A column has, for
+-- each vertex, the edge by which these packets leave it.
 use Rattle.std.specs.Prelude.{◌≡◌, ◌↔◌, ◌⊎◌, ◌<◌, ◌+◌, ◌*◌, ℕ, List, Option, None, Some, length, slice_index_or}
 use Rattle.port_graph.specs.declared.edge.Edge.{Edge}
 use Rattle.audit_channels.specs.declared.column.Turn.{Turn}
