@@ -166,13 +166,13 @@ pub(crate) fn new_seat(
 /// | Command | Numbers |
 /// |---|---|
 /// | `manager NAME "node"[port] PRIORITY` | priority 0 to 15 |
-/// | `manager NAME "node"[port] PRIORITY live KEY` | SM_Key of 64 bits |
+/// | `manager NAME "node"[port] PRIORITY live KEY` | 64-bit SM_Key |
 /// | `sweep NAME`, `write NAME`, `handover NAME`, `timeout NAME` | |
 /// | `poll NAME`, `poll NAME LID` | LID 0 to 65,535 |
 /// | `floor NAME GENERATION` | generation 1 to 4,294,967,295 |
 /// | `facts NAME`, `plan NAME`, `progress NAME`, `silent NAME`, `written NAME`, `state NAME` | |
 /// | `merge NAME NAME` | |
-/// | `deliver PACKET`, `lose PACKET`, `repeat PACKET` | `last`, or a serial number of 64 bits |
+/// | `deliver PACKET`, `lose PACKET`, `repeat PACKET` | `last`, or a 64-bit serial number |
 /// | `drain COUNT` | 0 to 1,000,000 |
 /// | `cut "node"[port]`, `plug "node"[port] "node"[port]` | port 0 to 255 |
 /// | `ping "node"[port] LID` | LID 0 to 65,535 |

@@ -105,8 +105,8 @@ after_send w seat = at_seat w seat (after_send_by w seat)
 -- calls --------------------------------------------------------------------------------------------
 
 -- a call on a world does what `outcome` says: it leaves the world of `outcome`, with as many managers as before, and
--- prints the text of `outcome`. If the call fails, it may leave any world with as many managers; the beginning or all
--- of the text was printed, or the output has failed
+-- prints the text of `outcome`. If the call fails, it may leave any world with as many managers; a prefix of the text
+-- was printed, or the output has failed
 pub record Does {W : Type 0} (written : W → Option (List ℕ)) (has_failed : W → Bool) (old new : World)
     (result : Result (Unit {0}) RunFault) (sink sink' : W) (outcome : Outcome WorldValue) : Type 0 where
   pub managers : length new.managers.items ≡ length old.managers.items

@@ -21,8 +21,8 @@ use topo_file::Topology;
 ///
 /// # Errors
 ///
-/// Returns `Memory` if memory runs out; the beginning or all of the text has then been printed. Returns `Write` if a
-/// write to the output failed.
+/// Returns `Memory` if memory runs out; a prefix of the text has then been printed. Returns `Write` if a write to the
+/// output failed.
 pub fn run_commands<W: Sink>(
     alloc: Global,
     topology: &Topology,

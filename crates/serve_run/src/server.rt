@@ -34,8 +34,8 @@ pub(crate) struct Server {
 /// # Errors
 ///
 /// Returns `Read` if no more lines can be read; all earlier lines have then been answered. Returns `Memory` if memory
-/// runs out; the beginning or all of the answers has then been written. Returns `Write` if a write fails; how much
-/// was written is then unspecified.
+/// runs out; a prefix of the answers has then been written. Returns `Write` if a write fails; how much was written is
+/// then unspecified.
 pub fn serve<S: Source, W: Sink>(
     alloc: Global,
     manager: Manager,

@@ -212,8 +212,8 @@ after_handover m = handed_to m (successor_lid m)
 abbrev pub is_handover : Pending → Bool
 is_handover p = p.modifier == modifier_of_control control.Handover
 
--- whether the end of the request `p` makes the manager `s` a standby: its conduct is live, `p` has the modifier of a
--- HANDOVER, and `answer`, the status of the answer or None, is 0
+-- whether the manager `s` moves as ACKNOWLEDGE would move it when the request `p` ends: its conduct is live, `p` has
+-- the modifier of a HANDOVER, and `answer`, the status of the answer or None, is 0
 abbrev pub is_relieved : Standing → Pending → Option ℕ → Bool
 is_relieved s p answer = is_live s.conduct && (is_handover p && is_done_by answer)
 

@@ -86,8 +86,8 @@ fn end_poll(standing: &mut Standing, was_answered: bool)
     }
 }
 
-/// Returns whether the end of the control `ended` makes the manager a standby: its conduct is live, the control is a
-/// HANDOVER, and `answer` is status 0. `None` stands for a timeout.
+/// Returns whether the manager moves as ACKNOWLEDGE would move it when the control `ended` ends: its conduct is live,
+/// the control is a HANDOVER, and `answer` is status 0. `None` stands for a timeout.
 fn is_relieved(standing: &Standing, ended: &Pending, answer: Option<Status>) -> bool
     ensures { result ≡ is_relieved standing.now ended.now (status_number answer) }
 {

@@ -43,10 +43,10 @@ pub(crate) fn end_sweep(standing: &mut Standing, seen: &[SeenManager])
 
 impl Manager {
     /// Queues a poll to the manager at `lid` or, if `lid` is `None`, to a manager that the last sweep saw. In the
-    /// second case, it polls the first master that this manager hears. If there is no such master, it polls the
-    /// greatest manager that outranks this one; ties go to the first. A poll without `lid` goes over the path by
-    /// which the sweep asked that manager for SMInfo. The poll counts as answered or lost once its answer or its
-    /// timeout comes.
+    /// second case, the poll goes to the first master that this manager hears or, if there is no such master, to the
+    /// greatest manager that outranks this one. Ties go to the first. A poll without `lid` goes over the path by
+    /// which the sweep reached the port of the polled manager. The poll counts as answered or lost once its answer or
+    /// its timeout comes.
     ///
     /// # Errors
     ///

@@ -211,8 +211,8 @@ impl SweepRequests {
         }
     }
 
-    /// Queues the questions about the new vertex `vertex`, which must be at most 256. There must be memory and
-    /// numbers below 2^32 for these questions.
+    /// Queues the questions about the new vertex `vertex`. There must be at most 256 of them, with memory and numbers
+    /// below 2^32 for all.
     fn ask_vertex(&mut self, vertex: &Vertex)
         requires room { length (vertex_questions vertex.now) ≤ self.old.room }
         requires number { self.old.next + length (vertex_questions vertex.now) ≤ 2 ^ 32 }
@@ -276,8 +276,8 @@ impl SweepRequests {
     }
 
     /// Removes the waiting request at `index`, and queues the questions that follow from `finding`. There must be
-    /// such a request. There must be at most 256 questions, memory and numbers below 2^32 for them, and none may need
-    /// a path of over 63 hops. Does not allocate.
+    /// such a request. There must be at most 256 questions, and none may need a path of over 63 hops. There must be
+    /// memory and numbers below 2^32 for all of them. Does not allocate.
     pub(crate) fn take(&mut self, index: usize, finding: &Finding)
         requires { CanTake self.old index finding.now }
         ensures { HasTaken index finding.now self.old self.new }

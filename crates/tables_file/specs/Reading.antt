@@ -71,8 +71,8 @@ lid_with number last (Some lid) node (Some port) (Some lmc) =
           lmc;
     })
 
--- a switch, if its GUID is greater than that of the previous switch, or if there is no previous switch (None);
--- otherwise the fault of the line
+-- a switch, if its GUID is greater than that of the previous switch, or if the previous switch is None, since there
+-- is none; otherwise the fault of the line
 abbrev pub switch_after : ℕ → Option ℕ → HeldSwitch → Result HeldItem TablesLineFault
 switch_after number None switch = Ok (Switch switch)
 switch_after number (Some last) switch =
