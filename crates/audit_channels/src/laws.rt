@@ -14,9 +14,9 @@ pub fn never_both()
     ensures law { NeverBoth }
 {}
 
-/// If the facts describe a part of a fabric, its end ports and switches hold the tables, and the numbers of channels
-/// rise by facts and tables, then a packet that an end port of the part sends for a LID other than 0 takes channels
-/// with rising numbers, wire after wire. The part is all that is joined to some end port.
+/// Let the facts describe a part of a fabric, let its end ports and switches hold the tables, and let numbers of
+/// channels rise by facts and tables. Then a packet that an end port of the part sends for a LID other than 0 takes
+/// channels with rising numbers, wire after wire. The part is all that is joined to some end port.
 pub fn channels_rise()
     ensures law { ChannelsRise }
 {}

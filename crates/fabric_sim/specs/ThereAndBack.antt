@@ -65,7 +65,7 @@ pub record ComesHome (s : Simulation) (serial : ℕ) (at : NodePort) (path reque
 
 -- a request for an attribute other than SMInfo is sent over a path of n ports. If the path has ports, the first is
 -- the port that the request was sent from. Then the agent at the end of the path answers delivery n + 1 of the
--- request, and delivery n + 1 of the answer hands the answer up at the port that the request was sent from. Any other
+-- request. Delivery n + 1 of the answer hands the answer up at the port that the request was sent from. Any other
 -- calls may come between, if no cable changes, neither packet is lost, and serial numbers are left
 abbrev pub ThereAndBack : Type 0
 ThereAndBack =

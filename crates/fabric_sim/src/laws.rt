@@ -22,9 +22,9 @@ pub fn pings_find()
 {}
 
 /// A directed request for an attribute other than SMInfo goes over a path of n ports, at most 63, that has an end and
-/// is empty or begins with the sender's port. If neither packet is lost, no cable changes and serial numbers are
-/// left, the agent at the end answers delivery n + 1 of the request, and delivery n + 1 of the answer hands the
-/// answer up at the sender's port. Any other calls may come between.
+/// is empty or begins with the sender's port. Neither the request nor its answer is lost, no cable changes, and
+/// serial numbers are left. Then the agent at the end answers delivery n + 1 of the request. Delivery n + 1 of the
+/// answer hands the answer up at the sender's port. Any other calls may come between.
 #[tactic(auto, using(crate::proofs::TripEnds::there_and_back))]
 pub fn there_and_back()
     ensures { ThereAndBack }

@@ -87,8 +87,8 @@ pub record Says (a : Agent) (arrival : ℕ) (answer : List ℕ) : Type 0 where
   pub switch : number_in attribute_id answer ≡ switch_info
       → SaysSwitch a (number_in linear_fdb_cap (bytes_in attribute_data answer))
 
--- if a request arrived at port 0 or a port of the node and its answer has status 0, what the answer says of the node,
--- of which ports are Down and of the size of the table is true. LIDs and table entries are not covered
+-- if a request arrived at port 0 or a port of the node and its answer has status 0, what the answer says is true.
+-- This covers the node, which ports are Down, and the size of the table, but not LIDs and table entries
 abbrev pub AnswersSay : Type 0
 AnswersSay =
     (a : Agent) (packet : List ℕ) (arrival : ℕ) → IsAgent a → IsPacket packet → arrival ≤ a.node.ports

@@ -62,8 +62,8 @@ PacketsEndAsTold = (facts : Facts) (held : HeldPlan) (f : Fabric) → IsSeen (ce
     → IsBrought (cells_of facts) held lid (record { node = node.guid; port = source.port }) end
     → EndsAs f lid source end
 
--- if the facts describe the part that is joined to the end port `origin` and this part holds the tables, a packet
--- that an end port of the part sends for a LID other than 0 ends as facts and tables say
+-- if the facts describe the part that is joined to the end port `origin` and this part holds the tables, packets in
+-- it end as facts and tables say. The packets are those that an end port of the part sends for a LID other than 0
 abbrev pub PacketsEndAsToldInParts : Type 0
 PacketsEndAsToldInParts = (facts : Facts) (held : HeldPlan) (f : Fabric) (origin : NodePort) → IsEndPort f origin
     → IsSeenIn (IsJoinedTo f origin) (cells_of facts) held f

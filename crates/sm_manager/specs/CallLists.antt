@@ -126,8 +126,8 @@ pub record KnowTheSame (one other : Manager) : Type 0 where
       → EveryPacketArrives one.planning.rule (cells_of one.store)
       (plan_of one.planning.rule one.planning.lmc (cells_of one.store))
 
--- two managers know the same (`KnowTheSame`) if they took in the same sightings, in any order and number, if the
--- greatest floors of their calls are equal, and if they plan by the same LMC and rule
+-- let two managers plan by the same LMC and rule, and let the greatest floors of their calls be equal. If they took
+-- in the same sightings, in any order and number, they know the same (`KnowTheSame`)
 abbrev pub SameTakenInSamePlan : Type 0
 SameTakenInSamePlan =
     (guid port priority guid' port' priority' : ℕ) (conduct conduct' : Conduct) (planning : Planning)

@@ -70,8 +70,8 @@ abbrev pub counting_in : List Phase → ℕ
 counting_in [] = 0
 counting_in (p ∷ phases) = (if p.counts then length p.steps else 0) + counting_in phases
 
--- if a writing begins after any calls on a new manager, and no other writing begins after it, its plan is written
--- exactly when the calls since completed as many steps that count as the writing has
+-- let a writing begin after any calls on a new manager, and let no other writing begin after it. Its plan is written
+-- exactly when the later calls completed as many steps that count as the writing has
 abbrev pub WrittenIsEachStepDone : Type 0
 WrittenIsEachStepDone =
     (port_guid port priority : ℕ) (conduct : Conduct) (planning : Planning) (before after : List Call)

@@ -58,8 +58,8 @@ IsRead plan = (first_fault (plan_text plan) ≡ None) × (held_of (plan_text pla
 abbrev pub PrintedPlansAreRead : Type 0
 PrintedPlansAreRead = (plan : PlanValue) → IsPlanInRange plan → IsRead plan
 
--- if facts are in range and every end port finds a LID, the text of their plan, by each rule and under each LMC up to
--- 7, has no fault, and says the tables of the plan
+-- if facts are in range and every end port finds a LID under an LMC up to 7, the text of their plan by any rule under
+-- this LMC has no fault, and says the tables of the plan
 abbrev pub PlansAreRead : Type 0
 PlansAreRead =
     (rule : RuleValue) (lmc : ℕ) (facts : Facts) → lmc ≤ 7 → AreInRange facts → ¬ (IsNoRoom lmc (cells_of facts))

@@ -8,14 +8,14 @@ pub fn printed_plans_are_read()
     ensures law { PrintedPlansAreRead }
 {}
 
-/// If the facts are in range and every end port finds a LID, the text of their plan, by each rule and under each LMC,
-/// has no fault and is read as the plan. This text is what `lft_blocks::write_plan` writes.
+/// If facts are in range and every end port finds a LID under an LMC, the text of their plan by any rule under this
+/// LMC has no fault, and is read as the plan. This text is what `lft_blocks::write_plan` writes.
 pub fn plans_are_read()
     ensures law { PlansAreRead }
 {}
 
-/// If the numbers of a plan are in their ranges, and each switch is given a top of its own, at most 49,151, the text
-/// of the plan's LIDs and tables under these tops has no fault, and is read as these tables.
+/// Let the numbers of a plan be in their ranges, and let each switch be given a top of its own, at most 49,151. Then
+/// the text of the plan's LIDs and tables under these tops has no fault, and is read as these tables.
 pub fn printed_tables_are_read()
     ensures law { PrintedTablesAreRead }
 {}
