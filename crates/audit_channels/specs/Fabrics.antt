@@ -38,7 +38,7 @@ pub record TakeInTurn (cells : Cells) (f : Fabric) (hops : List Hop) (channel ne
   pub channel_is : IsChannel cells f hop channel
   pub next_is : IsChannel cells f later next
 
--- a packet that an end port of `part` sends for some LID takes `hops` first, in this order
+-- a packet that an end port of `part` sends for some LID other than 0 first takes `hops`, in this order
 pub record Travels (part : Part) (f : Fabric) (hops : List Hop) : Type 0 where
   pub source : NodePort
   pub node : Node
@@ -48,9 +48,9 @@ pub record Travels (part : Part) (f : Fabric) (hops : List Hop) : Type 0 where
   pub end : Standing
   pub goes : Goes f lid (sent_from source) hops end
 
--- of two channels that a packet takes in turn, the second has the greater number, if three conditions hold: `numbers`
--- rise on ways by facts and tables; the facts describe all that is joined to the end port `origin`; and the end ports
--- and switches there hold the tables. The packet is sent by an end port there
+-- let the facts describe all that is joined to the end port `origin`, let the end ports and switches there hold the
+-- tables, and let `numbers` rise along the ways of packets by facts and tables (`RiseOnWays`). Then of two channels
+-- that a packet from an end port there takes in turn, the second has the greater number
 abbrev pub ChannelsRise : Type 0
 ChannelsRise =
     (facts : Facts) (held : HeldPlan) (f : Fabric) (origin : NodePort) (numbers : List ℕ) → IsEndPort f origin

@@ -3,20 +3,20 @@ use Rattle.std.specs.Prelude.{◌≡◌, ◌≢◌, ◌<◌, ℕ, ◌==◌, ◌&
 use Rattle.std.specs.List.{list_any}
 use Rattle.audit_channels.specs.ChannelOrders.{Follows}
 
--- `channel` has no number yet: its entry is 0
+-- whether `channel` has no number yet: its item in `numbers` is 0
 abbrev pub has_none : List ℕ → ℕ → Bool
 has_none numbers channel = slice_index_or numbers channel 1 == 0
 
--- one of the channels `following` has no number yet
+-- whether some channel of `following` has no number yet
 abbrev pub is_held_up : List ℕ → List ℕ → Bool
 is_held_up numbers following = list_any (has_none numbers) following
 
--- the next number of a channel with the number `old`: `number`, if `old` is 0 (none) and each of the channels
--- `following` has one; otherwise `old`
+-- the next number of a channel that has the number `old`: `number` if `old` is 0, which stands for none, and each of
+-- the channels `following` has a number; otherwise `old`
 abbrev pub next_number : List ℕ → List ℕ → ℕ → ℕ → ℕ
 next_number following numbers old number = if old == 0 && not (is_held_up numbers following) then number else old
 
--- `next` has the next number of each channel, if `number` is the one that is given now
+-- `next` has the next number of each channel (`next_number`), where `number` is the one that is given now
 pub record AreFurther (waits : List (List ℕ)) (numbers : List ℕ) (number : ℕ) (next : List ℕ) : Type 0 where
   pub as_many : length next ≡ length numbers
   pub each : (c : ℕ) → c < length numbers

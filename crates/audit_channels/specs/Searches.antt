@@ -4,18 +4,19 @@ use Rattle.std.specs.Prelude.{◌≡◌, ◌<◌, ◌≤◌, ◌+◌, ℕ, List,
 use Rattle.audit_channels.specs.declared.shortest.Visited.{Visited}
 use Rattle.audit_channels.specs.ChannelOrders.{Follows, GoesOn, IsCycle}
 
--- the entry of `reached` at `index`; a blank one past the end
+-- the item of `reached` at `index`; a blank item past the end
 abbrev pub at_index : List Visited → ℕ → Visited
 at_index reached index = slice_index_or reached index (record { channel = 0; from = 0; count = 0 })
 
--- `reached` has `channel`, by a path of at most `count` channels
+-- `reached` has `channel`, with a path of at most `count` channels
 pub record HasReached (reached : List Visited) (channel count : ℕ) : Type 0 where
   pub index : ℕ
   pub there : index < length reached
   pub is : (at_index reached index).channel ≡ channel
   pub within : (at_index reached index).count ≤ count
 
--- `next`, at `index`, was reached from an earlier channel that it follows, by a path with one channel more
+-- the channel `next`, at the index `index`, was reached from an earlier channel that it follows, and its path has one
+-- channel more
 pub record IsStep (waits : List (List ℕ)) (reached : List Visited) (next : Visited) (index : ℕ) : Type 0 where
   pub earlier : next.from < index
   pub follows : Follows waits (at_index reached next.from).channel next.channel
@@ -47,8 +48,8 @@ pub record Grows (old new : List Visited) : Type 0 where
 abbrev pub NoneBelow : List (List ℕ) → ℕ → ℕ → Type 0
 NoneBelow waits first count = (later : List ℕ) → GoesOn waits first later first → count ≤ length later + 1
 
--- the list is a cycle of at most `least` channels, and no cycle through `first` has fewer channels than this list; or
--- the list is empty, and no cycle through `first` has fewer than `least` channels
+-- the given list is a cycle of at most `least` channels, and no cycle through `first` has fewer channels than this
+-- list; or the list is empty, and no cycle through `first` has fewer than `least` channels
 abbrev pub IsLeast : List (List ℕ) → ℕ → ℕ → List ℕ → Type 0
 IsLeast waits first least [] = NoneBelow waits first least
 IsLeast waits first least (c ∷ later) =

@@ -1,6 +1,6 @@
--- Which channels packets wait for by the held tables: numbers that rise on ways, or a credit loop. InfiniBand
--- Architecture Specification, Volume 1: switches, unicast forwarding by the linear forwarding table; link layer, flow
--- control by credits.
+-- Which channels packets wait for by the held tables: numbers of channels that rise along the ways of packets, or a
+-- credit loop. InfiniBand Architecture Specification, Volume 1: switches, unicast forwarding by the linear forwarding
+-- table; link layer, flow control by credits.
 use Rattle.std.specs.Prelude.{◌≡◌, ◌↔◌, ◌<◌, ◌≤◌, ◌*◌, ℕ, List, [], ◌∷◌, Option, length, slice_index_or}
 use Rattle.port_graph.specs.declared.edge.Edge.{Edge}
 use Rattle.audit_channels.specs.ChannelOrders.{Follows}
@@ -23,12 +23,13 @@ pub record AreWaits (cells : Cells) (held : HeldPlan) (waits : List (List ℕ)) 
   pub as_many : length waits ≡ 256 * length (switches cells)
   pub follows : (a b : ℕ) → Follows waits a b ↔ WaitsFor cells held a b
 
--- in `waits`, channels that packets take one after the other by `column` follow each other
+-- if packets take two channels one after the other along the edges of `column`, the second follows the first in
+-- `waits`
 abbrev pub IsAdded : List (Option Edge) → List (List ℕ) → Type 0
 IsAdded column waits = (switch channel next : ℕ) → TakesInTurn column switch channel next → Follows waits channel next
 
--- numbers rise on ways: each channel has one, less than the numbers of the channels that packets take next by the held
--- tables
+-- numbers rise along the ways of packets: each channel has a number, which is less than the numbers of the channels
+-- that packets take next by the held tables
 pub record RiseOnWays (cells : Cells) (held : HeldPlan) (numbers : List ℕ) : Type 0 where
   pub as_many : length numbers ≡ 256 * length (switches cells)
   pub rises : (a b : ℕ) → WaitsFor cells held a b → slice_index_or numbers a 0 < slice_index_or numbers b 0
@@ -39,12 +40,14 @@ abbrev pub WaitOn : Cells → HeldPlan → ℕ → List ℕ → ℕ → Type 0
 WaitOn cells held channel [] last = WaitsFor cells held channel last
 WaitOn cells held channel (next ∷ later) last = WaitsFor cells held channel next × WaitOn cells held next later last
 
--- the channels of a list, at least one, wait in a credit loop: each waits for the next one, and the last for the first
+-- a list is not empty, and its channels wait in a credit loop: each waits for the next one, and the last for the
+-- first
 abbrev pub WaitInCycle : Cells → HeldPlan → List ℕ → Type 0
 WaitInCycle cells held [] = ⊥
 WaitInCycle cells held (channel ∷ later) = WaitOn cells held channel later channel
 
--- a channel order holds for the held tables: its numbers rise on ways, or its channels wait in a credit loop
+-- a channel order is right for the held tables: its numbers rise along the ways of packets, or its channels wait in a
+-- credit loop
 abbrev pub IsOrderOf : Cells → HeldPlan → ChannelOrder → Type 0
 IsOrderOf cells held (Rises numbers) = RiseOnWays cells held numbers.items
 IsOrderOf cells held (Cycle channels) = WaitInCycle cells held channels.items
@@ -53,12 +56,12 @@ IsOrderOf cells held (Cycle channels) = WaitInCycle cells held channels.items
 abbrev pub NoneShorter : Cells → HeldPlan → List ℕ → Type 0
 NoneShorter cells held channels = (cycle : List ℕ) → WaitInCycle cells held cycle → length channels ≤ length cycle
 
--- a channel order has numbers; or it has channels, and no credit loop of the held tables has fewer
+-- a channel order has numbers; or it has channels, and no credit loop of the held tables has fewer channels
 abbrev pub IsShortestOf : Cells → HeldPlan → ChannelOrder → Type 0
 IsShortestOf cells held (Rises numbers) = Unit {0}
 IsShortestOf cells held (Cycle channels) = NoneShorter cells held channels.items
 
--- if numbers of channels rise on ways, no channels wait in a credit loop
+-- if numbers of channels rise along the ways of packets, no channels wait in a credit loop
 abbrev pub NeverBoth : Type 0
 NeverBoth = (cells : Cells) (held : HeldPlan) (numbers cycle : List ℕ) → RiseOnWays cells held numbers
     → ¬ (WaitInCycle cells held cycle)

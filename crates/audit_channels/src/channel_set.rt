@@ -1,8 +1,8 @@
-//! A set of channels out of one row of 64, as the bits of a word.
+//! A set of channels of the same row of 64, as the bits of a word.
 ghost use Rattle.std.specs.Prelude.{◌≡◌, ◌↔◌, ◌⊎◌, ◌/◌, ℕ, IsTrue};
 ghost use Rattle.audit_channels.specs.ChannelSet.{Knows};
 
-/// A set of channels, all in one row of 64. Bit i of `bits` is 1 if channel 64 * `row` + i is in the set.
+/// A set of channels, all in the same row of 64. Bit i of `bits` is 1 if channel 64 * `row` + i is in the set.
 #[derive(Clone, Copy)]
 pub(crate) struct ChannelSet {
     row: usize,
@@ -10,7 +10,7 @@ pub(crate) struct ChannelSet {
 }
 
 impl ChannelSet {
-    /// Returns the empty set.
+    /// Returns the empty set of channels.
     pub(crate) fn none() -> Self
         ensures { (channel : ℕ) → ¬ (Knows result channel) }
     {

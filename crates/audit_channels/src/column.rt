@@ -1,4 +1,4 @@
-//! The channels that packets for one LID take one after the other.
+//! The channels that packets for the same LID take one after the other.
 ghost use Rattle.std.specs.Prelude.{◌≡◌, ◌<◌, ◌+◌, ◌*◌, ◌^◌, ◌↔◌, IsTrue, MatchOption, None, OnOk, length};
 ghost use Rattle.std.specs.Prelude.{slice_index_or};
 ghost use Rattle.audit_channels.specs.Columns.{IsTurn, IsWithAcross, IsWithColumn, TakesNone, number_of};
@@ -7,10 +7,10 @@ use crate::waits::Waits;
 use port_graph::Edge;
 use std::alloc::AllocError;
 
-/// Records in `waits`, for each vertex, that the channel of its edge in `column` is followed by the channel of the next
-/// vertex's edge. `column` has, for each vertex, the edge along which packets for one LID leave it, if there is one.
-/// The channel of an edge has the number 256 times its vertex, plus its port. `waits` must have 256 channels for each
-/// vertex, fewer than 2^64 in all.
+/// Records in `waits`, for each vertex, that the channel of its edge in `column` is followed by the channel of the
+/// next vertex's edge. `column` has, for each vertex, the edge along which packets for the same LID leave it, if
+/// there is such an edge. The channel of an edge has the number 256 times its vertex, plus its port. `waits` must
+/// have 256 channels for each vertex, fewer than 2^64 in all.
 pub fn add_column(waits: &mut Waits, column: &[Option<Edge>]) -> Result<(), AllocError>
     requires channels { length waits.old ≡ 256 * length column.now }
     requires room { 256 * length column.now < 2 ^ 64 }
@@ -19,9 +19,9 @@ pub fn add_column(waits: &mut Waits, column: &[Option<Edge>]) -> Result<(), Allo
     add_across(waits, column, column)
 }
 
-/// Records in `waits`, for each vertex, that the channel of its edge in `before` is followed by the channel of the next
-/// vertex's edge in `now`. Records nothing for a vertex if one of these edges is missing. `waits` must have 256
-/// channels for each vertex of either column, fewer than 2^64 in all.
+/// Records in `waits`, for each vertex, that the channel of its edge in `before` is followed by the channel of the
+/// next vertex's edge in `now`. Records nothing for a vertex if one of these edges is missing. `waits` must have 256
+/// channels for each vertex of each column, fewer than 2^64 in all.
 #[tactic(auto, using(crate::proofs::Columns::none_so_far))]
 pub fn add_across(
     waits: &mut Waits,
@@ -80,7 +80,7 @@ fn turn_at(before: &[Option<Edge>], now: &[Option<Edge>], vertex: usize) -> Opti
     Some(Turn { channel, next })
 }
 
-/// Returns the edge of `vertex` in `column`, or `None` if there is none. Takes constant time.
+/// Returns the edge of `vertex` in `column`, or `None` if there is no such edge. Takes constant time.
 pub fn edge_of(column: &[Option<Edge>], vertex: usize) -> Option<Edge>
     ensures { result ≡ slice_index_or column.now vertex None }
 {

@@ -7,8 +7,8 @@ ghost use Rattle.audit_channels.specs.ChannelOrders.{AreWith};
 use crate::channel_set::ChannelSet;
 use std::alloc::{AllocError, Global};
 
-/// A list of channels without duplicates, in the order in which they were added. `known` has some of these channels,
-/// and finds them in constant time.
+/// A list of channels without duplicates, in the order in which they were added. `known` is a set of some of these
+/// channels, which finds them in constant time.
 #[derive(Drop)]
 pub(crate) struct Following {
     channels: Vec<usize>,
@@ -35,7 +35,7 @@ impl Following {
     }
 
     /// Adds `channel` unless the list has it already. Takes constant time if `channel` is known, and otherwise time
-    /// linear in the number of channels. If memory is refused, the list stays as it is.
+    /// linear in the number of channels. If memory runs out, the list stays as it is.
     pub(crate) fn add(&mut self, channel: usize) -> Result<(), AllocError>
         ensures added { OnOk result (AreWith self.old.channels.items channel self.new.channels.items) }
         ensures kept { OnErr result (self.new.channels.items ≡ self.old.channels.items) }

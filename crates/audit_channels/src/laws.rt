@@ -3,20 +3,20 @@ ghost use Rattle.audit_channels.specs.Fabrics.{ChannelsRise};
 ghost use Rattle.audit_channels.specs.ChannelOrders.{NoCycleWhereNumbersRise};
 ghost use Rattle.audit_channels.specs.Waiting.{NeverBoth};
 
-/// There is no cycle of channels if channels have numbers that rise.
+/// If channels have numbers that rise from each channel to those that follow it, there is no cycle of channels.
 pub fn no_cycle_where_numbers_rise()
     ensures law { NoCycleWhereNumbersRise }
 {}
 
-/// No channels wait for each other in a cycle, by facts and held tables, if the channels have numbers that rise along
-/// the routes of packets for all LIDs.
+/// If the channels have numbers that rise along the routes of packets for all LIDs, by facts and held tables, no
+/// channels wait for each other in a cycle.
 pub fn never_both()
     ensures law { NeverBoth }
 {}
 
-/// A packet that an end port of a part sends, for any LID, takes channels with rising numbers, wire after wire, if
-/// three conditions hold: numbers of channels rise by facts and tables; the facts describe the part; and its end ports
-/// and switches hold the tables. The part is all that is joined to some end port.
+/// Let the facts describe a part of a fabric, let its end ports and switches hold the tables, and let numbers of
+/// channels rise by facts and tables. Then a packet that an end port of the part sends for a LID other than 0 takes
+/// channels with rising numbers, wire after wire. The part is all that is joined to some end port.
 pub fn channels_rise()
     ensures law { ChannelsRise }
 {}

@@ -6,16 +6,16 @@ use crate::{ChannelOrder, channel_waits, order_channels};
 use packet_walks::Network;
 use std::alloc::{AllocError, Global};
 
-/// Returns numbers of channels that rise along the route of every packet, whether or not an end port holds its LID. If
-/// there are no such numbers, returns a shortest credit loop.
+/// Returns numbers of channels that rise along the route of every packet, whether or not an end port holds its LID.
+/// If there are no such numbers, returns a shortest credit loop.
 ///
-/// A channel is a wire between usable switches, taken in one direction. Its number is 256 times the index of the switch
-/// that it leaves, plus the port there.
+/// A channel is a wire between usable switches, taken in one direction. Its number is 256 times the index of the
+/// switch that it leaves, plus the port by which it leaves.
 ///
-/// Takes the time of `order_channels`, and that of `LidCursor::go_to` for every 64 LIDs up to the greatest top of a
-/// usable switch. Each of these LIDs also takes time linear in the number of switches. If some switch forwards packets
-/// for the LID otherwise than for the LID before, each switch's channel also takes time linear in the number of
-/// channels that follow it.
+/// Takes the time of `order_channels`, and the time of `LidCursor::go_to` for every 64 LIDs up to the greatest top of
+/// a usable switch. For each of these LIDs, also takes time linear in the number of switches. If some switch forwards
+/// packets for the LID otherwise than for the previous LID, also takes, for the channel of each switch, time linear
+/// in the number of channels that follow it.
 #[tactic(auto, using(crate::proofs::Orders::order_is, crate::proofs::Orders::shortest_is))]
 pub fn channel_order(alloc: Global, network: &Network) -> Result<ChannelOrder, AllocError>
     ensures order { IfOk result (λ found. IsOrderOf (cells_of network.now.facts) network.now.held found) }

@@ -28,9 +28,9 @@ pub fn channel_waits(alloc: Global, network: &Network) -> Result<Waits, AllocErr
     Ok(waits)
 }
 
-/// Records in `waits` the channels that packets take one after the other by `column`. Does nothing if `column` equals
-/// `before`. The channels by `before` must be recorded already. `waits` must have 256 channels for each vertex of
-/// `column`, fewer than 2^64 in all.
+/// Records in `waits` the channels that packets take one after the other along the edges of `column`. Does nothing if
+/// `column` equals `before`, whose channels must be recorded already. `waits` must have 256 channels for each vertex
+/// of `column`, fewer than 2^64 in all.
 fn add_after(
     waits: &mut Waits,
     before: &[Option<Edge>],

@@ -6,10 +6,11 @@ ghost use Rattle.audit_channels.specs.Numbers.{is_held_up, has_none, AreGiven, A
 use crate::waits::Waits;
 use std::alloc::{AllocError, Global};
 
-/// Returns a number above 0 for each channel that leads to no cycle, and 0 for each other channel. A number above 0 is
-/// less than the numbers of the channels that follow. A round takes time linear in the number of channels, plus that of
-/// the channels that follow each. There are as many rounds as the longest chain of numbered channels has channels, and
-/// one more if some channel gets no number.
+/// Returns a number above 0 for each channel that leads to no cycle, and 0 for each other channel. The number of a
+/// channel, if it is above 0, is less than the numbers of the channels that follow the channel. Works in rounds. A
+/// round takes time linear in the number of channels, plus the numbers of channels that follow each of them. There
+/// are as many rounds as the longest chain of numbered channels has channels, and one more if some channel gets no
+/// number.
 pub(crate) fn numbers(alloc: Global, waits: &Waits) -> Result<Vec<usize>, AllocError>
     ensures { IfOk result (λ numbers. AreGiven waits.now numbers.items) }
 {
@@ -27,8 +28,8 @@ pub(crate) fn numbers(alloc: Global, waits: &Waits) -> Result<Vec<usize>, AllocE
     Ok(numbers)
 }
 
-/// Returns `numbers` with `number` given to each channel that has none, if each channel that follows it has a number in
-/// `numbers`.
+/// Returns `numbers`, with `number` given to each channel that has no number and for which each channel that follows
+/// has a number in `numbers`.
 fn further(
     alloc: Global,
     waits: &Waits,
@@ -45,8 +46,8 @@ fn further(
     Ok(next)
 }
 
-/// Returns the new number of a channel that has `old` and is followed by `following`. It is `number` if `old` is 0 and
-/// each channel of `following` has a number in `numbers`, otherwise `old`.
+/// Returns the new number of a channel that has `old` and is followed by `following`. It is `number` if `old` is 0
+/// and each channel of `following` has a number in `numbers`, and otherwise `old`.
 fn next_number(following: &[usize], numbers: &[usize], old: usize, number: usize) -> usize
     ensures { result ≡ next_number following.now numbers.now old number }
 {
@@ -57,7 +58,7 @@ fn next_number(following: &[usize], numbers: &[usize], old: usize, number: usize
     }
 }
 
-/// Returns whether a channel of `following` has no number in `numbers` yet.
+/// Returns whether some channel of `following` has no number in `numbers` yet.
 fn is_held_up(following: &[usize], numbers: &[usize]) -> bool
     ensures { result ≡ is_held_up numbers.now following.now }
 {

@@ -7,7 +7,7 @@ use crate::shortest::shortest_cycle;
 use crate::waits::Waits;
 use std::alloc::{AllocError, Global};
 
-/// Numbers of channels that rise, or a shortest cycle of channels.
+/// Numbers of channels that rise from each channel to those that follow it, or a shortest cycle of channels.
 #[derive(Debug, Drop)]
 pub enum ChannelOrder {
     /// The number of each channel, less than the numbers of the channels that follow it.
@@ -17,7 +17,8 @@ pub enum ChannelOrder {
     Cycle(Vec<usize>),
 }
 
-/// Returns numbers of the channels that rise, or a shortest cycle of channels if there are no such numbers.
+/// Returns numbers of the channels that rise from each channel to those that follow it, or a shortest cycle of
+/// channels if there are no such numbers.
 pub fn order_channels(alloc: Global, waits: &Waits) -> Result<ChannelOrder, AllocError>
     ensures order { IfOk result (λ found. IsOrder waits.now found) }
     ensures shortest { IfOk result (λ found. IsShortest waits.now found) }

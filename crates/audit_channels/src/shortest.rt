@@ -11,8 +11,8 @@ use crate::numbers::has_none;
 use crate::waits::Waits;
 use std::alloc::{AllocError, Global};
 
-/// Returns a cycle with the fewest channels, which is `known` if no cycle is shorter. `known` must be a cycle, and
-/// `numbers` must be as `cycle_from` asks.
+/// Returns a cycle with the fewest channels. This is `known` if no cycle has fewer channels. `known` must be a cycle,
+/// and `numbers` must be as `cycle_from` asks.
 pub(crate) fn shortest_cycle(
     alloc: Global,
     waits: &Waits,
@@ -78,8 +78,8 @@ pub(crate) struct Visited {
 
 /// Returns a shortest cycle through `first` if such a cycle has fewer than `least` channels, and otherwise an empty
 /// list. Marks each channel that the search reaches, except `first`, with `first` + 1. `first` must have no number.
-/// There must be a mark for each channel, none greater than `first`. `numbers` must be as `cycle_from` asks. Takes time
-/// linear in the number of channels reached, plus that of the channels that follow each.
+/// There must be a mark for each channel, none greater than `first`. `numbers` must be as `cycle_from` asks. Takes
+/// time linear in the number of channels that are reached, plus the numbers of channels that follow them.
 fn cycle_of(
     alloc: Global,
     waits: &Waits,
@@ -136,9 +136,9 @@ fn in_turn(reached: &[Visited], index: usize, least: usize) -> Option<Visited>
     if here.count < least { Some(here) } else { None }
 }
 
-/// Adds to `reached` each channel that follows `here`, if its path over `here` has fewer than `least` channels. Leaves
-/// out channels that have a number or the mark of this search, `first` + 1. `here` must be the item of `reached` at
-/// `index`, and its path must have fewer than `least` channels.
+/// Adds to `reached` each channel that follows `here`, if the path to it over `here` has fewer than `least` channels.
+/// Leaves out channels that have a number, or that have the mark of this search, `first` + 1. `here` must be the item
+/// of `reached` at `index`, and its path must have fewer than `least` channels.
 fn reach_on(
     waits: &Waits,
     numbers: &[usize],
@@ -175,8 +175,8 @@ fn reach_on(
     Ok(())
 }
 
-/// Adds `next` to `reached` and marks its channel with `first` + 1. Does nothing if the channel has a number or this
-/// mark already.
+/// Adds `next` to `reached` and marks its channel with `first` + 1. Does nothing if the channel has a number, or has
+/// this mark already.
 fn reach(
     waits: &Waits,
     numbers: &[usize],
@@ -201,8 +201,8 @@ fn reach(
     Ok(())
 }
 
-/// Returns the path from `first` to the channel of `reached` at `index`. `first` must follow that channel, so the path
-/// is a cycle.
+/// Returns the path from `first` to the channel of `reached` at `index`. There must be one, and `first` must follow
+/// it, so that the path is a cycle. `reached` must be the channels that a search from `first` has reached.
 fn way_back(
     alloc: Global,
     waits: &Waits,

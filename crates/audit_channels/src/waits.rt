@@ -24,7 +24,7 @@ impl Model for Waits {
 }
 
 impl Waits {
-    /// Returns `count` channels that no channel follows.
+    /// Creates the waits of `count` channels, none of which is followed by a channel.
     pub fn new(alloc: Global, count: usize) -> Result<Self, AllocError>
         ensures { IfOk result (λ waits. waits ≡ replicate count []) }
     {
@@ -43,7 +43,7 @@ impl Waits {
         self.channels.len()
     }
 
-    /// Returns the channels that follow `channel`, or none if there is no such channel. Takes constant time.
+    /// Returns the channels that follow `channel`, or an empty list if there is no such channel. Takes constant time.
     pub fn at(&self, channel: usize) -> &[usize]
         ensures { result.now ≡ slice_index_or self.now channel [] }
     {

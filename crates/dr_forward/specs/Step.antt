@@ -28,11 +28,11 @@ pointed pointer packet = with_number hop_pointer pointer packet
 abbrev pub noted : ℕ → Here → List ℕ → List ℕ
 noted at here packet = with_number (return_path at) here.arrival packet
 
--- `port` is from 1 to the node's port count
+-- whether `port` is from 1 to the node's port count
 abbrev pub is_port : Here → ℕ → Bool
 is_port here port = is_within port here.ports
 
--- the packet leaves by `port` as `after`; if the node does not have this port, `packet` is discarded
+-- the packet leaves by `port`, and is then `after`; if the node does not have this port, `packet` is discarded
 abbrev pub leaves_by : Here → ℕ → List ℕ → List ℕ → Stepped
 leaves_by here port packet after =
     if is_port here port then record { packet = after; verdict = Out port } else discarded packet OutPort
@@ -44,8 +44,8 @@ moved_on here packet =
     let at = number_in hop_pointer packet in
     if at == 0 then pointed 1 packet else noted at here (pointed (at + 1) packet)
 
--- a step before the end of the path: the packet leaves if it was sent here or if the node is a switch, and is discarded
--- otherwise
+-- a step before the end of the path: the packet leaves if it was sent from this node or if the node is a switch, and
+-- the node has the next port of the path; otherwise it is discarded
 abbrev pub goes_on : Here → List ℕ → Stepped
 goes_on here packet =
     let at = number_in hop_pointer packet in
@@ -53,8 +53,8 @@ goes_on here packet =
     (moved_on here packet)
     else discarded packet Transit
 
--- a step on the way out: the packet goes on before the end of its path, is for the agent at the end, and is discarded
--- past the end
+-- a step on the way out. Before the end of its path, the packet goes on; at the end, it is for the agent; past the
+-- end, it is discarded
 abbrev pub outgoing : Here → List ℕ → Stepped
 outgoing here packet =
     let at = number_in hop_pointer packet in
@@ -69,8 +69,9 @@ goes_back here packet =
     let before = number_in hop_pointer packet - 1 in
     leaves_by here (number_in (return_path before) packet) packet (pointed before packet)
 
--- a step on the way back: with the hop pointer 0 the packet is discarded, and with 1 it is for the manager. With a
--- greater one it goes back at the end of its path and at each switch, and is discarded otherwise
+-- a step on the way back. If the hop pointer is 0, the packet is discarded, and if it is 1, the packet is for the
+-- manager. If it is greater, the packet goes back if it is at the end of its path or at a switch, and is discarded
+-- otherwise
 abbrev pub returning : Here → List ℕ → Stepped
 returning here packet =
     let at = number_in hop_pointer packet in
@@ -80,6 +81,6 @@ returning here packet =
     else if nat_lt hops at || here.is_switch then goes_back here packet
     else discarded packet Transit
 
--- one step of a packet: on its way back if its D bit is set, otherwise on its way out
+-- one step of a packet, which is on its way back if its D bit is set, and otherwise on its way out
 abbrev pub step : Here → List ℕ → Stepped
 step here packet = if is_returning packet then returning here packet else outgoing here packet

@@ -12,13 +12,13 @@ abbrev pub DiscardedIsUnchanged : Type 0
 DiscardedIsUnchanged = (here : Here) (packet : List ℕ) (reason : DiscardReason) → (step here packet).verdict
     ≡ Discard reason → (step here packet).packet ≡ packet
 
--- a packet that leaves does so by a port from 1 to the node's port count
+-- a packet that leaves the node leaves by a port from 1 to the node's port count
 abbrev pub LeavesByAPort : Type 0
 LeavesByAPort = (here : Here) (packet : List ℕ) (port : ℕ) → (step here packet).verdict ≡ Out port → (1 ≤ port)
     × (port ≤ here.ports)
 
--- a step of a packet of 256 bytes changes no field that ends before the return path and is apart from the hop pointer.
--- The hop pointer is below 64
+-- if a packet has 256 bytes and its hop pointer is below 64, a step changes no field that ends before the return path
+-- and does not overlap the hop pointer
 abbrev pub OtherFieldsStay : Type 0
 OtherFieldsStay =
     (here : Here) (packet : List ℕ) (field : Field) → length packet ≡ 256 → number_in hop_pointer packet < 64

@@ -7,10 +7,10 @@ use crate::here::Here;
 use crate::verdict::{DiscardReason, Verdict};
 use smp_bytes::{PortNum, Smp};
 
-/// Performs one step of a packet on a directed route at a node (subnet management, directed route). `smp` must be on a
-/// directed route. On its way out the packet leaves through the next port of its path, and the port where it came in is
-/// recorded. At the end of the path the node's agent takes the packet. On its way back the packet leaves through the
-/// recorded port, until it is where it was sent. A packet that is discarded stays unchanged.
+/// Performs one step of a packet on a directed route at a node (subnet management, directed route). `smp` must be on
+/// a directed route. On its way out the packet leaves through the next port of its path, and the port where it came
+/// in is recorded. At the end of the path the node's agent takes the packet. On its way back the packet leaves
+/// through the recorded port, until it is back where it was sent. A packet that is discarded stays unchanged.
 #[tactic(auto, unfolding(crate::specs::Step::step))]
 pub fn step(smp: &mut Smp, here: &Here) -> Verdict
     requires { is_directed smp.old ≡ true }
@@ -42,9 +42,9 @@ fn outgoing(smp: &mut Smp, here: &Here) -> Verdict
     }
 }
 
-/// Sends the packet on through the next port of its path, if the packet was sent here or the node is a switch. Discards
-/// the packet if neither holds, or if the node does not have that port. `at` must be the packet's hop pointer, below
-/// its hop count and below 63.
+/// Sends the packet on through the next port of its path if the packet was sent from this node, or if the node is a
+/// switch. Otherwise discards the packet. Also discards it if the node does not have that port. `at` must be the
+/// packet's hop pointer, and must be below its hop count and below 63.
 fn go_on(smp: &mut Smp, here: &Here, at: u8) -> Verdict
     requires at { at ≡ number_in hop_pointer smp.old }
     requires before_end { at < number_in hop_count smp.old }
@@ -63,8 +63,8 @@ fn go_on(smp: &mut Smp, here: &Here, at: u8) -> Verdict
     Verdict::Out(port)
 }
 
-/// Advances the hop pointer, and records the port where the packet came in, if it came in through one. `at` must be the
-/// hop pointer, at most the hop count and below 64.
+/// Advances the hop pointer. If the packet came in through a port (the hop pointer was not 0), records this port.
+/// `at` must be the hop pointer, and must be at most the hop count and below 64.
 fn move_on(smp: &mut Smp, here: &Here, at: u8)
     requires at { at ≡ number_in hop_pointer smp.old }
     requires on_path { at ≤ number_in hop_count smp.old }
@@ -98,7 +98,7 @@ fn returning(smp: &mut Smp, here: &Here) -> Verdict
 }
 
 /// Sends the packet back through the recorded port, or discards it if the node does not have that port. `before` must
-/// be one less than the hop pointer, at most the hop count and below 64.
+/// be one less than the hop pointer, and must be at most the hop count and below 64.
 fn go_back(smp: &mut Smp, here: &Here, before: u8) -> Verdict
     requires before { number_in hop_pointer smp.old ≡ before + 1 }
     requires on_path { before ≤ number_in hop_count smp.old }

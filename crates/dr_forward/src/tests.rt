@@ -3,7 +3,8 @@ use super::*;
 use smp_bytes::{AttributeId, Method, Path, PortNum, Smp, SmpClass, SmpFault, Status};
 use std::test::Fail;
 
-/// Returns a switch of four ports, or an adapter of one, to which a packet came by port 3 or 1.
+/// Returns a switch with four ports if `is_switch`, and otherwise an adapter with one. The packet came in through
+/// port 3 of the switch, or through port 1 of the adapter.
 fn node(is_switch: bool) -> Here {
     let (ports, arrival) = if is_switch { (4, 3) } else { (1, 1) };
     Here {
@@ -17,8 +18,8 @@ fn out(port: u8) -> Verdict {
     Verdict::Out(PortNum::new(port))
 }
 
-/// Builds a request for NodeInfo over a path of `hops` hops that begins with `path`. Its hop pointer is `pointer`. It is
-/// on its way back if `is_returning`, otherwise on its way out.
+/// Builds a request for NodeInfo over a path of `hops` hops that begins with `path`. The hop pointer is `pointer`.
+/// The request is on its way back if `is_returning`, and otherwise on its way out.
 fn packet(hops: u8, path: [u8; 2], pointer: u8, is_returning: bool) -> Result<Smp, SmpFault> {
     let (get, node_info) = (Method::GET, AttributeId::NODE_INFO);
     let request = Smp::directed(get, node_info, 0, 1, &Path::<63>::new(), &[0; 64]);
@@ -31,7 +32,8 @@ fn packet(hops: u8, path: [u8; 2], pointer: u8, is_returning: bool) -> Result<Sm
     Smp::parse(&bytes)
 }
 
-/// Performs one step. Returns where the packet goes, its hop pointer, and the port recorded at its first hop.
+/// Performs one step at a switch if `is_switch`, and otherwise at an adapter. Returns where the packet goes, its hop
+/// pointer, and the port recorded at its first hop, or `None` if `smp` is not on a directed route.
 fn stepped(smp: &mut Smp, is_switch: bool) -> Option<(Verdict, u8, u8)> {
     if smp.class() != SmpClass::DirectedRoute {
         return None;

@@ -9,7 +9,7 @@ pub enum Verdict {
     ToAgent,
     /// Up to the subnet manager: the packet is back where its request was sent.
     ToManager,
-    /// Nowhere: the packet is discarded for this reason, and is unchanged.
+    /// Nowhere. The packet is discarded for this reason, and is unchanged.
     Discard(DiscardReason),
 }
 
@@ -18,7 +18,7 @@ pub enum Verdict {
 pub enum DiscardReason {
     /// The packet's hop pointer is above its hop count on the way out, or 0 on the way back.
     Course,
-    /// The packet's path leads on through the node, and the node is not a switch.
+    /// The packet's path leads on through the node, but the node is not a switch.
     Transit,
     /// The packet's outgoing port is 0 or above the node's port count.
     OutPort,

@@ -1,4 +1,4 @@
--- The fabric of a topology: its nodes with agents to which nothing was written, and a cable for each of its links.
+-- The fabric of a topology: the nodes have agents to which nothing was written, and there is a cable for each link.
 use Rattle.std.specs.Prelude.{ℕ, ◌+◌, ◌-◌, ◌++◌, List, [], ◌∷◌, map, length, replicate, Option, None}
 use Rattle.fabric_model.specs.declared.cable.NodePort.{NodePort}
 use Rattle.fabric_model.specs.declared.cable.Cable.{Cable}
@@ -10,7 +10,7 @@ use Rattle.fabric_sim.specs.Traps.{no_traps}
 use Rattle.fabric_sim.specs.Simulation.{Simulation}
 use Rattle.fabric_sim.specs.Changes.{cabled_at}
 
--- the agent's node for a node of a topology; its description is the node's name, with zeros after it up to 64 bytes
+-- a node of a topology, as an agent knows it; its description is the node's name, with zeros after it up to 64 bytes
 abbrev pub agent_node : Node → AgentNode
 agent_node node = record {
   guid = node.guid;
@@ -25,12 +25,12 @@ agent_node node = record {
 abbrev pub new_agent : Node → Agent
 new_agent node = fresh_agent (agent_node node)
 
--- the other ends of the cables in the ports of `node`, from port 0 on, if there is no cable: None for each port
+-- the other ends of the cables in the ports of `node`, from port 0 on, before there is any cable: None for each port
 abbrev pub no_peers : Node → List (Option NodePort)
 no_peers node = replicate (node.ports + 1) None
 
--- the fabric of `nodes` of a topology, with no cable and nothing in flight, in which switches send no traps; `first` is
--- the first serial number
+-- the fabric of the nodes `nodes` of a topology, with no cable and no packet in flight, in which switches send no
+-- traps; `first` is the first serial number
 abbrev pub uncabled : List Node → ℕ → Simulation
 uncabled nodes first = record { agents = map new_agent nodes; peers = map no_peers nodes; flights = []; next = first; traps = no_traps }
 

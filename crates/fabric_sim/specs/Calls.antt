@@ -27,7 +27,7 @@ abbrev pub after_calls : List Call → Simulation → Simulation
 after_calls [] s = s
 after_calls (call ∷ calls) s = after_calls calls (after_call s call)
 
--- the call delivers the packet with the serial number `serial`
+-- whether the call delivers the packet with the serial number `serial`
 abbrev pub is_delivery_of : ℕ → Call → Bool
 is_delivery_of serial (Deliver other) = other == serial
 is_delivery_of serial (Inject from packet) = false

@@ -49,11 +49,12 @@ carrying packet bytes = record packet { bytes = bytes }
 abbrev pub leaving : Simulation → NodePort → Packet → Outcome
 leaving s out packet = option_map_or (λ into. Moves (Arrived into) packet) (across s.peers out) (Drops Down)
 
--- the packet is a trap that is forwarded by LIDs
+-- whether the packet is a trap that is forwarded by LIDs
 abbrev pub is_trap : List ℕ → Bool
 is_trap bytes = number_in method bytes == trap && not (is_directed bytes)
 
--- a manager sits at the port `p`, and the packet is for it: its attribute is SMInfo, or it is a trap
+-- whether a manager sits at the port `p`, and the packet is for this manager: its attribute is SMInfo, or it is a
+-- trap that is forwarded by LIDs
 abbrev pub is_for_manager : Simulation → NodePort → List ℕ → Bool
 is_for_manager s p bytes = (number_in attribute_id bytes == sm_info || is_trap bytes) && is_seat_at s p
 
@@ -63,28 +64,28 @@ is_for_manager s p bytes = (number_in attribute_id bytes == sm_info || is_trap b
 abbrev pub here_at : Simulation → NodePort → Here
 here_at s p = record { is_switch = is_switch_at (fabric_of s) p.node; ports = port_count s p.node; arrival = p.port }
 
--- why a step discards a directed packet, as a reason of a delivery
+-- the reason of a delivery for which a packet is discarded, given the reason of the step of a directed packet
 abbrev pub reason_of : DiscardReason → Reason
 reason_of off.Course = OffCourse
 reason_of off.Transit = Transit
 reason_of off.OutPort = OutPort
 
--- what becomes of a directed packet at an agent: an answer is dropped, a packet for the manager is handed up, and the
--- agent answers any other
+-- what becomes of a directed packet at the agent of the port `p`: an answer is dropped, a packet for the manager is
+-- handed up, and the agent answers any other packet
 abbrev pub at_agent : Simulation → NodePort → Packet → Outcome
 at_agent s p packet =
     if is_response packet.bytes then Drops OffCourse
     else if is_for_manager s p packet.bytes then HandsUp packet
     else Asks packet.bytes packet.slid packet.dlid
 
--- what becomes of a directed packet at the port `p`, by the verdict of its step
+-- what becomes of a directed packet at the port `p`, given the verdict of its step
 abbrev pub by_verdict : Simulation → NodePort → Packet → Verdict → Outcome
 by_verdict s p packet (Out port) = leaving s (record { node = p.node; port = port }) packet
 by_verdict s p packet ToAgent = at_agent s p packet
 by_verdict s p packet ToManager = HandsUp packet
 by_verdict s p packet (Discard reason) = Drops (reason_of reason)
 
--- what becomes of a directed packet at the port `p`: one step on its route
+-- what becomes of a directed packet at the port `p` when it takes one step on its route
 abbrev pub directed_outcome : Simulation → NodePort → Packet → Outcome
 directed_outcome s p packet =
     let stepped = step (here_at s p) packet.bytes in
@@ -92,15 +93,16 @@ directed_outcome s p packet =
 
 -- a packet that is forwarded by its DLID
 
--- what becomes of a packet at the port that it is for: an answer or a packet for the manager is handed up, and a
--- TrapRepress represses its trap. Any other packet is answered; the answer has the request's SLID and DLID exchanged
+-- what becomes of a packet at the port `p`, where it has reached its destination: an answer or a packet for the
+-- manager is handed up, and a TrapRepress represses its trap. Any other packet is answered; the answer has the
+-- request's SLID and DLID exchanged
 abbrev pub arrived : Simulation → NodePort → Packet → Outcome
 arrived s p packet =
     if is_response packet.bytes || is_for_manager s p packet.bytes then HandsUp packet
     else if number_in method packet.bytes == trap_repress then Represses (number_in transaction_id packet.bytes)
     else Asks packet.bytes packet.dlid packet.slid
 
--- what becomes of a LID-routed packet at the port `p`, by its course at the node
+-- what becomes of a LID-routed packet at the port `p`, given its course at the node
 abbrev pub by_course : Simulation → NodePort → Packet → Course → Outcome
 by_course s p packet (course_is.Delivers q) = arrived s p packet
 by_course s p packet (course_is.LeavesBy out) = leaving s out packet
@@ -112,8 +114,8 @@ lid_routed_outcome s whereabouts packet =
     by_course s (port_of whereabouts) packet
     (course (fabric_of s) packet.dlid (record { at = port_of whereabouts; by_wire = is_by_wire whereabouts }))
 
--- what becomes of a packet where it waits. It is dropped if its bytes do not parse, or if no cable is in its port and
--- it does not wait at a seat. Else it goes one step on its directed route, or by its DLID
+-- what becomes of a packet where it waits. It is dropped if its bytes have a fault, or if it does not wait at a seat
+-- and there is no cable in its port. Else it goes one step on its directed route, or by its DLID
 unfoldable pub outcome_of : Simulation → Whereabouts → Packet → Outcome
 outcome_of s whereabouts packet =
     if is_some (fault_of packet.bytes) then Drops Unreadable
@@ -150,7 +152,7 @@ flight_in envelope bytes =
 abbrev pub IsEnvelopeAt : List Flight → ℕ → Envelope → Type 0
 IsEnvelopeAt flights i envelope = option_map envelope_of (slice_get flights i) ≡ Some envelope
 
--- the outcome of an action of a delivery for `packet`
+-- the outcome for `packet` of the action of a delivery
 abbrev pub outcome_by : Packet → Action → Outcome
 outcome_by packet (action_is.Moves whereabouts) = Moves whereabouts packet
 outcome_by packet (action_is.Asks slid dlid) = Asks packet.bytes slid dlid
@@ -158,7 +160,7 @@ outcome_by packet action_is.HandsUp = HandsUp packet
 outcome_by packet action_is.Represses = Represses (number_in transaction_id packet.bytes)
 outcome_by packet (action_is.Drops reason) = Drops reason
 
--- if the outcome is that a packet moves, it can wait where it moves to; true of any other outcome
+-- if the outcome is that a packet moves, the packet can wait where it moves to; holds for any other outcome
 abbrev pub CanFare : Simulation → Outcome → Type 0
 CanFare s (Moves whereabouts packet) = CanWait s whereabouts
 CanFare s (Asks request slid dlid) = Unit {0}
@@ -198,7 +200,8 @@ without s serial = record s { flights = without_flight s.flights serial }
 abbrev pub repressed_at : Simulation → ℕ → ℕ → Simulation
 repressed_at s id number = record s { traps = without_trap s.traps id number }
 
--- the fabric with the packet with the number `serial` replaced by `packet` at `whereabouts`
+-- the fabric with the packet that has the number `serial` replaced by `packet`, which waits as `whereabouts` says and
+-- keeps the number
 abbrev pub moved_to : Simulation → ℕ → Whereabouts → Packet → Simulation
 moved_to s serial whereabouts packet =
     record s { flights = with_moved s.flights (record { serial = serial; whereabouts = whereabouts; packet = packet }) }
@@ -207,8 +210,8 @@ moved_to s serial whereabouts packet =
 abbrev pub answer_at : Simulation → NodePort → List ℕ → List ℕ
 answer_at s p bytes = option_map_or (λ a. (after_answer a bytes p.port).packet) (agent_at s p.node) bytes
 
--- the fabric after the agent at the port of `flight` answered `request`; `flight` is replaced by the answer, from
--- `slid` to `dlid`, which has the next serial number
+-- the fabric after the agent at the port where `flight` waits answered `request`. The answer, from `slid` to `dlid`,
+-- replaces `flight`, and has the next serial number
 abbrev pub asked : Simulation → Flight → List ℕ → ℕ → ℕ → Simulation
 asked s flight request slid dlid =
     let p = port_of flight.whereabouts in
@@ -223,7 +226,7 @@ asked s flight request slid dlid =
       dlid = dlid;
     })
 
--- what a delivery of `flight` leaves and returns, by the outcome; an answer needs a serial number of its own, and the
+-- what a delivery of `flight` leaves and returns, given the outcome. An answer takes a new serial number, and the
 -- delivery is refused if none is left
 abbrev pub after_outcome : Simulation → Flight → Outcome → Called Delivered
 after_outcome s flight (Moves whereabouts packet) =
@@ -245,13 +248,13 @@ after_outcome s flight (Represses number) =
 after_outcome s flight (Drops reason) =
     record { fabric = without s flight.serial; result = Ok (delivered_is.Discarded reason) }
 
--- the fabric after one step of the packet, and what the step did; refused if there is no packet (None), or no serial
+-- the fabric after one step of the packet, and what the step did; refused if the packet is None, or if no serial
 -- number is left for an answer
 abbrev pub delivered_flight : Simulation → Option Flight → Called Delivered
 delivered_flight s None = refused s NoSuchPacket
 delivered_flight s (Some flight) = after_outcome s flight (outcome_of s flight.whereabouts flight.packet)
 
--- the fabric after one step of the packet with the number `serial`, and what the step did; refused if there is no such
--- packet, or no serial number is left for an answer
+-- the fabric after one step of the packet with the number `serial`, and what the step did; refused if there is no
+-- such packet, or if no serial number is left for an answer
 unfoldable pub after_deliver : Simulation → ℕ → Called Delivered
 after_deliver s serial = delivered_flight s (flight_with s.flights serial)

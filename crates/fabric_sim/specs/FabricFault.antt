@@ -3,7 +3,7 @@ use Rattle.std.specs.Prelude.{ℕ, List, codes}
 use Rattle.fabric_sim.specs.declared.fault.FabricFault.{FabricFault}
 use Rattle.fabric_sim.specs.declared.fault.FabricFault.TheVariants.{NoSuchPacket, NoSuchPort, PortTaken, Memory, SerialsSpent}
 
--- the name of a fault of a call
+-- the name of the fault of a call on a simulated fabric
 abbrev pub fabric_fault_name : FabricFault → List ℕ
 fabric_fault_name NoSuchPacket = codes "NoSuchPacket"
 fabric_fault_name NoSuchPort = codes "NoSuchPort"

@@ -3,7 +3,7 @@ use Rattle.std.specs.Prelude.{◌≡◌, ℕ, ◌<◌, not, Bool, List, map, fin
 use Rattle.std.specs.Prelude.{Some, None, option_map}
 use Rattle.fabric_sim.specs.declared.flight.Flight.{Flight}
 
--- the packet in flight has the serial number `serial`
+-- whether the packet in flight has the serial number `serial`
 abbrev pub is_numbered : ℕ → Flight → Bool
 is_numbered serial flight = flight.serial == serial
 
@@ -15,7 +15,8 @@ flight_with flights serial = find (is_numbered serial) flights
 abbrev pub IsFlightAt : List Flight → ℕ → ℕ → Type 0
 IsFlightAt flights i serial = option_map (λ flight. flight.serial) (slice_get flights i) ≡ Some serial
 
--- the given index is the first at which a packet has the number `serial`; for None, no packet has this number
+-- the given index is the first at which a packet of `flights` has the number `serial`; if it is None, no packet has
+-- this number
 abbrev pub Finds : List Flight → ℕ → Option ℕ → Type 0
 Finds flights serial None = flight_with flights serial ≡ None
 Finds flights serial (Some i) = IsFlightAt flights i serial × (slice_get flights i ≡ flight_with flights serial)

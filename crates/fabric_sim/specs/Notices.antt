@@ -21,8 +21,8 @@ notice = 0x0002
 abbrev pub link_state_change : ℕ
 link_state_change = 128
 
--- what the notice of a switch with the LID `lid` says: it is generic and urgent, its producer is a switch, and its trap
--- has the number 128. Its issuer has the LID `lid`, which is in the details too
+-- what the notice of a switch with the LID `lid` says: it is generic and urgent, its producer is a switch, its trap
+-- has the number 128, and its issuer has the LID `lid`, which is also in the details
 abbrev pub link_entries : ℕ → List Entry
 link_entries lid =
     record { field = record { at = 0; len = 1 }; number = 0x81 }

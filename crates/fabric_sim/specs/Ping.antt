@@ -13,21 +13,21 @@ use Rattle.fabric_sim.specs.Simulation.{Simulation, is_port}
 use Rattle.fabric_sim.specs.declared.ping.Ping.{Ping}
 use Rattle.fabric_sim.specs.declared.ping.Ping.TheVariants.{Reached, Lost}
 
--- the end of a packet that has taken `hops` wires to `s`, by its course at `s`; `on` says the end of a packet that has
--- taken one more wire, by the port that it reached
+-- the end of a packet that has taken `hops` wires to `s`, given its course there; for a packet that takes one more
+-- wire, `on` gives the end from the port that it reaches
 abbrev pub ping_by : Fabric → Standing → ℕ → (NodePort → Ping) → Course → Ping
 ping_by f s hops on (Delivers p) = Reached p hops
 ping_by f s hops on (LeavesBy out) = option_map_or on (f.across out) (Lost s.at.node)
 ping_by f s hops on Drops = Lost s.at.node
 
--- the end of a packet for `lid` that has taken `hops` wires to `s`. The argument after `lid` is how many nodes the
--- packet may still visit, that of `s` included; if it is 0, the packet is lost at `s`
+-- the end of a packet for `lid` that has taken `hops` wires to `s`. The argument after `lid` is the number of nodes
+-- that the packet may still visit, that of `s` included; if it is 0, the packet is lost at `s`
 abbrev pub ping_on : Fabric → ℕ → ℕ → ℕ → Standing → Ping
 ping_on f lid zero hops s = Lost s.at.node
 ping_on f lid (suc left) hops s =
     ping_by f s hops (λ into. ping_on f lid left (hops + 1) (arrived_at into)) (course f lid s)
 
--- where a packet for `lid` ends if it is sent from the port `source`; a packet that loops is lost
+-- where a packet for `lid` ends if it is sent from the port `source`; a packet that loops counts as lost
 abbrev pub ping : Fabric → ℕ → NodePort → Ping
 ping f lid source = ping_on f lid (wire_bound f) 0 (sent_from source)
 

@@ -1,4 +1,4 @@
--- That what packets see of a simulation is a fabric.
+-- What packets see of a simulation is a fabric.
 use Rattle.fabric_model.specs.Fabric.{IsFabric}
 use Rattle.fabric_sim.specs.Simulation.{Simulation, IsSimulation, fabric_of}
 

@@ -13,9 +13,9 @@ use Rattle.fabric_sim.specs.declared.flight.Flight.{Flight}
 use Rattle.fabric_sim.specs.Traps.{Traps}
 
 -- a simulated fabric: `agents` has the agents by the ids of their nodes. `peers` has for each node the other ends of
--- the cables in its ports, from port 0 on, which never has a cable. `flights` has the packets in flight, in ascending
--- order of serial number. `next` is the next serial number, 2 ^ 64 if none is left. `traps` has the traps that wait at
--- switches
+-- the cables in its ports, from port 0 on; port 0 never has a cable. `flights` has the packets in flight, in
+-- ascending order of serial number. `next` is the next serial number, or 2 ^ 64 if none is left. `traps` has the
+-- traps that wait at switches
 pub record Simulation : Type 0 where
   pub agents : List Agent
   pub peers : List (List (Option NodePort))
@@ -23,7 +23,7 @@ pub record Simulation : Type 0 where
   pub next : ℕ
   pub traps : Traps
 
--- the next serial number as a number: 2 ^ 64 for None, if none is left
+-- the next serial number as a number: 2 ^ 64 for None, which says that none is left
 abbrev pub next_serial : Option ℕ → ℕ
 next_serial None = 2 ^ 64
 next_serial (Some serial) = serial
@@ -34,19 +34,19 @@ next_serial (Some serial) = serial
 abbrev pub agent_at : Simulation → ℕ → Option Agent
 agent_at s id = slice_get s.agents id
 
--- the number of ports of the node `id`, from 1 on; 0 if there is no such node
+-- the number of ports of the node `id`, without port 0; 0 if there is no such node
 abbrev pub port_count : Simulation → ℕ → ℕ
 port_count s id = option_map_or (λ a. a.node.ports) (agent_at s id) 0
 
--- the port `p` is from 1 to its node's port count, so that a cable can be plugged in
+-- whether the port `p` is from 1 to its node's port count in `agents`, so that a cable can be plugged in
 abbrev pub has_cable_port : List Agent → NodePort → Bool
 has_cable_port agents p = is_within p.port (option_map_or (λ a. a.node.ports) (slice_get agents p.node) 0)
 
--- the port `p` of the fabric is from 1 to its node's port count, so that a cable can be plugged in
+-- whether the port `p` is from 1 to its node's port count in the fabric, so that a cable can be plugged in
 abbrev pub is_cable_port : Simulation → NodePort → Bool
 is_cable_port s p = has_cable_port s.agents p
 
--- a subnet manager sits at the port `p`
+-- whether a subnet manager sits at the port `p`
 abbrev pub is_seat_at : Simulation → NodePort → Bool
 is_seat_at s p = option_map_or (λ a. has_seat a p.port) (agent_at s p.node) false
 
@@ -54,7 +54,7 @@ is_seat_at s p = option_map_or (λ a. has_seat a p.port) (agent_at s p.node) fal
 abbrev pub across : List (List (Option NodePort)) → NodePort → Option NodePort
 across peers p = slice_index_or (slice_index_or peers p.node []) p.port None
 
--- the fabric that packets see: its nodes and cables, and what its agents hold
+-- the fabric that packets see: its nodes, its cables, and the LIDs and table entries of its agents
 abbrev pub fabric_of : Simulation → Fabric
 fabric_of s =
     record {
@@ -66,7 +66,7 @@ fabric_of s =
       top = λ id. option_map_or (λ a. a.top) (agent_at s id) 0;
     }
 
--- the port `p` is one of the fabric: a cable port, or port 0 of a switch
+-- whether the fabric has the port `p`: it is from 1 to its node's port count, or is port 0 of a switch
 abbrev pub is_port : Simulation → NodePort → Bool
 is_port s p = nat_le p.port (port_count s p.node) && (nat_le 1 p.port || is_switch_at (fabric_of s) p.node)
 
@@ -78,20 +78,20 @@ port_of (Seat p) = p
 port_of (Arrived p) = p
 port_of (Made p) = p
 
--- the whereabouts are a seat
+-- whether the whereabouts are a seat
 abbrev pub is_at_seat : Whereabouts → Bool
 is_at_seat (Seat p) = true
 is_at_seat (Arrived p) = false
 is_at_seat (Made p) = false
 
--- the whereabouts are a port to which a packet came by a wire
+-- whether the whereabouts are a port to which a packet came by a wire
 abbrev pub is_by_wire : Whereabouts → Bool
 is_by_wire (Seat p) = false
 is_by_wire (Arrived p) = true
 is_by_wire (Made p) = false
 
--- the whereabouts of an answer, by those of its request: the seat if the request waited at one, else `Made` at the same
--- port
+-- the whereabouts of an answer, given those of its request: the same seat if the request waited at a seat, else
+-- `Made` at the same port
 abbrev pub answer_whereabouts : Whereabouts → Whereabouts
 answer_whereabouts (Seat p) = Seat p
 answer_whereabouts (Arrived p) = Made p
@@ -103,18 +103,18 @@ answer_whereabouts (Made p) = Made p
 abbrev pub HasPeerSlot : List (List (Option NodePort)) → NodePort → Type 0
 HasPeerSlot peers p = p.port < length (slice_index_or peers p.node [])
 
--- each node has a list of the other ends of its cables, with a slot for port 0 and for each of its ports
+-- for each node, the list in `peers` has a slot for port 0 and for each other port
 abbrev pub FitsPorts : Simulation → Type 0
 FitsPorts s = (id : ℕ) (a : Agent) → agent_at s id ≡ Some a → length (slice_index_or s.peers id []) ≡ a.node.ports + 1
 
--- a port from 1 on is Down exactly if no cable is in it
+-- a port from 1 to its node's port count is Down exactly when there is no cable in it
 abbrev pub AreUncabledDown : Simulation → Type 0
 AreUncabledDown s =
     (p : NodePort) (a : Agent) → agent_at s p.node ≡ Some a → is_cable_port s p ≡ true → (state_at a p.port ≡ Down)
     ↔ (across s.peers p ≡ None)
 
--- the cables fit the nodes and their agents: each end is in a cable port, and each cable leads back from its other end.
--- A cable port is Down exactly if no cable is in it
+-- the cables fit the nodes and their agents: each end is in a cable port (`is_cable_port`), and each cable leads back
+-- from its other end. A cable port is Down exactly when there is no cable in it
 pub record AreCables (s : Simulation) : Type 0 where
   pub lists : length s.peers ≡ length s.agents
   pub fit : FitsPorts s
@@ -122,13 +122,13 @@ pub record AreCables (s : Simulation) : Type 0 where
   pub lead_back : (p q : NodePort) → across s.peers p ≡ Some q → across s.peers q ≡ Some p
   pub down : AreUncabledDown s
 
--- a packet can wait at `whereabouts`: the port there is a cable port, and a manager sits there if the whereabouts are a
--- seat
+-- a packet can wait as `whereabouts` says: the port there is a cable port (`is_cable_port`), and if the whereabouts
+-- are a seat, a manager sits there
 pub record CanWait (s : Simulation) (whereabouts : Whereabouts) : Type 0 where
   pub port : is_cable_port s (port_of whereabouts) ≡ true
   pub seat : is_at_seat whereabouts ≡ true → is_seat_at s (port_of whereabouts) ≡ true
 
--- `flight` has whereabouts where a packet can wait, and a serial number below the next one
+-- the packet `flight` waits where a packet can wait (`CanWait`), and its serial number is below the next one
 pub record IsWaiting (s : Simulation) (flight : Flight) : Type 0 where
   pub whereabouts : CanWait s flight.whereabouts
   pub given : flight.serial < s.next
@@ -137,8 +137,9 @@ pub record IsWaiting (s : Simulation) (flight : Flight) : Type 0 where
 abbrev pub AreRising : List Flight → Type 0
 AreRising flights = AllPairs (λ before after. before.serial < after.serial) flights
 
--- `s` has at most 1024 nodes with their agents, managers only at cable ports, and cables that fit. Packets in flight
--- wait where they can. Their serial numbers rise and are below the next one, which is at most 2 ^ 64
+-- `s` has at most 1024 nodes with their agents, managers only at cable ports (`is_cable_port`), and cables that fit
+-- (`AreCables`). Packets in flight wait where they can. Their serial numbers rise and are below the next one, which
+-- is at most 2 ^ 64
 pub record IsSimulation (s : Simulation) : Type 0 where
   pub few : length s.agents ≤ 1024
   pub agents : All IsAgent s.agents

@@ -18,7 +18,7 @@ use Rattle.fabric_sim.specs.Delivery.{after_deliver}
 use Rattle.fabric_sim.specs.Changes.{after_inject}
 use Rattle.fabric_sim.specs.Calls.{Call, Lose, after_calls, is_delivery_of}
 
--- a directed request as a packet; no part of its route goes by LIDs, so SLID and DLID are the permissive LID
+-- a directed request as a packet; SLID and DLID are the permissive LID, since no part of its route goes by LIDs
 abbrev pub directed_packet : List ℕ → Packet
 directed_packet bytes = record { bytes = bytes; slid = permissive_lid; dlid = permissive_lid }
 
@@ -49,7 +49,8 @@ KeepsPacket serial call = call ≢ Lose serial
 abbrev pub Deliver : List Call → ℕ → ℕ → Type 0
 Deliver calls serial count = All (KeepsPacket serial) calls × (count_by (is_delivery_of serial) calls ≡ count)
 
--- the delivery of `request`, with the number `serial`, is answered by the agent at the port `at`
+-- when `request`, which has the number `serial`, is delivered, `agent`, the agent of the node of the port `at`,
+-- answers it
 pub record IsAnsweredAt (s : Simulation) (serial : ℕ) (request : List ℕ) (at : NodePort) (agent : Agent) : Type 0 where
   pub there : agent_at s at.node ≡ Some agent
   pub result : (after_deliver s serial).result ≡ Ok (delivered_is.Answered s.next)
@@ -62,10 +63,10 @@ pub record ComesHome (s : Simulation) (serial : ℕ) (at : NodePort) (path reque
   pub result : (after_deliver s serial).result ≡ Ok (delivered_is.ToManager at packet)
   pub answer : IsAnswerOver path request told packet.bytes
 
--- on a path of n ports, the agent at the path's end answers the request's delivery n + 1. The answer's delivery n + 1
--- hands the answer up at the port that the request was sent from. The attribute is not SMInfo. If the path has ports,
--- the first is the port that the request was sent from. Any other calls may come between, if no cable changes, neither
--- packet is lost, and serial numbers are left
+-- a request for an attribute other than SMInfo is sent over a path of n ports. If the path has ports, the first is
+-- the port that the request was sent from. Then the agent at the end of the path answers delivery n + 1 of the
+-- request. Delivery n + 1 of the answer hands the answer up at the port that the request was sent from. Any other
+-- calls may come between, if no cable changes, neither packet is lost, and serial numbers are left
 abbrev pub ThereAndBack : Type 0
 ThereAndBack =
     (s : Simulation) (origin end : NodePort) (method attribute modifier tid : ℕ) (path payload : List ℕ)

@@ -26,7 +26,7 @@ pub record SaysNode (node : Node) (port : ℕ) (info : NodeInfo) : Type 0 where
   pub port_guid : info.port_guid ≡ node.port_guid port
   pub local_port : info.local_port_num ≡ port
 
--- the port is up: a cable is in it, or it is port 0 of a switch
+-- the port is up: there is a cable in it, or it is port 0 of a switch
 abbrev pub IsUp : Fabric → ℕ → Node → ℕ → Type 0
 IsUp f id node port = ((is_switch node.kind ≡ true) × (port ≡ 0))
     ⊎ ((far : NodePort) × (f.across (record { node = id; port = port }) ≡ Some far))
@@ -35,23 +35,24 @@ IsUp f id node port = ((is_switch node.kind ≡ true) × (port ≡ 0))
 abbrev pub IsUpState : ℕ → Type 0
 IsUpState state = (2 ≤ state) × (state ≤ 4)
 
--- the port that PortInfo is about: for a switch, the port asked for; for an adapter, the port at which the request
--- arrived
+-- the port that PortInfo is about: `modifier`, the port asked for, at a switch; `arrival`, the port at which the
+-- request arrived, at an adapter
 abbrev pub port_asked : Node → ℕ → ℕ → ℕ
 port_asked node modifier arrival = if is_switch node.kind then modifier else arrival
 
--- `port` is a port of the node, and `state`, the port state in PortInfo, is up exactly if this port is up
+-- the number `port` is at most the node's port count, and `state`, the port state in PortInfo, is up exactly when
+-- this port is up
 pub record SaysPort (f : Fabric) (id : ℕ) (node : Node) (port state : ℕ) : Type 0 where
   pub within : port ≤ node.ports
   pub up : IsUpState state ↔ IsUp f id node port
 
--- the node is a switch, and `entries` is the number of entries that its forwarding table has room for
+-- the node is a switch, and `entries` is the size of its forwarding table
 pub record SaysSwitch (node : Node) (entries : ℕ) : Type 0 where
   pub kind : is_switch node.kind ≡ true
   pub cap : entries ≡ node.cap
 
--- what the answer `packet` says, by its attribute, is true of the node at the port `at`, which its request reached: the
--- NodeInfo, whether a port is up, or a switch's table room
+-- what the attribute in the answer `packet` says is true of the node of the port `at`, which the request reached: the
+-- NodeInfo, whether a port is up, or the table size of a switch
 pub record SaysOf (f : Fabric) (at : NodePort) (packet : List ℕ) : Type 0 where
   pub node : Node
   pub there : IsNodeAt f at.node node

@@ -1,4 +1,4 @@
--- That a TrapRepress which arrives at a switch ends the trap that waits there.
+-- A TrapRepress that arrives at a switch ends the trap with its TransactionID that waits there.
 use Rattle.std.specs.Prelude.{◌≡◌, ◌≢◌, ℕ, true, false, is_some, Some, None, Ok}
 use Rattle.fabric_model.specs.declared.cable.NodePort.{NodePort}
 use Rattle.fabric_model.specs.declared.course.Course.TheVariants.{Delivers}
@@ -17,8 +17,8 @@ use Rattle.fabric_sim.specs.Simulation.{Simulation, IsSimulation, across, fabric
 use Rattle.fabric_sim.specs.Flights.{flight_with}
 use Rattle.fabric_sim.specs.Traps.{trap_at}
 
--- the packet of `flight` parses, is LID-routed, and is a TrapRepress with the TransactionID `number`. It waits at a
--- port of the switch `id` that has a cable, and the switch delivers it to itself
+-- the packet of `flight` has no fault, is LID-routed, and is a TrapRepress with the TransactionID `number`. It waits
+-- at a port of the switch `id` that has a cable, and the switch forwards it to itself
 pub record IsRepress (s : Simulation) (flight : Flight) (id number : ℕ) : Type 0 where
   pub parses : fault_of flight.packet.bytes ≡ None
   pub by_lids : is_directed flight.packet.bytes ≡ false
@@ -34,8 +34,8 @@ pub record IsRepress (s : Simulation) (flight : Flight) (id number : ℕ) : Type
         is_by_wire flight.whereabouts;
   }) ≡ Delivers end
 
--- a delivery discards its packet, with no answer; the trap with the TransactionID `number` no longer waits at the node
--- `id`, and any other trap waits as before
+-- the delivery with the outcome `done` discards its packet, with no answer; the trap with the TransactionID `number`
+-- no longer waits at the node `id`, and any other trap waits as before
 pub record EndsTrap (s : Simulation) (done : Called Delivered) (id number : ℕ) : Type 0 where
   pub discarded : done.result ≡ Ok (Discarded Repress)
   pub ended : trap_at s.traps id ≡ Some number → trap_at done.fabric.traps id ≡ None

@@ -3,8 +3,8 @@
 use Rattle.std.specs.Prelude.{ℕ, ◌+◌, ◌%◌, ◌^◌, ◌==◌, Bool, List, [], length, replicate, slice_index_or, slice_set, if◌then◌else◌, Option, Some, None, false}
 use Rattle.std.specs.Option.{option_map_or}
 
--- `waiting` has for each node the TransactionID of the trap that waits there, or None; it is empty while switches send
--- no traps. `last` is the TransactionID of the trap that began last, and 0 if none began
+-- `waiting` has for each node the TransactionID of the trap that waits there, or None; it is empty while switches
+-- send no traps. `last` is the TransactionID of the trap that began last, or 0 if none began
 pub record Traps : Type 0 where
   pub waiting : List (Option ℕ)
   pub last : ℕ
@@ -29,10 +29,11 @@ next_trap t = (t.last + 1) % 2 ^ 64
 abbrev pub with_new_trap : Traps → ℕ → Traps
 with_new_trap t id = record { waiting = slice_set t.waiting id (Some (next_trap t)); last = next_trap t }
 
--- the trap with the TransactionID `number` waits at the node `id`
+-- whether the trap with the TransactionID `number` waits at the node `id`
 abbrev pub is_waiting : Traps → ℕ → ℕ → Bool
 is_waiting t id number = option_map_or (λ n. n == number) (trap_at t id) false
 
--- the traps after the trap with the TransactionID `number` is ended, if it waits at the node `id`
+-- the traps without the trap with the TransactionID `number` at the node `id`; unchanged if this trap does not wait
+-- there
 abbrev pub without_trap : Traps → ℕ → ℕ → Traps
 without_trap t id number = if is_waiting t id number then record t { waiting = slice_set t.waiting id None } else t

@@ -19,7 +19,7 @@ use smp_bytes::{AttributeId, Lid, Smp, SmpClass};
 /// What to do with a packet where it waits.
 #[derive(Clone, Copy)]
 pub(crate) enum Action {
-    /// The packet moves to other whereabouts.
+    /// The packet moves, and then waits as these whereabouts say.
     Moves(Whereabouts),
     /// The agent answers the packet. The answer has the first LID as its SLID and the second as its DLID.
     Asks(Lid, Lid),
@@ -32,8 +32,8 @@ pub(crate) enum Action {
 }
 
 impl Fabric {
-    /// Returns what to do with the packet `smp`, which waits as `envelope` says. A packet on a directed route takes its
-    /// step in `smp`.
+    /// Returns what to do with the packet `smp`, which waits as `envelope` says. If `smp` is on a directed route,
+    /// performs its step. `smp` must have no fault, and must wait at a port from 1 to the port count of its node.
     #[tactic(auto, using(crate::proofs::AgentLists::within_agents), unfolding(crate::specs::Delivery::outcome_of))]
     pub(crate) fn action(&self, envelope: &Envelope, smp: &mut Smp) -> Action
         requires parses { fault_of smp.old ≡ None }
@@ -51,8 +51,8 @@ impl Fabric {
         }
     }
 
-    /// Performs a step of `smp`, which must be on a directed route, and returns what to do with the packet. The node of
-    /// `at` must exist.
+    /// Performs a step of `smp`, which must be on a directed route, and returns what to do with the packet. The
+    /// fabric must have the node of `at`, the port where the packet waits.
     fn directed_action(&self, at: &NodePort, envelope: &Envelope, smp: &mut Smp) -> Action
         requires directed { is_directed smp.old ≡ true }
         requires port { at.now.node < length self.now.agents }
@@ -70,7 +70,7 @@ impl Fabric {
         }
     }
 
-    /// Returns the node of the port `at`, as a step sees it. The node must exist.
+    /// Returns the node of the port `at`, as a step of a packet at this port sees it. The fabric must have this node.
     fn here(&self, at: &NodePort) -> Here
         requires { at.now.node < length self.now.agents }
         ensures { result ≡ here_at self.now at.now }
@@ -83,8 +83,8 @@ impl Fabric {
         }
     }
 
-    /// Returns what to do with a packet that has reached the end of its path: an answer is dropped, a packet for the
-    /// manager is handed up, and the agent answers any other packet.
+    /// Returns what to do with a directed packet that has reached the end of its path at the port `at`. An answer is
+    /// dropped, a packet for the manager at `at` is handed up, and the agent answers any other packet.
     fn at_agent(&self, at: &NodePort, envelope: &Envelope, smp: &Smp) -> Action
         ensures { outcome_by (packet_in envelope.now smp.now) result
             ≡ at_agent self.now at.now (packet_in envelope.now smp.now) }
@@ -98,7 +98,8 @@ impl Fabric {
         }
     }
 
-    /// Returns what to do with a packet that is forwarded by its DLID.
+    /// Returns what to do with a packet that is forwarded by its DLID. `at` must be the port where the packet waits,
+    /// and the fabric must have its node.
     fn lid_routed_action(&self, at: &NodePort, envelope: &Envelope, smp: &Smp) -> Action
         requires at { at.now ≡ port_of envelope.now.whereabouts }
         requires port { at.now.node < length self.now.agents }
@@ -112,8 +113,9 @@ impl Fabric {
         }
     }
 
-    /// Returns what to do with a packet that has reached the port of its DLID: an answer or a packet for the manager is
-    /// handed up, a TrapRepress is discarded and ends its trap, and the agent answers any other packet.
+    /// Returns what to do with a packet that is forwarded by its DLID and has reached its destination, when it waits
+    /// at the port `at`. An answer, or a packet for the manager at `at`, is handed up. A TrapRepress is discarded and
+    /// ends its trap. The agent answers any other packet.
     fn arrival(&self, at: &NodePort, envelope: &Envelope, smp: &Smp) -> Action
         ensures { outcome_by (packet_in envelope.now smp.now) result
             ≡ arrived self.now at.now (packet_in envelope.now smp.now) }
@@ -128,7 +130,7 @@ impl Fabric {
     }
 
     /// Returns the action for a packet that leaves through the port `out`: it moves to the other end of the cable in
-    /// `out`, or is dropped if no cable is in `out`.
+    /// `out`, or is dropped if there is no cable in `out`.
     fn leaving(&self, out: &NodePort) -> Action
         ensures { (packet : Packet) → outcome_by packet result ≡ leaving self.now out.now packet }
     {

@@ -17,10 +17,10 @@ use std::collections::VecDeque;
 use topo_file::{Node, Topology};
 
 impl Fabric {
-    /// Builds the fabric of `topology`, with an agent for each node and a cable for each link. Nothing has been written
-    /// to the agents, nothing is in flight, serial numbers count from `first_serial`, and switches send no traps.
-    /// Returns an error if memory runs out. Takes time linear in the ports and table entries of all nodes, and in the
-    /// links.
+    /// Builds the fabric of `topology`, with an agent for each node and a cable for each link. Nothing has been
+    /// written to the agents, no packet is in flight, serial numbers count from `first_serial`, and switches send no
+    /// traps. Returns an error if memory runs out. Takes time linear in the number of ports and table entries of all
+    /// nodes, and in the number of links.
     pub fn of(alloc: Global, topology: &Topology, first_serial: u64) -> Result<Fabric, AllocError>
         ensures fabric { IfOk result (λ fabric.
             fabric ≡ simulation_of topology.now first_serial) }
@@ -35,7 +35,8 @@ impl Fabric {
     }
 }
 
-/// Builds the fabric of the nodes of `topology`, with no cable. Returns an error if memory runs out.
+/// Builds the fabric of the nodes of `topology`, as `of` does, but without cables. Returns an error if memory runs
+/// out.
 fn uncabled(alloc: Global, topology: &Topology, first_serial: u64) -> Result<Fabric, AllocError>
     ensures fabric { IfOk result (λ fabric. fabric ≡ uncabled topology.now.nodes first_serial) }
     ensures is_topology { IsTopology topology.now }
@@ -55,7 +56,7 @@ fn uncabled(alloc: Global, topology: &Topology, first_serial: u64) -> Result<Fab
     })
 }
 
-/// Returns the agent's node for `node`, with the name as its description. The name must have at most 64 bytes.
+/// Returns `node` as an agent knows it, with the node's name as its description. The name must have at most 64 bytes.
 fn agent_node(node: &Node) -> AgentNode
     requires { length node.now.name ≤ 64 }
     ensures { result ≡ agent_node node.now }

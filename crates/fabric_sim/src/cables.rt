@@ -11,13 +11,13 @@ use fabric_model::NodePort;
 use node_agents::Agent;
 
 impl Fabric {
-    /// Plugs a cable into the ports `one` and `other`, or a loop if they are one port. Each port becomes Initialize.
-    /// Does not allocate.
+    /// Plugs a cable into the ports `one` and `other`, or a loop if they are the same port. The state of both becomes
+    /// Initialize. Does not allocate.
     ///
     /// # Errors
     ///
     /// Returns `NoSuchPort` if `one` or `other` is not from 1 to its node's port count. Otherwise returns `PortTaken`
-    /// if a cable is in `one` or `other`.
+    /// if there is a cable in `one` or `other`.
     #[tactic(auto, unfolding(crate::specs::Changes::after_plug))]
     pub fn plug(&mut self, one: NodePort, other: NodePort) -> Result<(), FabricFault>
         ensures fabric { self.new ≡ (after_plug self.old one other).fabric }
@@ -33,8 +33,8 @@ impl Fabric {
         Ok(())
     }
 
-    /// Plugs a cable into the ports `one` and `other`, or a loop if they are one port. Each port must be from 1 to its
-    /// node's port count, and without a cable.
+    /// Plugs a cable into the ports `one` and `other`, or a loop if they are the same port. Each port must be from 1
+    /// to its node's port count, and without a cable.
     #[tactic(auto, unfolding(crate::specs::Changes::cabled_at))]
     pub(crate) fn join(&mut self, one: &NodePort, other: &NodePort)
         requires one { is_cable_port self.old one.now ≡ true }
@@ -49,7 +49,7 @@ impl Fabric {
         set_peer(&mut self.peers, other, Some(*one));
     }
 
-    /// Takes out the cable in `at`. The ports at the cable's two ends become Down. Does not allocate.
+    /// Takes out the cable in `at`. The state of the ports at its two ends becomes Down. Does not allocate.
     ///
     /// # Errors
     ///
@@ -66,7 +66,7 @@ impl Fabric {
         Ok(())
     }
 
-    /// Takes out the cable in the ports `one` and `other`. The cable must lead from `one` to `other`.
+    /// Takes out the cable between the ports `one` and `other`. There must be such a cable.
     #[tactic(auto, unfolding(crate::specs::Changes::uncabled_at))]
     fn part(&mut self, one: &NodePort, other: &NodePort)
         requires { across self.old.peers one.now ≡ Some other.now }

@@ -10,8 +10,8 @@ use node_agents::Agent;
 use smp_bytes::{Lid, NO_ENTRY};
 
 impl Fabric {
-    /// Returns what the node at the port `at` does with a packet for `lid`. `is_by_wire` says whether the packet came
-    /// to the port by a wire. The node must exist.
+    /// Returns what the node of the port `at` does with a packet for `lid` that is at this port. `is_by_wire` says
+    /// whether the packet came there by a wire. The fabric must have this node.
     pub(crate) fn course(&self, lid: Lid, at: &NodePort, is_by_wire: bool) -> Course
         requires { at.now.node < length self.now.agents }
         ensures { result ≡ course (fabric_of self.now) lid
@@ -51,7 +51,7 @@ impl Fabric {
     }
 }
 
-/// Returns what the switch `node` with the agent `agent` does with a packet for `lid`.
+/// Returns what the switch `node`, whose agent is `agent`, does with a packet for `lid`.
 fn switch_course(agent: &Agent, node: NodeId, lid: Lid) -> Course
     ensures { result ≡ switch_course agent.now.node.ports node agent.now.top lid
         (entry_at agent.now lid) }

@@ -17,14 +17,15 @@ use fabric_model::NodeId;
 use smp_bytes::{Lid, Smp};
 
 impl Fabric {
-    /// Performs one step of the packet in flight with the serial number `serial`: it moves over a wire, is answered, is
-    /// handed up, or is discarded. A TrapRepress at the port of its DLID ends the trap with its TransactionID. Takes
-    /// constant time to find the first packet in flight, and a binary search to find any other. Does not allocate.
+    /// Performs one step of the packet in flight with the serial number `serial`: it moves over a wire, is answered,
+    /// is handed up, or is discarded. A TrapRepress at the port of its DLID ends the trap with its TransactionID if
+    /// this trap waits there. Takes constant time to find the first packet in flight, and does a binary search for
+    /// any other. Does not allocate.
     ///
     /// # Errors
     ///
-    /// Returns `NoSuchPacket` if no packet in flight has the serial number `serial`, and `SerialsSpent` if an agent is
-    /// to answer and no serial number is left.
+    /// Returns `NoSuchPacket` if no packet in flight has the serial number `serial`. Returns `SerialsSpent` if an
+    /// agent is to answer the packet and no serial number is left.
     #[tactic(auto, unfolding(crate::specs::Delivery::after_deliver))]
     pub fn deliver(&mut self, serial: u64) -> Result<Delivered, FabricFault>
         ensures fabric { self.new ≡ (after_deliver self.old serial).fabric }
@@ -44,8 +45,10 @@ impl Fabric {
         }
     }
 
-    /// Moves, answers, hands up or discards the packet at index `i` among the packets in flight, by `action`. The
-    /// packet must have the envelope `envelope`. `smp` has its bytes after its step.
+    /// Moves, answers, hands up or discards the packet at index `i` among the packets in flight, as `action` says.
+    /// There must be one, and its envelope must be `envelope`. `smp` has the bytes of the packet after its step. If
+    /// the packet moves, it must be able to wait at the place that `action` says (`CanWait`). Returns `SerialsSpent`
+    /// if an agent is to answer and no serial number is left.
     fn act(
         &mut self,
         i: usize,
@@ -89,7 +92,8 @@ impl Fabric {
         self.traps.repress(node, number);
     }
 
-    /// Discards the packet at index `i` among the packets in flight. The packet's serial number must be `serial`.
+    /// Discards the packet at index `i` among the packets in flight for `reason`. There must be one, and its serial
+    /// number must be `serial`.
     fn discard(&mut self, i: usize, serial: u64, reason: Reason) -> Delivered
         requires { IsFlightAt self.old.flights i serial }
         ensures fabric { self.new ≡ without self.old serial }
@@ -99,9 +103,10 @@ impl Fabric {
         Delivered::Discarded(reason)
     }
 
-    /// Lets the agent answer the request at index `i` among the packets in flight. The request must have the envelope
-    /// `envelope`; `request` has its bytes after its step. The answer replaces the request, under a serial number of
-    /// its own. Returns `SerialsSpent` if no serial number is left.
+    /// Lets the agent answer the request at index `i` among the packets in flight. There must be one, and its
+    /// envelope must be `envelope`. `request` has the bytes of the request after its step. The answer goes from
+    /// `slid` to `dlid`, and replaces the request under a new serial number. Returns `SerialsSpent` if no serial
+    /// number is left.
     fn ask(
         &mut self,
         i: usize,

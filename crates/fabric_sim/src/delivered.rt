@@ -5,13 +5,15 @@ use fabric_model::NodePort;
 /// Why a packet is discarded.
 #[derive(Clone, Copy, Debug, PartialEq, Eq)]
 pub enum Reason {
-    /// The hop pointer of a directed packet is off its path, or an answer arrives at an agent.
+    /// The hop pointer of a directed packet does not fit the packet's path, or an answer on a directed route arrives
+    /// at an agent.
     Course,
     /// The path of a directed packet leads on through a node that is not a switch.
     Transit,
     /// The outgoing port of a directed packet is 0 or above the node's port count.
     OutPort,
-    /// No cable is in the packet's outgoing port or, unless the packet waits at a seat, in the port where it waits.
+    /// There is no cable in the packet's outgoing port or, unless the packet waits at a seat, in the port where it
+    /// waits.
     Down,
     /// The bytes are not a packet.
     Unreadable,
@@ -39,11 +41,12 @@ impl From<DiscardReason> for Reason {
 /// What a delivery did.
 #[derive(Clone, Copy, Debug, PartialEq, Eq)]
 pub enum Delivered {
-    /// The packet, with this serial number, moved to the other end of a cable.
+    /// The packet moved to the other end of a cable. It keeps its serial number, which is this one.
     Moved(u64),
     /// The agent answered the request, and the answer waits with this serial number.
     Answered(u64),
-    /// The packet was handed up at this port. An answer is handed up even if no manager sits there.
+    /// The packet was handed up to the subnet manager at this port. An answer is handed up even if no manager sits
+    /// there.
     ToManager(NodePort, Packet),
     /// The packet was discarded.
     Discarded(Reason),

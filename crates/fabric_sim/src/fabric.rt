@@ -11,8 +11,8 @@ use smp_bytes::Lid;
 use std::collections::VecDeque;
 use std::marker::Model;
 
-/// A simulated fabric. Contracts see the agents, the other ends of the cables, the packets in flight, the next serial
-/// number, and the traps that wait.
+/// A simulated fabric. Contracts see the agents, the other ends of the cables in the ports, the packets in flight,
+/// the next serial number, and the traps that wait.
 #[derive(Drop)]
 pub struct Fabric {
     pub(crate) agents: Vec<Agent>,
@@ -100,7 +100,7 @@ impl Fabric {
         }
     }
 
-    /// Returns the agent of `node`, which must exist.
+    /// Returns the agent of `node`. The fabric must have this node.
     pub(crate) fn agent_in(&self, node: NodeId) -> &Agent
         requires { node < length self.now.agents }
         ensures { agent_at self.now node ≡ Some result.now }
@@ -128,7 +128,7 @@ impl Fabric {
         }
     }
 
-    /// Returns the base LID of `port`, or 0 if `port` has none or does not exist.
+    /// Returns the base LID of `port`, or 0 if the port has none or does not exist.
     pub(crate) fn base_lid(&self, port: &NodePort) -> Lid
         ensures { result ≡ (fabric_of self.now).base_lid port.now }
     {

@@ -6,15 +6,15 @@ use thiserror::Error;
 /// Why a fabric refuses a call. A refused call leaves the fabric as it was.
 #[derive(Clone, Copy, Debug, PartialEq, Eq, Error)]
 pub enum FabricFault {
-    /// No packet in flight has the serial number.
+    /// No packet in flight has the given serial number.
     #[error("NoSuchPacket")]
     NoSuchPacket,
-    /// The port does not exist, or the call cannot use it. `seat` needs an adapter's port from 1 on, and `inject` needs
-    /// a seat. `plug` needs ports from 1 on, and `cut` needs a port with a cable. `ping` needs a port from 1 on, or a
-    /// switch's port 0.
+    /// The port does not exist, or the call cannot use it. `seat` needs an adapter's port from 1 on, and `inject`
+    /// needs a seat. `plug` needs ports from 1 on, and `cut` needs a port with a cable. `ping` needs a port from 1
+    /// on, or port 0 of a switch.
     #[error("NoSuchPort")]
     NoSuchPort,
-    /// A subnet manager sits at the port, or a cable is in the port.
+    /// A subnet manager sits at the port already (`seat`), or there is a cable in the port already (`plug`).
     #[error("PortTaken")]
     PortTaken,
     /// Memory ran out.

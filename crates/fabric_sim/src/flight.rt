@@ -8,7 +8,7 @@ use fabric_model::NodePort;
 /// Where a packet in flight waits.
 #[derive(Clone, Copy, Debug, PartialEq, Eq)]
 pub enum Whereabouts {
-    /// At a seat, from which the packet or the request that it answers was sent.
+    /// At a seat. The packet, or the request that it answers, was sent from there.
     Seat(NodePort),
     /// At a port where the packet arrived by a wire.
     Arrived(NodePort),
@@ -40,7 +40,7 @@ impl Whereabouts {
         matches!(*self, Whereabouts::Arrived(_))
     }
 
-    /// Returns where the answer to a request that waited at `self` waits.
+    /// Returns where an answer waits if its request waited as `self` says.
     pub(crate) fn answer_whereabouts(&self) -> Whereabouts
         ensures { result ≡ answer_whereabouts self.now }
     {
@@ -54,7 +54,7 @@ impl Whereabouts {
 /// A packet in flight.
 #[derive(Clone, Copy, Debug, PartialEq, Eq)]
 pub struct Flight {
-    /// The serial number, which no other packet has or had.
+    /// The serial number. No other packet has it or had it.
     pub serial: u64,
     /// Where the packet waits.
     pub whereabouts: Whereabouts,
@@ -65,7 +65,7 @@ pub struct Flight {
 impl Flight {
     ghost use Rattle.fabric_sim.specs.Delivery.{envelope_of};
 
-    /// Returns everything about the packet except its bytes.
+    /// Returns everything about the packet in flight except the bytes.
     pub(crate) fn envelope(&self) -> Envelope
         ensures { result ≡ envelope_of self.now }
     {

@@ -33,9 +33,9 @@ impl Fabric {
             .ok()
     }
 
-    /// Adds `packet`, which waits at `whereabouts`, to the packets in flight, and returns its serial number. A packet
-    /// must be able to wait at `whereabouts`. Returns `SerialsSpent` if no serial number is left, and `Memory` if
-    /// memory runs out.
+    /// Adds `packet`, which waits as `whereabouts` says, to the packets in flight, and returns its serial number. A
+    /// packet must be able to wait there (`CanWait`). Returns `SerialsSpent` if no serial number is left, or `Memory`
+    /// if memory runs out.
     pub(crate) fn enqueue(
         &mut self,
         whereabouts: Whereabouts,
@@ -59,8 +59,9 @@ impl Fabric {
         Ok(serial)
     }
 
-    /// Replaces the packet at index `i` among the packets in flight by `packet`, which waits at `whereabouts` and keeps
-    /// the serial number. This number must be `serial`, and a packet must be able to wait at `whereabouts`.
+    /// Replaces the packet at index `i` among the packets in flight by `packet`, which waits as `whereabouts` says
+    /// and keeps the serial number. This number must be `serial`, and a packet must be able to wait there
+    /// (`CanWait`).
     pub(crate) fn move_to(
         &mut self,
         i: usize,
@@ -79,7 +80,8 @@ impl Fabric {
         };
     }
 
-    /// Removes the packet at index `i` among the packets in flight. The packet's serial number must be `serial`.
+    /// Removes the packet at index `i` among the packets in flight. There must be one, and its serial number must be
+    /// `serial`.
     pub(crate) fn remove(&mut self, i: usize, serial: u64)
         requires { IsFlightAt self.old.flights i serial }
         ensures { self.new ≡ without self.old serial }
@@ -87,7 +89,7 @@ impl Fabric {
         self.flights.remove(i);
     }
 
-    /// Loses the packet in flight with the serial number `serial`. Does not allocate.
+    /// Removes the packet in flight with the serial number `serial`, which is lost. Does not allocate.
     ///
     /// # Errors
     ///
@@ -109,8 +111,8 @@ impl Fabric {
     ///
     /// # Errors
     ///
-    /// Returns `NoSuchPacket` if no packet in flight has the serial number `serial`, `SerialsSpent` if no serial number
-    /// is left, and `Memory` if memory runs out.
+    /// Returns `NoSuchPacket` if no packet in flight has the serial number `serial`. Otherwise returns `SerialsSpent`
+    /// if no serial number is left, or `Memory` if memory runs out.
     #[tactic(auto, unfolding(crate::specs::Changes::after_repeat))]
     pub fn repeat(&mut self, serial: u64) -> Result<u64, FabricFault>
         ensures { ComesTo result self.old self.new (after_repeat self.old serial) }

@@ -16,12 +16,12 @@ const LID_ROUTED: u8 = 0x01;
 
 impl Fabric {
     /// Sends `packet` from the seat `from`, and returns the packet's serial number. If switches forward the packet by
-    /// LIDs, its SLID becomes the LID of `from`, or 0 if `from` has none.
+    /// LIDs, its SLID becomes the base LID of `from`, or 0 if `from` has none.
     ///
     /// # Errors
     ///
-    /// Returns `NoSuchPort` if no manager sits at `from`, `SerialsSpent` if no serial number is left, and `Memory` if
-    /// memory runs out.
+    /// Returns `NoSuchPort` if no manager sits at `from`. Otherwise returns `SerialsSpent` if no serial number is
+    /// left, or `Memory` if memory runs out.
     #[tactic(auto, unfolding(crate::specs::Changes::after_inject))]
     pub fn inject(&mut self, from: NodePort, packet: Packet) -> Result<u64, FabricFault>
         ensures { ComesTo result self.old self.new (after_inject self.old from packet) }
@@ -33,7 +33,7 @@ impl Fabric {
         self.enqueue(Whereabouts::Seat(from), packet)
     }
 
-    /// Returns `packet`, with the LID of the port `from` as its SLID if switches forward the packet by LIDs.
+    /// Returns `packet`, with the base LID of the port `from` as its SLID if switches forward the packet by LIDs.
     fn addressed(&self, from: &NodePort, packet: Packet) -> Packet
         ensures { result ≡ addressed self.now from.now packet }
     {

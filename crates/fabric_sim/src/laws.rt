@@ -4,34 +4,34 @@ ghost use Rattle.fabric_sim.specs.SeenFabric.{SimulationsAreFabrics};
 ghost use Rattle.fabric_sim.specs.ThereAndBack.{ThereAndBack};
 ghost use Rattle.fabric_sim.specs.TrapLaws.{RepressesEndTraps};
 
-/// What packets see of a simulated fabric is a fabric: nodes of 1 to 254 ports, and cables that join two ports or loop
-/// one.
+/// What packets see of a simulated fabric is a fabric: its nodes have 1 to 254 ports, and each cable joins two ports
+/// or loops one.
 pub fn simulations_are_fabrics()
     ensures { SimulationsAreFabrics }
 {}
 
-/// What a ping says is true: if it reaches a port, the packet is delivered there over as many wires as the ping says,
-/// and if it is lost at a node, the packet is lost there.
+/// What a ping reports is true. If it reports a port, the packet is delivered there, over as many wires as the ping
+/// says. If it reports a loss at a node, the packet is lost there.
 pub fn pings_tell()
     ensures { PingsTell }
 {}
 
-/// If a packet is delivered at a port, its ping reaches that port, over as many wires as the packet takes.
+/// If a packet is delivered at a port, a ping reports this port, and as many wires as the packet takes.
 pub fn pings_find()
     ensures { PingsFind }
 {}
 
-/// If a directed request for an attribute other than SMInfo goes over a path of n ports that has an end and is empty or
-/// begins with the sender's port, the end's agent answers delivery n + 1 of the request, and delivery n + 1 of the
-/// answer hands the answer up at the sender's port, whatever else is called, as long as neither packet is lost, no
-/// cable changes and serial numbers are left.
+/// A directed request for an attribute other than SMInfo goes over a path of n ports, at most 63, that has an end and
+/// is empty or begins with the sender's port. Neither the request nor its answer is lost, no cable changes, and
+/// serial numbers are left. Then the agent at the end answers delivery n + 1 of the request. Delivery n + 1 of the
+/// answer hands the answer up at the sender's port. Any other calls may come between.
 #[tactic(auto, using(crate::proofs::TripEnds::there_and_back))]
 pub fn there_and_back()
     ensures { ThereAndBack }
 {}
 
-/// A LID-routed TrapRepress that has arrived at its switch, at a port with a cable, is discarded by its delivery, with
-/// no answer, and ends the trap with its TransactionID there, and no other trap.
+/// If a LID-routed TrapRepress has arrived at its switch, at a port with a cable, its delivery discards it without an
+/// answer. The trap with its TransactionID no longer waits there, and no other trap ends.
 pub fn represses_end_traps()
     ensures { RepressesEndTraps }
 {}

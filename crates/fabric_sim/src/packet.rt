@@ -1,12 +1,12 @@
 use smp_bytes::Lid;
 
-/// A packet with its source and destination LIDs. On a directed route, both are the permissive LID.
+/// A packet with its source and destination LIDs. If the packet is on a directed route, both are the permissive LID.
 #[derive(Clone, Copy, Debug, PartialEq, Eq)]
 pub struct Packet {
-    /// The 256 bytes of a subnet management packet; they may be anything.
+    /// The 256 bytes of the packet. They may be any bytes, even such as are not a subnet management packet.
     pub bytes: [u8; 256],
-    /// The LID of the packet's sender.
+    /// The source LID, that of the sender.
     pub slid: Lid,
-    /// The LID that the packet is for.
+    /// The destination LID, that which the packet is for.
     pub dlid: Lid,
 }

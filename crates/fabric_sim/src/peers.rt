@@ -21,7 +21,8 @@ impl Model for Peers {
 }
 
 impl Peers {
-    /// Creates the list for a node with the ports 1 to `ports` and no cable. Returns an error if memory runs out.
+    /// Creates the list for a node with the ports 1 to `ports`, without any cable. Returns an error if memory runs
+    /// out.
     pub(crate) fn new(alloc: Global, ports: u8) -> Result<Peers, AllocError>
         ensures { IfOk result (λ peers. peers ≡ replicate (ports + 1) None) }
     {

@@ -11,8 +11,8 @@ impl Fabric {
     ///
     /// # Errors
     ///
-    /// Returns `NoSuchPort` if `at` is not a port from 1 to the port count of an adapter. Otherwise returns `PortTaken`
-    /// if a manager sits there.
+    /// Returns `NoSuchPort` if `at` is not a port from 1 to the port count of an adapter. Otherwise returns
+    /// `PortTaken` if a manager sits there already.
     #[tactic(auto, using(crate::proofs::AgentLists::within_agents), unfolding(crate::specs::Changes::after_seat))]
     pub fn seat(&mut self, at: NodePort) -> Result<(), FabricFault>
         ensures fabric { self.new ≡ (after_seat self.old at).fabric }

@@ -33,8 +33,8 @@ impl Fabric {
     }
 
     /// Tells the agent of `node` that the state of one of its ports has changed. If the node is a switch and switches
-    /// send traps, a new trap waits there, in place of any other. The trap is sent if it can leave and a serial number
-    /// is left.
+    /// send traps, a new trap waits there, in place of any other, and is sent if it can leave and a serial number is
+    /// left.
     ///
     /// # Errors
     ///
@@ -52,8 +52,8 @@ impl Fabric {
         Ok(())
     }
 
-    /// Sends the trap that waits at `node`, if a trap waits there. The trap is not sent if the node has no LID, its
-    /// table has no port with a cable for the manager's LID, or no serial number is left.
+    /// Sends the trap that waits at `node`, if a trap waits there. Does not send it if the node has no LID, if its
+    /// table has no port with a cable for the manager's LID, or if no serial number is left.
     ///
     /// # Errors
     ///
@@ -83,7 +83,7 @@ impl Fabric {
         }
     }
 
-    /// Makes a new trap wait at `node`, in place of any other. `node` must have room for a trap.
+    /// Makes a new trap wait at `node`, in place of any other. There must be a slot for a trap at `node`.
     fn add_trap(&mut self, node: NodeId)
         requires { node < length self.old.traps.waiting }
         ensures { self.new ≡ with_traps self.old (with_new_trap self.old.traps node) }
@@ -98,8 +98,8 @@ impl Fabric {
         self.traps.has_room(node) && self.is_switch_at(node)
     }
 
-    /// Returns the port through which the trap of `node` leaves. Returns `None` if the node has no LID, its table has
-    /// no port for the manager's LID, or no cable is in the port.
+    /// Returns the port through which the trap of `node` leaves. Returns `None` if the node has no LID, if its table
+    /// has no port for the manager's LID, or if there is no cable in that port.
     fn trap_out(&self, node: NodeId) -> Option<NodePort>
         ensures out { result ≡ trap_out self.now node }
         ensures port { IfSome result (λ out. is_cable_port self.now out ≡ true) }
@@ -114,7 +114,8 @@ impl Fabric {
         }
     }
 
-    /// Returns the trap of `node` as a packet from the node's LID to the manager's. Its TransactionID is `number`.
+    /// Returns the trap of `node` with the TransactionID `number`, as a packet from the node's LID to the manager's
+    /// LID.
     fn trap_packet(&self, node: NodeId, number: u64) -> Packet
         ensures { result ≡ trap_packet self.now node number }
     {
@@ -126,7 +127,7 @@ impl Fabric {
         }
     }
 
-    /// Returns the LID of the subnet manager that was set at port 0 of `node`, or 0 if none was set.
+    /// Returns the LID that was set at port 0 of `node` as the subnet manager's, or 0 if none was set.
     fn master_lid(&self, node: NodeId) -> Lid
         ensures { result ≡ master_lid self.now node }
     {

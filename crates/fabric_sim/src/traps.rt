@@ -6,7 +6,7 @@ use fabric_model::NodeId;
 use std::alloc::{AllocError, Global};
 use std::marker::Model;
 
-/// The traps that wait at nodes until they are repressed. At most one waits at a node.
+/// The traps that wait at nodes until they are repressed. At most one trap waits at each node.
 #[derive(Drop)]
 pub(crate) struct Traps {
     /// For each node the TransactionID of the trap that waits there, or `None`. The list is empty while switches send
@@ -35,8 +35,8 @@ impl Traps {
         }
     }
 
-    /// Makes room for a trap at each of `nodes` nodes, so that switches send traps. Does nothing if switches send traps
-    /// already. Returns an error if memory runs out.
+    /// Reserves a slot for a trap at each of `nodes` nodes, so that switches send traps from now on. Does nothing if
+    /// switches send traps already. Returns an error if memory runs out.
     pub(crate) fn begin(&mut self, alloc: Global, nodes: usize) -> Result<(), AllocError>
         ensures ok { OnOk result (self.new ≡ begun self.old nodes) }
         ensures err { OnErr result (self.new ≡ self.old) }
@@ -47,7 +47,7 @@ impl Traps {
         Ok(())
     }
 
-    /// Returns whether there is room for a trap at `node`: switches send traps, and the node exists.
+    /// Returns whether there is a slot for a trap at `node`: switches send traps, and the node exists.
     pub(crate) fn has_room(&self, node: NodeId) -> bool
         ensures { result ≡ nat_lt node (length self.now.waiting) }
     {
@@ -61,14 +61,14 @@ impl Traps {
         self.waiting.get(node.number()).copied().flatten()
     }
 
-    /// Returns the TransactionID of the next trap: one more than the last, or 0 after the greatest.
+    /// Returns the TransactionID of the next trap: one more than the last one, or 0 after 2^64 - 1.
     pub(crate) fn next(&self) -> u64
         ensures { result ≡ next_trap self.now }
     {
         self.last.wrapping_add(1)
     }
 
-    /// Makes a new trap wait at `node`, in place of any that waits there. The list must have room for a trap at `node`.
+    /// Makes a new trap wait at `node`, in place of any that waits there. There must be a slot for a trap at `node`.
     pub(crate) fn add(&mut self, node: NodeId)
         requires { node < length self.old.waiting }
         ensures { self.new ≡ with_new_trap self.old node }

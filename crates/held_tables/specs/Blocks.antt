@@ -1,4 +1,4 @@
--- The held blocks with one number, a row for each switch.
+-- The held blocks with the same number, as rows: one for each switch.
 use Rattle.std.specs.Prelude.{◌≡◌, ◌<◌, ℕ, List, [], Option, length, slice_index_or, slice_set}
 use Rattle.std.specs.Option.{option_map_or}
 use Rattle.held_tables.specs.declared.held.HeldBlock.{HeldBlock}
@@ -10,8 +10,8 @@ pub record AreBlank (count : ℕ) (rows : List (List ℕ)) : Type 0 where
   pub as_many : length rows ≡ count
   pub entry : (index i : ℕ) → slice_index_or (slice_index_or rows index []) i 255 ≡ 255
 
--- `rows` has a row for each held switch, in order: the entries of its block `number`, and 255 for an entry that is not
--- held
+-- `rows` has a row for each held switch, in order. The row has the entries of the switch's block with the number
+-- `number`, and 255 for an entry that is not held
 pub record AreBlocks (held : HeldPlan) (number : ℕ) (rows : List (List ℕ)) : Type 0 where
   pub as_many : length rows ≡ length held.switches
   pub entry : (index i : ℕ) → index < length rows → slice_index_or (slice_index_or rows index []) i 255

@@ -1,4 +1,4 @@
--- What a plan's text says: who holds which LID, and the forwarding tables of switches.
+-- Held tables, as a text of tables or a plan gives them: who holds which LID, and the forwarding tables of switches.
 use Rattle.std.specs.Prelude.{ℕ, ◌+◌, ◌^◌, List, [], map}
 use Rattle.std.specs.List.{range_with_len}
 use Rattle.held_tables.specs.declared.held.HeldLid.{HeldLid}
@@ -20,7 +20,7 @@ pub record LidRange : Type 0 where
   pub first : HeldLid
   pub lmc : ℕ
 
--- the LID `step` after `first`, held by the same end port
+-- the LID that is `step` above that of `first`, held by the same end port
 abbrev pub lid_at : HeldLid → ℕ → HeldLid
 lid_at first step = record { lid = first.lid + step; port = first.port }
 

@@ -1,11 +1,11 @@
--- What is held after one more line of a text of tables.
+-- The tables after one more line of a text of tables.
 use Rattle.std.specs.Prelude.{◌-◌, [], ◌∷◌, ◌++◌, length}
 use Rattle.held_tables.specs.declared.held_item.HeldItem.{HeldItem}
 use Rattle.held_tables.specs.declared.held_item.HeldItem.TheVariants.{Nothing, Lid, Switch, Block}
 use Rattle.held_tables.specs.Held.{HeldPlan, lids_of}
 
--- the tables held after a line that says an item, if `held` is held before the line; a block belongs to the last switch
--- of `held`
+-- the tables after a line that says the given item, where `held` are the tables before the line; a block belongs to
+-- the last switch of `held`
 abbrev pub held_with : HeldPlan → HeldItem → HeldPlan
 held_with held Nothing = held
 held_with held (Lid range) = record held { lids = held.lids ++ lids_of range }

@@ -1,4 +1,4 @@
--- What a plan holds, as the lines of its text say it: LIDs, switches and blocks.
+-- The tables of a plan, as the lines of its text give them: LIDs, switches and blocks.
 use Rattle.std.specs.Prelude.{ℕ, suc, ◌+◌, List, [], ◌∷◌, ◌++◌, map, Option, option_map}
 use Rattle.std.specs.Option.{option_map_or}
 use Rattle.std.specs.List.{enumerate_from, filter_map, flat_map}
@@ -20,7 +20,7 @@ range_from given lid port = record { first = record { lid = lid; port = port }; 
 abbrev pub owned_range : Given → ℕ → Option LidRange
 owned_range given lid = option_map (range_from given lid) (owner_of given lid)
 
--- each LID of each end port with a LID, in ascending order of first LID, with its end port
+-- each LID of each end port that has LIDs, with this end port; the end ports are in ascending order of first LID
 abbrev pub owned_lids : Given → List HeldLid
 owned_lids given = flat_map lids_of (filter_map (owned_range given) (rising_lids given))
 
@@ -38,8 +38,8 @@ blocks_of index (table ∷ tables) = blocks_from index 0 table.blocks ++ blocks_
 abbrev pub with_top : ℕ → SwitchTable → HeldSwitch
 with_top top table = record { guid = table.guid; top = top }
 
--- the tables that `plan` holds: the LIDs with their owners, and the switches with their blocks and the greatest LID as
--- their top; empty if there is no LID
+-- the tables of `plan`: the LIDs with their owners, and the switches with their blocks and with the greatest LID as
+-- their top; empty if the plan has no LID
 abbrev pub held_plan : PlanValue → HeldPlan
 held_plan plan =
     option_map_or (λ top. record {
@@ -48,6 +48,6 @@ held_plan plan =
       blocks = blocks_of 0 plan.tables;
     }) (top_of plan.given) nothing_held
 
--- the tables of the plan of `facts`, under `lmc` and by `rule`
+-- the tables of the plan that `rule` makes of `facts` under the LMC `lmc`
 abbrev pub planned : ℕ → RuleValue → Facts → HeldPlan
 planned lmc rule facts = held_plan (plan_of rule lmc (cells_of facts))

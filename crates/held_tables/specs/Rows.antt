@@ -3,11 +3,12 @@ use Rattle.std.specs.Prelude.{ℕ, ◌+◌, ◌-◌, List, ◌++◌, length, rep
 use Rattle.held_tables.specs.declared.far_end.Far.{Far}
 use Rattle.held_tables.specs.declared.far_end.Far.TheVariants.{Nothing, Switch, Port}
 
--- `fars`, filled up to `count` ports; the ports added have no wire
+-- `fars`, extended to `count` ports; the added ports have no wire
 abbrev pub padded : ℕ → List Far → List Far
 padded count fars = fars ++ replicate (count - length fars) Nothing
 
--- the number of ports up to the last wired one of ports 0 to `port`; `count` is this number for the ports before `port`
+-- among ports 0 to `port`, the number of ports up to the last one that has a wire; `count` is this number for the
+-- ports before `port`
 abbrev pub wired_more : Far → ℕ → ℕ → ℕ
 wired_more Nothing port count = count
 wired_more (Switch index) port count = port + 1

@@ -7,8 +7,9 @@ use Rattle.held_tables.specs.Switches.{all_begin, first_switch, sender_of, wired
 use Rattle.held_tables.specs.declared.senders.Sender.{Sender}
 use Rattle.held_tables.specs.declared.wired_switch.WiredSwitch.{WiredSwitch}
 
--- the fields of a subnet are those of `cells`: the usable switches in ascending order of GUID, the end ports, the end
--- ports as senders, the first switch that each sender's packets reach, and whether each sender's packets reach one
+-- the fields of a subnet fit `cells`: its usable switches in ascending order of GUID, its end ports, these end ports
+-- as senders, the first switch that the packets of each sender reach, and whether the packets of each sender reach a
+-- switch
 pub record IsSubnet (cells : Cells) (guids : List ℕ) (wired : List WiredSwitch) (ports : List EndPort)
     (sources : List Sender) (firsts : List (Option ℕ)) (begin : Bool) : Type 0 where
   pub guids_are : guids ≡ switches cells

@@ -7,11 +7,11 @@ use Rattle.held_tables.specs.declared.held.HeldBlock.{HeldBlock}
 use Rattle.held_tables.specs.declared.held.HeldLid.{HeldLid}
 use Rattle.held_tables.specs.Held.{HeldPlan}
 
--- `e` and `x` are the same end port: node and port are equal
+-- whether `e` and `x` are the same end port: they have the same node and the same port
 abbrev pub is_same_end : EndPort → EndPort → Bool
 is_same_end e x = x.node == e.node && x.port == e.port
 
--- `x` and `y` have the same LID and the same end port
+-- whether `x` and `y` have the same LID and the same end port
 abbrev pub is_same_line : HeldLid → HeldLid → Bool
 is_same_line x y = y.lid == x.lid && is_same_end x.port y.port
 
@@ -32,7 +32,7 @@ holders lines lid = map (λ x. x.port) (filter (λ x. x.lid == lid) lines)
 abbrev pub owners_of : HeldPlan → ℕ → List EndPort
 owners_of held lid = holders (lines_of held) lid
 
--- `e` is one of `owners`
+-- whether `e` is one of `owners`
 abbrev pub is_owner : List EndPort → EndPort → Bool
 is_owner owners e = list_any (is_same_end e) owners
 
@@ -40,7 +40,7 @@ is_owner owners e = list_any (is_same_end e) owners
 abbrev pub index_of : HeldPlan → ℕ → Option ℕ
 index_of held g = position (λ s. s.guid == g) held.switches
 
--- the top of the held switch at `index`, 0 if there is none
+-- the top of the held switch at `index`; 0 if there is no index or no such switch
 abbrev pub top_at : HeldPlan → Option ℕ → ℕ
 top_at held index = option_map_or (λ s. s.top) (option_and_then (slice_get held.switches) index) 0
 
@@ -48,15 +48,16 @@ top_at held index = option_map_or (λ s. s.top) (option_and_then (slice_get held
 abbrev pub number_of : HeldBlock → ℕ
 number_of x = x.number
 
--- `x` is the block `number` of the switch at `index`
+-- whether `x` is the block with the number `number` of the switch at `index`
 abbrev pub is_block_of : ℕ → ℕ → HeldBlock → Bool
 is_block_of index number x = x.switch == index && x.number == number
 
--- the last block `number` of the switch at `index`, None if there is none; an accepted text has at most one
+-- the last block with the number `number` of the switch at `index`; None if there is none. An accepted text has at
+-- most one such block
 abbrev pub block_at : HeldPlan → ℕ → ℕ → Option HeldBlock
 block_at held index number = find (is_block_of index number) (reverse held.blocks)
 
--- the entry at `i` in `block`, 255 if there is no block or no such entry in it
+-- the entry at index `i` of `block`; 255 if there is no block, or no such entry in it
 abbrev pub entry_in : Option HeldBlock → ℕ → ℕ
 entry_in block i = option_map_or (λ x. slice_index_or x.entries i 255) block 255
 
@@ -64,7 +65,7 @@ entry_in block i = option_map_or (λ x. slice_index_or x.entries i 255) block 25
 abbrev pub entry_at : HeldPlan → Option ℕ → ℕ → ℕ
 entry_at held index lid = option_map_or (λ k. entry_in (block_at held k (lid / 64)) (lid % 64)) index 255
 
--- the top of switch `g`; 0 if `g` is not held
+-- the top of switch `g` in the held tables; 0 if `g` is not one of the held switches
 abbrev pub top_of : HeldPlan → ℕ → ℕ
 top_of held g = top_at held (index_of held g)
 

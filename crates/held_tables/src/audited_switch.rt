@@ -8,22 +8,23 @@ use crate::wired_switch::WiredSwitch;
 use smp_bytes::{Guid, Lid};
 use std::alloc::{AllocError, Global};
 
-/// A usable switch, with the far ends of its wires and what the held tables say of it.
+/// A usable switch, with the far ends of its wires, and with its index and its top in the held tables.
 #[derive(Drop)]
 pub struct AuditedSwitch {
     /// The node GUID of the switch.
     pub guid: Guid,
     /// The far ends of the wires in the switch's ports.
     pub row: FarEnds,
-    /// The index of the switch among the held switches, or `None` if the switch is not held.
+    /// The index of the switch among the held switches, or `None` if the held tables do not have the switch.
     pub index: Option<usize>,
-    /// The held top of the switch: the greatest LID for which it uses its table. 0 if the switch is not held.
+    /// The held top of the switch, which is the greatest LID for which it uses its table; 0 if the held tables do not
+    /// have the switch.
     pub top: Lid,
-    /// The switch's port count, without port 0.
+    /// The switch's port count. Port 0 is not counted.
     pub ports: u8,
 }
 
-/// Returns `switches` with what `held` says of them, in their order.
+/// Returns `switches` in their order, each with its index and its top in `held`.
 pub(crate) fn nodes(
     alloc: Global,
     switches: &[WiredSwitch],
@@ -38,7 +39,7 @@ pub(crate) fn nodes(
     Ok(nodes)
 }
 
-/// Returns `switch` with what `held` says of it.
+/// Returns `switch` with its index and its top in `held`.
 fn node_at(alloc: Global, switch: &WiredSwitch, held: &Held) -> Result<AuditedSwitch, AllocError>
     ensures { IfOk result (λ node. node ≡ node_by held.now switch.now) }
 {
@@ -64,7 +65,7 @@ pub fn index_of(held: &Held, guid: Guid) -> Option<usize>
         .position(|switch| switch.guid == guid)
 }
 
-/// Returns the top of the held switch at `index`, or 0 if there is no such switch.
+/// Returns the top of the held switch at `index`, or 0 if `index` is `None` or there is no such switch.
 pub fn top_at(held: &Held, index: Option<usize>) -> Lid
     ensures { result ≡ top_at held.now index }
 {

@@ -1,4 +1,4 @@
-//! Chains of equal numbers in a list: for each index, the index of the next occurrence of the number there.
+//! Chains of equal numbers in a list: for each index, the index of the next occurrence of the number at this index.
 ghost use Rattle.std.specs.Prelude.{◌≡◌, ◌<◌, ◌+◌, IfOk, length, replicate, slice_index_or};
 ghost use Rattle.held_tables.specs.Chains.{AreChains, IsNext};
 
@@ -7,9 +7,10 @@ use std::alloc::{AllocError, Global};
 /// The chains of a list of numbers: the index of each number's first occurrence, and of each item's next one.
 #[derive(Drop)]
 pub struct Chains {
-    /// For each number, the index of its first occurrence, or the list's length if it does not occur.
+    /// For each number, the index of its first occurrence, or the length of the list if it does not occur.
     pub firsts: Vec<usize>,
-    /// For each index, the index of the next occurrence of the number there, or the list's length if there is none.
+    /// For each index, the index of the next occurrence of the number at this index, or the length of the list if
+    /// there is none.
     pub nexts: Vec<usize>,
 }
 

@@ -14,7 +14,7 @@ pub enum Far {
     Nothing,
     /// The wire leads to the usable switch with this index, in ascending order of GUID.
     Switch(usize),
-    /// The wire leads to this port. Its node is no usable switch.
+    /// The wire leads to this port, whose node is not a usable switch.
     Port(EndPort),
 }
 
@@ -48,8 +48,8 @@ pub(crate) fn far_of(wires: &Wires, guids: &[Guid], node: Guid, port: PortNum) -
     }
 }
 
-/// Returns the index of `guid` in `guids`, or `None` if `guid` is not there. `guids` must rise strictly. Does a binary
-/// search.
+/// Returns the index of `guid` in `guids`, or `None` if `guid` is not there. `guids` must be in ascending order,
+/// without repetitions. Does a binary search.
 pub(crate) fn index(guids: &[Guid], guid: Guid) -> Option<usize>
     requires { IsStrictlyIncreasing guids.now }
     ensures { result ≡ index_in guids.now guid }
@@ -57,7 +57,7 @@ pub(crate) fn index(guids: &[Guid], guid: Guid) -> Option<usize>
     guids.binary_search(&guid).ok()
 }
 
-/// Returns the index of the usable switch at the far end `far` of a wire, or `None` if there is none.
+/// Returns the index of the usable switch at the far end `far` of a wire, or `None` if `far` is not a usable switch.
 pub(crate) fn switch_over(far: Far) -> Option<usize>
     ensures { result ≡ switch_over far }
 {

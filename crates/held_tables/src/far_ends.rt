@@ -36,7 +36,7 @@ impl FarEnds {
     }
 
     /// Returns the index of the usable switch at the far end of the wire in `port`. Returns `None` if `port` has no
-    /// wire, or if its wire leads to no usable switch. Takes constant time.
+    /// wire, or if its wire does not lead to a usable switch. Takes constant time.
     pub fn switch(&self, port: u8) -> Option<usize>
         ensures { result ≡ switch_over (slice_index_or self.now port Far.Nothing) }
     {
@@ -62,8 +62,8 @@ fn far_at(fars: &[Far], port: u8) -> Far
     }
 }
 
-/// Returns the index of the usable switch that the item of `fars` at `port` leads to. Returns `None` if the item leads
-/// to no usable switch, or if there is no such item.
+/// Returns the index of the usable switch that the item of `fars` at `port` leads to. Returns `None` if the item does
+/// not lead to a usable switch, or if there is no such item.
 fn switch_at(fars: &[Far], port: u8) -> Option<usize>
     ensures { result ≡ switch_over (slice_index_or fars.now port Far.Nothing) }
 {
@@ -89,8 +89,8 @@ pub(crate) fn row_of(
     Ok(FarEnds { fars })
 }
 
-/// Returns the far ends of the wires in ports 0 to 254 of `node`, by port. `guids` must list the GUIDs of the usable
-/// switches in ascending order.
+/// Returns the far ends of the wires in ports 0 to 254 of `node`, in the order of the ports. `guids` must list the
+/// GUIDs of the usable switches in ascending order.
 fn all_fars(
     alloc: Global,
     wires: &Wires,
@@ -116,7 +116,7 @@ fn shortened(alloc: Global, fars: &[Far]) -> Result<Vec<Far>, AllocError>
     Vec::from_slice(alloc, &fars[..count])
 }
 
-/// Returns the number of ports from port 0 up to the last one that has a wire, or 0 if none has.
+/// Returns the number of ports from port 0 up to the last one that has a wire, or 0 if no port has a wire.
 fn wired(fars: &[Far]) -> usize
     ensures within { result ≤ length fars.now }
     ensures others { fars.now ≡ take result fars.now ++ replicate (length fars.now - result) Far.Nothing }
@@ -128,8 +128,9 @@ fn wired(fars: &[Far]) -> usize
     count
 }
 
-/// Returns the number of ports from port 0 up to the last one that has a wire, among ports 0 to `port`. `count` is this
-/// number for the ports before `port`, and `far` the far end of the wire in `port`. `port` must be below 2^64 - 1.
+/// Returns, among ports 0 to `port`, the number of ports from port 0 up to the last one that has a wire. `count` must
+/// be this number for the ports before `port`, and `far` the far end of the wire in `port`. `port` must be below 2^64
+/// - 1.
 fn wired_more(far: &Far, port: usize, count: usize) -> usize
     requires { port < 2 ^ 64 - 1 }
     ensures { result ≡ wired_more far.now port count }

@@ -41,7 +41,8 @@ pub struct HeldBlock {
     pub entries: [u8; 64],
 }
 
-/// What a text of tables says: the LIDs that end ports hold, and the forwarding tables of switches.
+/// Tables, as a text of tables or a plan gives them: the LIDs that end ports hold, and the forwarding tables of
+/// switches.
 #[derive(Drop)]
 pub struct Held {
     lids: Vec<HeldLid>,
@@ -62,7 +63,7 @@ impl Model for Held {
 }
 
 impl Held {
-    /// Returns tables without a line.
+    /// Returns empty tables, without any LID or switch.
     pub fn new(alloc: Global) -> Self
         ensures { result ≡ nothing_held }
     {
@@ -73,8 +74,9 @@ impl Held {
         }
     }
 
-    /// Returns the tables of `plan`: its LIDs with their end ports, and its switches with their blocks. The top of each
-    /// switch is the greatest LID. If `plan` has no LID, the tables are empty. The plan's text is read as these tables.
+    /// Returns the tables of `plan`: its LIDs with their end ports, and its switches with their blocks. The top of
+    /// each switch is the greatest LID of `plan`. If `plan` has no LID, the tables are empty. The plan's text is read
+    /// as these tables.
     pub fn of_plan(alloc: Global, plan: &Plan) -> Result<Self, AllocError>
         ensures { IfOk result (λ held. held ≡ held_plan plan.now) }
     {
@@ -98,7 +100,7 @@ impl Held {
         Ok(Held::of(lids, switches, blocks))
     }
 
-    /// Builds tables from LIDs with the end ports that hold them, switches and blocks.
+    /// Builds tables from `lids`, which are LIDs with the end ports that hold them, and from switches and blocks.
     pub fn of(lids: Vec<HeldLid>, switches: Vec<HeldSwitch>, blocks: Vec<HeldBlock>) -> Self
         ensures { result ≡ record { lids = lids.items; switches = switches.items; blocks = blocks.items } }
     {
@@ -131,8 +133,8 @@ impl Held {
         &self.blocks
     }
 
-    /// Returns the tables with one more line, which says `item`. A block belongs to the last switch before its line, or
-    /// has the switch index 0 if there is none.
+    /// Returns the tables with one more line, which says `item`. A block belongs to the last switch before its line,
+    /// or has the switch index 0 if there is no switch before it.
     pub fn with(self, item: HeldItem) -> Result<Self, AllocError>
         ensures { IfOk result (λ held. held ≡ held_with self item) }
     {
@@ -162,7 +164,7 @@ impl Held {
     }
 }
 
-/// Appends the LIDs of `range`, each with the end port that holds it.
+/// Appends the LIDs of `range` to `lids`, each with the end port that holds it.
 fn push_range(lids: &mut Vec<HeldLid>, range: HeldRange) -> Result<(), AllocError>
     ensures { OnOk result (lids.new.items ≡ lids.old.items ++ lids_of range) }
 {
@@ -170,8 +172,8 @@ fn push_range(lids: &mut Vec<HeldLid>, range: HeldRange) -> Result<(), AllocErro
     push_lids(lids, &first, lmc)
 }
 
-/// Appends the 2^`lmc` LIDs from that of `first` on, each with the end port of `first`. The LID of `first` must be
-/// below 49,152.
+/// Appends to `lids` the 2^`lmc` LIDs from the LID of `first` on, each with the end port of `first`. The LID of
+/// `first` must be below 49,152.
 pub(crate) fn push_lids(
     lids: &mut Vec<HeldLid>,
     first: &HeldLid,

@@ -1,4 +1,4 @@
-//! The held LIDs, with the end ports that hold each.
+//! The held LIDs, each with an end port that holds it.
 ghost use Rattle.std.specs.Prelude.{◌≡◌, IfOk};
 ghost use Rattle.held_tables.specs.Tables.{lines_of};
 
@@ -6,8 +6,8 @@ use crate::held::{Held, HeldLid};
 use std::alloc::{AllocError, Global};
 use std::collections::BTreeSet;
 
-/// Returns the held LIDs in the order of the lines. Each pair of a LID and an end port that holds it occurs once, at
-/// its first line. Takes time logarithmic in the number of lines for each line.
+/// Returns the held LIDs, each with an end port that holds it, in the order of the lines. Of equal lines, only the
+/// first is returned. Takes time logarithmic in the number of lines for each line.
 pub fn lines_of(alloc: Global, held: &Held) -> Result<Vec<HeldLid>, AllocError>
     ensures { IfOk result (λ lines. lines.items ≡ lines_of held.now) }
 {

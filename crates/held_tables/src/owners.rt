@@ -9,7 +9,7 @@ use smp_bytes::Lid;
 use std::alloc::{AllocError, Global};
 use subnet_view::EndPort;
 
-/// Who holds a LID by a list of distinct lines.
+/// Who holds a LID, according to a list of lines, each a LID and an end port. The lines must differ.
 #[derive(Clone, Copy, Debug, PartialEq, Eq)]
 pub enum Owner {
     /// No end port.
@@ -23,8 +23,8 @@ pub enum Owner {
 /// One more than the greatest LID that an end port can hold.
 const LIDS: usize = Lid::UNICAST_END as usize;
 
-/// Returns who holds each LID below 49,152 by `lines`. A line that occurs twice counts as two end ports. Takes time
-/// linear in the number of `lines`, plus 49,152.
+/// Returns who holds each LID below 49,152, according to `lines`. A line that occurs twice counts as two end ports.
+/// Takes time linear in the number of `lines`, plus 49,152.
 pub fn lid_owners(alloc: Global, lines: &[HeldLid]) -> Result<Vec<Owner>, AllocError>
     ensures { IfOk result (λ owners. AreOwners lines.now owners.items) }
 {
@@ -58,9 +58,9 @@ fn owner_more(owner: Owner, port: EndPort) -> Owner
     }
 }
 
-/// Returns the end ports that hold `lid` by `lines`. Each item of `owners` must say who holds its LID by `lines`. Takes
-/// constant time if `owners` has an item for `lid` and it is not `Several`. Otherwise takes time linear in the number
-/// of `lines`.
+/// Returns the end ports that hold `lid` according to `lines`. Each item of `owners` must say who holds its LID
+/// according to `lines`. Takes constant time if `owners` has an item for `lid` and this item is not `Several`.
+/// Otherwise takes time linear in the number of `lines`.
 pub fn owners_of(
     alloc: Global,
     lines: &[HeldLid],
@@ -77,7 +77,7 @@ pub fn owners_of(
     }
 }
 
-/// Returns who holds `lid` by `owners`, or `Several` if `owners` has no item for `lid`.
+/// Returns who holds `lid` according to `owners`, or `Several` if `owners` has no item for `lid`.
 fn owner_at(owners: &[Owner], lid: Lid) -> Owner
     ensures { result ≡ slice_index_or owners.now lid Several }
 {
@@ -87,8 +87,8 @@ fn owner_at(owners: &[Owner], lid: Lid) -> Owner
     }
 }
 
-/// Returns the end port that alone holds `lid` by `owners`. Returns `None` if nobody or several end ports hold `lid`,
-/// or if `owners` has no item for `lid`. Takes constant time.
+/// Returns the only end port that holds `lid`, according to `owners`. Returns `None` if no end port holds `lid` or
+/// several do, or if `owners` has no item for `lid`. Takes constant time.
 pub fn sole_owner(owners: &[Owner], lid: Lid) -> Option<EndPort>
     ensures { result ≡ sole_among (slice_index_or owners.now lid Several) }
 {
@@ -98,7 +98,7 @@ pub fn sole_owner(owners: &[Owner], lid: Lid) -> Option<EndPort>
     }
 }
 
-/// Returns a list of `port` alone.
+/// Returns the list that has only `port`.
 fn one(alloc: Global, port: EndPort) -> Result<Vec<EndPort>, AllocError>
     ensures { IfOk result (λ ports. ports.items ≡ port ∷ []) }
 {
@@ -107,7 +107,7 @@ fn one(alloc: Global, port: EndPort) -> Result<Vec<EndPort>, AllocError>
     Ok(ports)
 }
 
-/// Returns the end ports that hold `lid` by `lines`. Takes time linear in the number of `lines`.
+/// Returns the end ports that hold `lid` according to `lines`. Takes time linear in the number of `lines`.
 fn all_owners_of(alloc: Global, lines: &[HeldLid], lid: Lid) -> Result<Vec<EndPort>, AllocError>
     ensures { IfOk result (λ owners. owners.items ≡ holders lines.now lid) }
 {
@@ -118,8 +118,9 @@ fn all_owners_of(alloc: Global, lines: &[HeldLid], lid: Lid) -> Result<Vec<EndPo
         .collect(alloc)
 }
 
-/// Returns whether more than one of `lines` is for `lid`. Each item of `owners` must say who holds its LID by `lines`.
-/// Takes constant time if `owners` has an item for `lid`, and otherwise time linear in the number of `lines`.
+/// Returns whether more than one of `lines` is for `lid`. Each item of `owners` must say who holds its LID according
+/// to `lines`. Takes constant time if `owners` has an item for `lid`, and otherwise time linear in the number of
+/// `lines`.
 pub fn has_several_owners(lines: &[HeldLid], owners: &[Owner], lid: Lid) -> bool
     requires { AreOwners lines.now owners.now }
     ensures { result ≡ has_several_owners lines.now lid }
@@ -147,9 +148,9 @@ fn is_told_twice_by(lines: &[HeldLid], lid: Lid) -> bool
     1 < lines.iter().filter(|line| line.lid == lid).count()
 }
 
-/// Returns whether no end port other than that of `line` holds the LID of `line`, by `lines`. Each item of `owners`
-/// must say who holds its LID by `lines`. Takes constant time if `owners` has an item for the LID and it is not
-/// `Several`. Otherwise takes time linear in the number of `lines`.
+/// Returns whether, according to `lines`, no end port other than that of `line` holds the LID of `line`. Each item of
+/// `owners` must say who holds its LID according to `lines`. Takes constant time if `owners` has an item for the LID
+/// and this item is not `Several`. Otherwise takes time linear in the number of `lines`.
 pub fn is_sole_owner(lines: &[HeldLid], owners: &[Owner], line: &HeldLid) -> bool
     requires { AreOwners lines.now owners.now }
     ensures { result ≡ is_sole line.now.port (holders lines.now line.now.lid) }
@@ -161,8 +162,8 @@ pub fn is_sole_owner(lines: &[HeldLid], owners: &[Owner], line: &HeldLid) -> boo
     }
 }
 
-/// Returns whether no end port other than that of `line` holds the LID of `line`, by `lines`. Takes time linear in the
-/// number of `lines`.
+/// Returns whether, according to `lines`, no end port other than that of `line` holds the LID of `line`. Takes time
+/// linear in the number of `lines`.
 fn is_sole_of_all(lines: &[HeldLid], line: &HeldLid) -> bool
     ensures { result ≡ is_sole line.now.port (holders lines.now line.now.lid) }
 {

@@ -10,8 +10,8 @@ use lid_assign::LidMap;
 use smp_bytes::Lid;
 use std::alloc::{AllocError, Global};
 
-/// Returns each LID of `map` with its end port. The LIDs of one end port are together, and end ports are in the order
-/// of their first LIDs.
+/// Returns each LID of `map` with its end port. The LIDs of an end port stand together, and the end ports are in the
+/// order of their first LIDs.
 pub(crate) fn owned_lids(alloc: Global, map: &LidMap) -> Result<Vec<HeldLid>, AllocError>
     ensures { IfOk result (λ lids. lids.items ≡ owned_lids map.now) }
 {
@@ -22,8 +22,8 @@ pub(crate) fn owned_lids(alloc: Global, map: &LidMap) -> Result<Vec<HeldLid>, Al
     Ok(lids)
 }
 
-/// Appends as many LIDs as the end port that owns `lid` has, from `lid` on, each with this end port. Appends none if no
-/// end port owns `lid`.
+/// Appends to `lids` as many LIDs, from `lid` on, as the end port that owns `lid` has, each with this end port.
+/// Appends none if no end port owns `lid`.
 fn push_owned(lids: &mut Vec<HeldLid>, map: &LidMap, lid: Lid) -> Result<(), AllocError>
     ensures { OnOk result (lids.new.items
         ≡ lids.old.items ++ option_map_or lids_of (owned_range map.now lid) []) }
@@ -61,8 +61,8 @@ pub(crate) fn blocks_of(alloc: Global, tables: &[Table]) -> Result<Vec<HeldBlock
     Ok(blocks)
 }
 
-/// Appends the blocks of `table` as those of the switch at index `switch`. The first block has number 0. `table` must
-/// have at most 1024 blocks.
+/// Appends the blocks of `table` to `blocks`, as those of the switch at index `switch`. The first block has number 0.
+/// `table` must have at most 1024 blocks.
 fn push_blocks(
     blocks: &mut Vec<HeldBlock>,
     switch: usize,

@@ -13,13 +13,14 @@ use subnet_view::{EndPort, Wires};
 pub struct Sender {
     /// The end port.
     pub port: EndPort,
-    /// The index of the port's node among the usable switches, or `None` if the node is no usable switch.
+    /// The index of the port's node among the usable switches, or `None` if the node is not a usable switch.
     pub switch: Option<usize>,
     /// The far end of the wire in the port, or `Nothing` if the port has no wire.
     pub far: Far,
 }
 
-/// Returns `ports` as senders, in order. `guids` must list the GUIDs of the usable switches in ascending order.
+/// Returns the end ports `ports` as senders, in their order. `guids` must list the GUIDs of the usable switches in
+/// ascending order.
 pub(crate) fn sources(
     alloc: Global,
     wires: &Wires,
@@ -42,7 +43,8 @@ pub(crate) fn sources(
     Ok(sources)
 }
 
-/// Returns, for each of `sources`, the index of the first switch that its packets reach, or `None` if they reach none.
+/// Returns, for each of `sources`, the index of the first switch that its packets reach, or `None` if they reach no
+/// switch.
 pub(crate) fn firsts(alloc: Global, sources: &[Sender]) -> Result<Vec<Option<usize>>, AllocError>
     ensures { IfOk result (λ firsts. firsts.items ≡ map first_switch sources.now) }
 {
@@ -52,7 +54,7 @@ pub(crate) fn firsts(alloc: Global, sources: &[Sender]) -> Result<Vec<Option<usi
         .collect(alloc)
 }
 
-/// Returns the index of the first switch that the packets of `source` reach, or `None` if they reach none.
+/// Returns the index of the first switch that the packets of `source` reach, or `None` if they reach no switch.
 fn first_switch(source: &Sender) -> Option<usize>
     ensures { result ≡ first_switch source.now }
 {

@@ -15,7 +15,7 @@ use std::alloc::{AllocError, Global};
 use std::marker::Model;
 use subnet_view::{EndPort, Wires, end_ports, switches};
 
-/// A subnet as a view describes it: its usable switches, its wires and its end ports.
+/// A subnet, as a view of facts describes it: its usable switches, its wires and its end ports.
 #[derive(Drop)]
 pub struct Subnet<'s> {
     wires: Wires<'s>,
@@ -27,7 +27,7 @@ pub struct Subnet<'s> {
     ports: Vec<EndPort>,
     /// The end ports as senders, in their order.
     sources: Vec<Sender>,
-    /// For each sender, the index of the first switch that its packets reach, or `None` if they reach none.
+    /// For each sender, the index of the first switch that its packets reach, or `None` if they reach no switch.
     firsts: Vec<Option<usize>>,
     /// Whether the packets of each sender reach a switch.
     begin: bool,
@@ -71,7 +71,7 @@ impl<'s> Subnet<'s> {
         })
     }
 
-    /// Returns the store, whose view says what the subnet is.
+    /// Returns the store whose view describes the subnet.
     pub fn store(&self) -> &Store
         ensures { result.now ≡ self.now }
     {
@@ -106,8 +106,8 @@ impl<'s> Subnet<'s> {
         &self.sources
     }
 
-    /// Returns, for each sender in order, the index of the first switch that its packets reach, or `None` if they reach
-    /// none.
+    /// Returns, for each sender in order, the index of the first switch that its packets reach, or `None` if they
+    /// reach no switch.
     pub fn firsts(&self) -> &[Option<usize>]
         ensures { result.now
             ≡ map first_switch (map (sender_of (cells_of self.now)) (end_ports (cells_of self.now))) }
@@ -123,8 +123,9 @@ impl<'s> Subnet<'s> {
         self.begin
     }
 
-    /// Returns the far end of the wire in port `number` % 256 of the usable switch at index `number` / 256, in
-    /// ascending order of GUID. Returns `Nothing` if there is no such wire or no such switch. Takes constant time.
+    /// Returns the far end of the wire in port `number` % 256 of the usable switch at index `number` / 256, where
+    /// switches are in ascending order of GUID. Returns `Nothing` if there is no such wire or no such switch. Takes
+    /// constant time.
     pub fn far(&self, number: usize) -> Far
         ensures { result ≡ far_by (cells_of self.now) number }
     {
@@ -134,7 +135,7 @@ impl<'s> Subnet<'s> {
         }
     }
 
-    /// Returns the usable switches in ascending order of GUID, each with what `held` says of it.
+    /// Returns the usable switches in ascending order of GUID, each with its index and its top in `held`.
     pub fn audited(&self, alloc: Global, held: &Held) -> Result<Vec<AuditedSwitch>, AllocError>
         ensures { IfOk result (λ nodes.
             nodes.items ≡ map (node_of (cells_of self.now) held.now) (switches (cells_of self.now))) }

@@ -15,12 +15,12 @@ pub struct WiredSwitch {
     pub guid: Guid,
     /// The far ends of the wires in the switch's ports.
     pub row: FarEnds,
-    /// The switch's port count, without port 0.
+    /// The switch's port count. Port 0 is not counted.
     pub ports: u8,
 }
 
-/// Returns the switches `guids`, in order, with the far ends of their wires. `guids` must list the GUIDs of the usable
-/// switches in ascending order.
+/// Returns the switches with the GUIDs `guids`, in order, each with the far ends of its wires and its port count.
+/// `guids` must list the GUIDs of the usable switches in ascending order.
 pub(crate) fn wired_switches(
     alloc: Global,
     wires: &Wires,
@@ -36,8 +36,8 @@ pub(crate) fn wired_switches(
     Ok(wired)
 }
 
-/// Returns the switch `guid` with the far ends of its wires. `guids` must list the GUIDs of the usable switches in
-/// ascending order.
+/// Returns the switch `guid` with the far ends of its wires and its port count. `guids` must list the GUIDs of the
+/// usable switches in ascending order.
 fn wired_switch(
     alloc: Global,
     wires: &Wires,

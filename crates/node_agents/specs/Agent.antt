@@ -1,4 +1,4 @@
--- The agent of a node: how it begins, and what it holds.
+-- The agent of a node: how it begins, and what it keeps.
 use Rattle.std.specs.Prelude.{◌≡◌, ◌≢◌, ℕ, ◌+◌, ◌*◌, ◌/◌, ◌^◌, ◌<◌, ◌≤◌, ◌⊎◌, Bool, true, false, List, All, length, replicate, slice_index_or, slice_set, ◌∷◌, if◌then◌else◌}
 use Rattle.smp_bytes.specs.declared.node_type.NodeType.{NodeType}
 use Rattle.smp_bytes.specs.NodeType as types
@@ -9,7 +9,7 @@ use Rattle.attr_codec.specs.declared.port_state.PortState.TheVariants.{NoChange,
 use Rattle.node_agents.specs.declared.agent_node.AgentNode.{AgentNode}
 use Rattle.node_agents.specs.declared.port.Port.{Port}
 
--- what an agent holds: `node` is its node as it was built, and `ports` has its ports from port 0 on. `table` is its
+-- what an agent keeps: `node` is its node, as it was built, and `ports` has its ports from port 0 on. `table` is its
 -- forwarding table in whole blocks of 64 entries, and empty at an adapter. `top` is the greatest LID that the node
 -- forwards
 pub record Agent : Type 0 where
@@ -20,7 +20,7 @@ pub record Agent : Type 0 where
 
 -- what is read of an agent -----------------------------------------------------------------
 
--- the agent's node is a switch
+-- whether the agent's node is a switch
 abbrev pub is_switch : Agent → Bool
 is_switch a = types.is_switch a.node.kind
 
@@ -44,7 +44,7 @@ base_lid_at a port = (port_at a port).base_lid
 abbrev pub lmc_at : Agent → ℕ → ℕ
 lmc_at a port = (port_at a port).lmc
 
--- the LID of the subnet manager that was set at a port; 0 if none was set
+-- the LID that was set at a port as the subnet manager's; 0 if none was set
 abbrev pub master_sm_lid_at : Agent → ℕ → ℕ
 master_sm_lid_at a port = (port_at a port).master_sm_lid
 
@@ -52,11 +52,11 @@ master_sm_lid_at a port = (port_at a port).master_sm_lid
 abbrev pub range_at : Agent → ℕ → ℕ × ℕ
 range_at a port = (base_lid_at a port, lmc_at a port)
 
--- `lid` is one of the LIDs of a port
+-- whether `lid` is one of the LIDs of a port
 abbrev pub owns : Agent → ℕ → ℕ → Bool
 owns a port lid = is_lid_of (base_lid_at a port) (lmc_at a port) lid
 
--- a subnet manager sits at the port
+-- whether a subnet manager sits at the port
 abbrev pub has_seat : Agent → ℕ → Bool
 has_seat a port = (port_at a port).is_sm
 
@@ -101,7 +101,7 @@ after_set_seat a port = with_port a port (record (port_at a port) { is_sm = true
 
 -- how an agent begins ----------------------------------------------------------------------
 
--- the number of blocks of 64 entries in a table with room for `cap` entries
+-- the number of blocks of 64 entries in a table of `cap` entries
 abbrev pub block_count : ℕ → ℕ
 block_count cap = (cap + 63) / 64
 
@@ -116,7 +116,7 @@ fresh_agent node =
       top = 0;
     }
 
--- `node` can be built: its GUID and the GUID of each of its ports have 64 bits, and it has 1 to 254 ports. Only a
+-- `node` can be built: its GUID and the GUID of each of its ports fit in 64 bits, and it has 1 to 254 ports. Only a
 -- switch has a table, of at most 49,152 entries
 pub record IsAgentNode (node : AgentNode) : Type 0 where
   pub guid : node.guid < 2 ^ 64
@@ -133,7 +133,7 @@ pub record IsPort (kind : NodeType) (port : Port) : Type 0 where
   pub is_sm : types.is_switch kind ≡ true → port.is_sm ≡ false
 
 -- what holds of each agent: its node can be built, and has a description of 64 bytes. The agent has the node's ports
--- and port 0, which is Active at a switch. Its table has whole blocks, and its top is 0 or below the table's room
+-- and port 0, which is Active at a switch. Its table has whole blocks, and its top is 0 or below the table size
 pub record IsAgent (a : Agent) : Type 0 where
   pub node : IsAgentNode a.node
   pub description : length a.node.description ≡ 64

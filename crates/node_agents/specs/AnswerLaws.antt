@@ -1,4 +1,4 @@
--- What an answer is, what it leaves of the agent, and what an accepted Set does.
+-- What an answer is, what it leaves unchanged in the agent, and what an accepted Set does.
 use Rattle.std.specs.Prelude.{◌≡◌, ◌≢◌, ◌↔◌, ◌⊎◌, ℕ, ◌+◌, ◌*◌, ◌<◌, ◌≤◌, Bool, true, false, List, length, slice_index, None, Some}
 use Rattle.smp_bytes.specs.Header.{get, set, done, node_info, switch_info, port_info, linear_forwarding_table}
 use Rattle.smp_bytes.specs.Field.{number_in, bytes_in, bits_in}
@@ -17,7 +17,7 @@ use Rattle.node_agents.specs.Answers.{after_request, status_told, payload_told, 
 
 -- agents stay agents --------------------------------------------------------------------
 
--- in `new` the node, which ports are Down, and the subnet managers' seats are as in `old`
+-- `new` has the same node as `old`, the same ports are Down, and subnet managers sit at the same ports
 pub record KeepsShape (old new : Agent) : Type 0 where
   pub node : new.node ≡ old.node
   pub down : (port : ℕ) → (state_at new port ≡ Down) ↔ (state_at old port ≡ Down)
@@ -27,7 +27,7 @@ pub record KeepsShape (old new : Agent) : Type 0 where
 abbrev pub AnsweredKeepsShape : Type 0
 AnsweredKeepsShape = (a : Agent) (packet : List ℕ) (arrival : ℕ) → KeepsShape a (after_answer a packet arrival).agent
 
--- an agent stays an agent, whatever it answers
+-- an agent keeps the invariant of agents (`IsAgent`), whatever it answers
 abbrev pub AnsweredIsAgent : Type 0
 AnsweredIsAgent =
     (a : Agent) (packet : List ℕ) (arrival : ℕ) → IsAgent a → IsAgent (after_answer a packet arrival).agent
@@ -61,8 +61,8 @@ RefusalsChangeNothing =
 
 -- what is said ------------------------------------------------------------------------------
 
--- PortInfo says `number` as the state of the port that `modifier` and `arrival` mean: the number of a state other than
--- no change, which is Down exactly if that port is Down
+-- `number`, which PortInfo reports as the state of the port that `modifier` and `arrival` mean, is the number of a
+-- state. This state is not "no change", and is Down exactly when that port is Down
 pub record SaysPort (a : Agent) (modifier arrival number : ℕ) : Type 0 where
   pub port : ℕ
   pub meant : port_meant a modifier arrival ≡ Some port
@@ -71,13 +71,14 @@ pub record SaysPort (a : Agent) (modifier arrival number : ℕ) : Type 0 where
   pub known : state ≢ NoChange
   pub down : (state ≡ Down) ↔ (state_at a port ≡ Down)
 
--- SwitchInfo says `cap` as the number of entries that the switch's forwarding table has room for
+-- the node is a switch, and `cap`, which SwitchInfo reports, is the size of its forwarding table
 pub record SaysSwitch (a : Agent) (cap : ℕ) : Type 0 where
   pub kind : is_switch a ≡ true
   pub cap_is : cap ≡ a.node.cap
 
--- what an answer says by its attribute, NodeInfo, PortInfo or SwitchInfo, is true of its agent; of a port's state, only
--- whether it is Down. `arrival` is the port at which the request arrived
+-- what the attribute of an answer, if it is NodeInfo, PortInfo or SwitchInfo, says of its agent is true. Of PortInfo
+-- this covers only whether the port is Down, and of SwitchInfo only the size of the table. `arrival` is the port at
+-- which the request arrived
 pub record Says (a : Agent) (arrival : ℕ) (answer : List ℕ) : Type 0 where
   pub node : number_in attribute_id answer ≡ node_info → node_info_in (bytes_in attribute_data answer)
       ≡ node_info_of a.node arrival
@@ -86,8 +87,8 @@ pub record Says (a : Agent) (arrival : ℕ) (answer : List ℕ) : Type 0 where
   pub switch : number_in attribute_id answer ≡ switch_info
       → SaysSwitch a (number_in linear_fdb_cap (bytes_in attribute_data answer))
 
--- an answer with status 0, to a Get or a Set, says what is true of the node, of which ports are Down, and of table
--- room; LIDs and table entries are not covered. The request arrived at port 0 or a port of the node
+-- if a request arrived at port 0 or a port of the node and its answer has status 0, what the answer says is true.
+-- This covers the node, which ports are Down, and the size of the table, but not LIDs and table entries
 abbrev pub AnswersSay : Type 0
 AnswersSay =
     (a : Agent) (packet : List ℕ) (arrival : ℕ) → IsAgent a → IsPacket packet → arrival ≤ a.node.ports
@@ -95,7 +96,7 @@ AnswersSay =
 
 -- Sets ------------------------------------------------------------------------------------
 
--- the packet sets the attribute `number`, and the agent accepts it: its answer has status 0
+-- the packet is a Set of the attribute `number`, and the agent accepts it: the answer has status 0
 pub record IsTaken (a : Agent) (packet : List ℕ) (arrival number : ℕ) : Type 0 where
   pub agent : IsAgent a
   pub whole : IsPacket packet
@@ -108,8 +109,8 @@ pub record IsAboutTheSame (p q : List ℕ) : Type 0 where
   pub attribute : number_in attribute_id p ≡ number_in attribute_id q
   pub modifier : number_in attribute_modifier p ≡ number_in attribute_modifier q
 
--- a Get right after a Set that was accepted returns what the answer to the Set returned. The Get has the attribute and
--- the modifier of the Set. Both arrived at the port `arrival`
+-- if a Set was accepted, a Get right after it returns what the answer to the Set returned. The Get has the attribute
+-- and the modifier of the Set, and both arrived at the port `arrival`
 abbrev pub GetsTellAsSets : Type 0
 GetsTellAsSets =
     (a : Agent) (p q : List ℕ) (arrival number : ℕ) → IsTaken a p arrival number → IsPacket q → number_in method q ≡ get
@@ -118,14 +119,15 @@ GetsTellAsSets =
     ≡ bytes_in attribute_data (after_answer a p arrival).packet
 
 -- `told`, the block that the answer returns, is `payload`, and `after` has these entries in its table as the block
--- `block`; nothing else of the agent changes
+-- `block`; nothing else in the agent changes
 pub record SetsBlock (a after : Agent) (block : ℕ) (payload told : List ℕ) : Type 0 where
   pub is_told : told ≡ payload
   pub inside : (i : ℕ) → i < 64 → entry_at after (64 * block + i) ≡ slice_index payload i
   pub outside : (lid : ℕ) → (lid < 64 * block) ⊎ (64 * block + 64 ≤ lid) → entry_at after lid ≡ entry_at a lid
   pub all_else : after ≡ record a { table = after.table }
 
--- if a Set of a block is accepted, the block is returned, and is in the table at its offset; nothing else changes
+-- if a Set of a forwarding block is accepted, the answer returns this block, and the table has it at its offset;
+-- nothing else changes
 abbrev pub BlocksAreSet : Type 0
 BlocksAreSet =
     (a : Agent) (packet : List ℕ) (arrival : ℕ) → IsTaken a packet arrival linear_forwarding_table
@@ -133,12 +135,13 @@ BlocksAreSet =
     (bytes_in attribute_data packet)
     (bytes_in attribute_data (after_answer a packet arrival).packet)
 
--- `told`, which the answer returns, has the top of `payload`, and `after` is `a` with this top
+-- `told`, the SwitchInfo that the answer returns, has the top in `payload`, and `after` is `a` with this top
 pub record SetsTop (a after : Agent) (payload told : List ℕ) : Type 0 where
   pub is_told : number_in linear_fdb_top told ≡ number_in linear_fdb_top payload
   pub all_else : after ≡ record a { top = number_in linear_fdb_top payload }
 
--- if a Set of SwitchInfo is accepted, its top is returned, and the agent has it; nothing else changes
+-- if a Set of SwitchInfo is accepted, the answer returns the top in the Set, and the agent has this top; nothing else
+-- changes
 abbrev pub TopsAreSet : Type 0
 TopsAreSet =
     (a : Agent) (packet : List ℕ) (arrival : ℕ) → IsTaken a packet arrival switch_info
@@ -146,8 +149,8 @@ TopsAreSet =
     (bytes_in attribute_data (after_answer a packet arrival).packet)
 
 -- if `port` has a LID of its own, its LID and LMC afterwards are those of `payload`, and `told` returns them. `told`
--- returns the state in `payload` too, unless that is 0 (no change). No other port changes, and nothing of the agent
--- except its ports
+-- returns the state in `payload` too, unless that is 0 (no change). No other port changes, and nothing in the agent
+-- changes except its ports
 pub record SetsPort (a after : Agent) (port : ℕ) (payload told : List ℕ) : Type 0 where
   pub lids : has_lid a port ≡ true → range_at after port ≡ range_in payload
   pub lids_told : has_lid a port ≡ true → range_in told ≡ range_in payload
@@ -155,9 +158,9 @@ pub record SetsPort (a after : Agent) (port : ℕ) (payload told : List ℕ) : T
   pub others : (index : ℕ) → index ≢ port → port_at after index ≡ port_at a index
   pub all_else : after ≡ record a { ports = after.ports }
 
--- an accepted Set of PortInfo sets the LID and the LMC of the port that it is about, if this port has a LID of its own.
--- The answer returns this LID and LMC, and a state other than 0. No other port changes, and nothing of the agent except
--- its ports. The request arrived at port 0 or a port of the node
+-- an accepted Set of PortInfo sets the LID and the LMC of the port that it is about, if this port has a LID of its
+-- own. The answer returns this LID and LMC, and the state in the Set unless that is 0 (no change). No other port
+-- changes, and nothing in the agent changes except its ports. The request arrived at port 0 or a port of the node
 abbrev pub PortsAreSet : Type 0
 PortsAreSet =
     (a : Agent) (packet : List ℕ) (arrival port : ℕ) → arrival ≤ a.node.ports → IsTaken a packet arrival port_info
@@ -167,8 +170,9 @@ PortsAreSet =
 
 -- from outside ------------------------------------------------------------------------------
 
--- a fresh agent is an agent if its node can be built and has a description of 64 bytes. An agent stays one if a port
--- from 1 on is wired or unwired, or a subnet manager is seated at a port of an adapter
+-- a fresh agent satisfies the invariant of agents (`IsAgent`) if its node can be built and has a description of 64
+-- bytes. An agent keeps this invariant if a port from 1 on is wired or unwired, or a subnet manager is seated at a
+-- port of an adapter
 pub record AgentsAreMade : Type 0 where
   pub fresh : (node : AgentNode) → IsAgentNode node → length node.description ≡ 64 → IsAgent (fresh_agent node)
   pub wired : (a : Agent) (port : ℕ) (is_wired : Bool) → IsAgent a → 1 ≤ port

@@ -1,5 +1,5 @@
--- What an agent answers to a request that arrives at one of its ports, and what it holds afterwards.
--- InfiniBand Architecture Specification, Volume 1: subnet management class, methods and attributes.
+-- What an agent answers to a request that arrives at one of its ports, and the agent afterwards. InfiniBand
+-- Architecture Specification, Volume 1: subnet management class, methods and attributes.
 use Rattle.std.specs.Prelude.{◌≡◌, ℕ, ◌&&◌, ◌==◌, List, if◌then◌else◌, Result, Ok, Err}
 use Rattle.std.specs.Option.{ok_or}
 use Rattle.smp_bytes.specs.Header.{get, set, node_description, node_info, switch_info, port_info, linear_forwarding_table, done}
@@ -36,8 +36,8 @@ set_attribute a attribute modifier arrival payload =
     else if is_switch a && attribute == linear_forwarding_table then ok_or (set_block a modifier payload) InvalidField
     else Err MethodAndAttribute
 
--- a call accepts a Set as `after` says, and leaves the agent `new` that `after` has; or it refuses the Set for the
--- reason in `after`, and leaves the agent `old`
+-- a call accepts a Set, and leaves the agent `new`, which is the one in `after`; or it refuses the Set for the reason
+-- in `after`, and leaves the agent `old`
 abbrev pub Takes : {T : Type 0} → Result T Refusal → Agent → Agent → Result Agent Refusal → Type 0
 Takes (Ok _) old new after = after ≡ Ok new
 Takes (Err refusal) old new after = (after ≡ Err refusal) × (new ≡ old)
@@ -76,12 +76,12 @@ abbrev pub status_told : Result (List ℕ) Refusal → ℕ
 status_told (Ok payload) = done
 status_told (Err refusal) = status_of refusal
 
--- the attribute in an answer; for a refusal, it is the request's attribute
+-- the attribute in the answer to the request `packet`; for a refusal, it is the attribute in the request
 abbrev pub payload_told : Result (List ℕ) Refusal → List ℕ → List ℕ
 payload_told (Ok payload) packet = payload
 payload_told (Err refusal) packet = bytes_in attribute_data packet
 
--- the answer to the request `packet`, by the attribute or the refusal
+-- the answer to the request `packet`, given the attribute or the refusal
 abbrev pub answer_with : List ℕ → Result (List ℕ) Refusal → List ℕ
 answer_with packet told = answer_packet packet (status_told told) (payload_told told packet)
 

@@ -4,15 +4,15 @@ use Rattle.std.specs.Prelude.{ℕ, ◌*◌, Bool, ◌&&◌, List, take, drop, na
 use Rattle.smp_bytes.specs.Field.{with_bytes}
 use Rattle.node_agents.specs.Agent.{Agent}
 
--- `block` is the number of a block of unicast LIDs, up to 767, and begins within the table
+-- whether the block `block` has unicast LIDs, so that its number is at most 767, and begins within the table
 abbrev pub has_block : Agent → ℕ → Bool
 has_block a block = nat_le block 767 && nat_lt (64 * block) a.node.cap
 
--- the 64 entries of the block `block`; None if the table does not have it
+-- the 64 entries of the block `block`; None if the table does not have this block
 abbrev pub get_block : Agent → ℕ → Option (List ℕ)
 get_block a block = if has_block a block then Some (take 64 (drop (64 * block) a.table)) else None
 
--- the agent with all 64 entries of the block `block` set to `payload`; None if the table does not have it
+-- the agent with all 64 entries of the block `block` set to `payload`; None if the table does not have this block
 abbrev pub set_block : Agent → ℕ → List ℕ → Option Agent
 set_block a block payload =
     if has_block a block then Some (record a { table = with_bytes (64 * block) payload a.table }) else None

@@ -20,7 +20,8 @@ port_meant a modifier arrival =
 
 -- Get ---------------------------------------------------------------------------------
 
--- the PortInfo of `port`, for a request that arrived at the port `arrival`; all else is 0
+-- the PortInfo of `port`, for a request that arrived at the port `arrival`. All fields that an agent does not keep
+-- are 0
 abbrev pub port_info_of : Port → ℕ → List ℕ
 port_info_of port arrival =
     with_bits port_state (number_of_state port.state) (with_bits lmc port.lmc (with_bits is_sm_bit (flag port.is_sm)
@@ -28,14 +29,14 @@ port_info_of port arrival =
     ∷ record { field = master_sm_lid; number = port.master_sm_lid }
     ∷ record { field = local_port_num; number = arrival } ∷ []))))
 
--- the PortInfo that a Get returns; None if the modifier means no port
+-- the PortInfo that a Get returns if it arrived at the port `arrival`; None if `modifier` means no port
 abbrev pub get_port_info : Agent → ℕ → ℕ → Option (List ℕ)
 get_port_info a modifier arrival =
     option_map (λ port. port_info_of (port_at a port) arrival) (port_meant a modifier arrival)
 
 -- Set ---------------------------------------------------------------------------------
 
--- the port `port` has a LID of its own: each port of an adapter does, but only port 0 of a switch
+-- whether the port `port` can have a LID of its own: each port of an adapter can, but only port 0 of a switch
 abbrev pub has_lid : Agent → ℕ → Bool
 has_lid a port = not (is_switch a) || port == 0
 
@@ -43,12 +44,12 @@ has_lid a port = not (is_switch a) || port == 0
 abbrev pub max_lmc : Agent → ℕ → ℕ
 max_lmc a port = if is_switch a && port == 0 then 0 else 7
 
--- `wish` is the state that follows `state` in the order Initialize, Armed, Active
+-- whether `wish` is the state that follows `state` in the order Initialize, Armed, Active
 abbrev pub is_next_state : PortState → PortState → Bool
 is_next_state state wish = nat_le 2 (number_of_state state) && number_of_state wish == number_of_state state + 1
 
--- the state of a port in `state` once a Set asked for `wish`: `state`, if `wish` is no change or `state` itself;
--- `wish`, if it is the next state; otherwise None
+-- the state of a port that was in `state`, after a Set that asks for `wish`: `state`, if `wish` is no change or
+-- `state` itself; `wish`, if it is the next state; otherwise None
 abbrev pub state_after : PortState → PortState → Option PortState
 state_after state wish =
     if number_of_state wish == 0 || number_of_state wish == number_of_state state then Some state
@@ -65,12 +66,13 @@ port_with port has_lid payload state =
       state = state;
     }
 
--- a port may have the LIDs that `payload` gives it, and their LMC is at most `max_lmc`
+-- whether a port may have the LIDs that `payload` gives it, and the LMC in `payload` is at most `max_lmc`
 abbrev pub are_lids_taken : ℕ → List ℕ → Bool
 are_lids_taken max_lmc payload =
     nat_le (bits_in lmc payload) max_lmc && may_have (number_in base_lid payload) (bits_in lmc payload)
 
--- the port after a Set; None if it may not have the LIDs of `payload`, or the state that `payload` asks for is refused
+-- `port` after a Set of `payload`; None if it may not have the LIDs or the LMC in `payload`, or if the state that
+-- `payload` asks for is refused
 abbrev pub port_after : Port → Bool → ℕ → List ℕ → Option Port
 port_after port has_lid max_lmc payload =
     if are_lids_taken max_lmc payload

@@ -6,14 +6,15 @@ use Rattle.attr_codec.specs.Image.{image}
 use Rattle.attr_codec.specs.SwitchInfo.{linear_fdb_cap, linear_fdb_top}
 use Rattle.node_agents.specs.Agent.{Agent}
 
--- the SwitchInfo that a Get returns: the number of entries that the table has room for, and the greatest LID that is
--- forwarded; all else is 0
+-- the SwitchInfo that a Get returns: the size of the forwarding table, and the greatest LID that is forwarded; all
+-- else is 0
 abbrev pub get_switch_info : Agent → List ℕ
 get_switch_info a =
     image (record { field = linear_fdb_cap; number = a.node.cap } ∷ record { field = linear_fdb_top; number = a.top }
     ∷ [])
 
--- the agent with the top in `payload`, all else in which is ignored; None if the table has no room for this LID
+-- the agent after it takes its top from `payload` and ignores all else there; None if this LID is not below the size
+-- of the table
 abbrev pub set_switch_info : Agent → List ℕ → Option Agent
 set_switch_info a payload = let top =
     number_in linear_fdb_top payload in if nat_lt top a.node.cap then Some (record a { top = top }) else None

@@ -19,8 +19,8 @@ pub struct Agent {
     pub(crate) node: AgentNode,
     /// The ports, from port 0 on; an adapter's port 0 is not used.
     pub(crate) ports: Vec<Port>,
-    /// The forwarding table in whole blocks: for each LID the outgoing port, or 255 for none. An adapter's table is
-    /// empty.
+    /// The forwarding table, in whole blocks: for each LID the outgoing port, or 255 if it has none. An adapter's
+    /// table is empty.
     pub(crate) table: Vec<u8>,
     /// The greatest LID that a switch forwards; 0 if none was set.
     pub(crate) top: Lid,
@@ -38,8 +38,8 @@ impl Model for Agent {
 }
 
 impl Agent {
-    /// Creates the agent of `node`, with no port wired, no manager seated and nothing written. Returns an error if
-    /// memory runs out. `node` must be one that can be built (`IsAgentNode`). Allocates all of the agent's memory.
+    /// Creates the agent of `node`, with no port wired, no manager seated and nothing written. `node` must be a node
+    /// that can be built (`IsAgentNode`). Returns an error if memory runs out. Allocates all of the agent's memory.
     #[tactic(auto, unfolding(crate::specs::Agent::fresh_agent))]
     pub fn new(alloc: Global, node: AgentNode) -> Result<Agent, AllocError>
         requires { IsAgentNode node }
@@ -82,7 +82,7 @@ impl Agent {
         self.node.is_switch()
     }
 
-    /// Returns the number of the node's ports, 1 to 254, without port 0.
+    /// Returns the number of the node's ports, 1 to 254. Port 0 of a switch is not counted.
     pub fn ports(&self) -> u8
         ensures count { result ≡ self.now.node.ports }
         ensures least { 1 ≤ result }
@@ -91,8 +91,7 @@ impl Agent {
         self.node.ports
     }
 
-    /// Returns LinearFDBCap: the number of entries that the forwarding table has room for, or 0 if the node has no
-    /// table.
+    /// Returns LinearFDBCap: the size of the forwarding table in entries, or 0 if the node has no table.
     pub fn cap(&self) -> u16
         ensures { result ≡ self.now.node.cap }
     {
@@ -106,8 +105,8 @@ impl Agent {
         self.top
     }
 
-    /// Returns the outgoing port that the table has for packets for `lid`, whatever the top is. Returns 255, which is
-    /// no port, if the table has no entry for `lid`.
+    /// Returns the outgoing port that the table has for packets for `lid`, whatever the top is. Returns 255, which
+    /// stands for no port, if the table has no entry for `lid`.
     pub fn entry(&self, lid: Lid) -> PortNum
         ensures { result ≡ entry_at self.now lid }
     {
@@ -134,22 +133,22 @@ impl Agent {
         self.port(port).state
     }
 
-    /// Returns the base LID of `port`, or 0 if none was set, or the node has no such port.
+    /// Returns the base LID of `port`, or 0 if none was set or the node has no such port.
     pub fn base_lid(&self, port: PortNum) -> Lid
         ensures { result ≡ base_lid_at self.now port }
     {
         self.port(port).base_lid
     }
 
-    /// Returns the LMC of `port`, or 0 if none was set, or the node has no such port. A port with a LID has 2^LMC LIDs,
-    /// from its base LID on.
+    /// Returns the LMC of `port`, or 0 if none was set or the node has no such port. A port with a LID has 2^LMC
+    /// LIDs, from its base LID on.
     pub fn lmc(&self, port: PortNum) -> Lmc
         ensures { result ≡ lmc_at self.now port }
     {
         self.port(port).lmc
     }
 
-    /// Returns the LID of the subnet manager that was set at `port`, or 0 if none was set, or the node has no such
+    /// Returns the LID that was set at `port` as the subnet manager's, or 0 if none was set or the node has no such
     /// port.
     pub fn master_sm_lid(&self, port: PortNum) -> Lid
         ensures { result ≡ master_sm_lid_at self.now port }
@@ -203,8 +202,8 @@ impl Agent {
         self.ports[usize::from(port.number())].is_sm = true;
     }
 
-    /// Answers the request `smp` that arrived at the port `arrival`, and applies a Set. A request that is refused
-    /// changes nothing. `arrival` must be from 1 to the port count. Takes constant time.
+    /// Answers the request `smp`, which arrived at the port `arrival`, and applies it if it is a Set. A request that
+    /// is refused changes nothing. `arrival` must be from 1 to the port count. Takes constant time.
     #[tactic(auto, unfolding(crate::specs::Answers::after_answer))]
     pub fn answer(&mut self, smp: &Smp, arrival: PortNum) -> Smp
         requires least { 1 ≤ arrival }

@@ -9,8 +9,8 @@ use crate::refusal::Refusal;
 use crate::{lft_block, node_description, node_info, port_info, switch_info};
 use smp_bytes::{AttributeId, Method, PortNum, Smp};
 
-/// Applies a Set, and returns the attribute in the answer to the request `smp`. If the request is refused, returns the
-/// reason. `arrival`, the port where the request arrived, must be at most the port count.
+/// Handles the request `smp`, which it applies if it is a Set. Returns the attribute of the answer or, if the request
+/// is refused, the reason. `arrival`, the port where the request arrived, must be at most the port count.
 pub(crate) fn handle(agent: &mut Agent, smp: &Smp, arrival: PortNum) -> Result<[u8; 64], Refusal>
     requires { arrival ≤ agent.old.node.ports }
     ensures told { result ≡ (after_request agent.old smp.now arrival).told }

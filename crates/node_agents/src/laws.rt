@@ -3,14 +3,15 @@ ghost use Rattle.node_agents.specs.AnswerLaws.{AgentsAreMade, AnsweredIsAgent, A
 ghost use Rattle.node_agents.specs.AnswerLaws.{AnswersSay, GetsChangeNothing, RefusalsChangeNothing};
 ghost use Rattle.node_agents.specs.AnswerLaws.{GetsTellAsSets, BlocksAreSet, TopsAreSet, PortsAreSet};
 
-/// An agent that is made for a node that can be built, with a description of 64 bytes, is an agent, and stays one if a
-/// port from 1 on is wired or unwired, or a subnet manager is seated at an adapter's port.
+/// If a node can be built and has a description of 64 bytes, the agent that is made for it satisfies the invariant of
+/// agents (`IsAgent`). An agent keeps this invariant if a port from 1 on is wired or unwired, or if a subnet manager
+/// is seated at an adapter's port.
 #[tactic(auto, using(crate::proofs::Made::agents_are_made))]
 pub fn agents_are_made()
     ensures { AgentsAreMade }
 {}
 
-/// An agent stays an agent, whatever it answers.
+/// An agent keeps the invariant of agents (`IsAgent`), whatever it answers.
 #[tactic(auto, using(crate::proofs::Shapes::answered_is_agent))]
 pub fn answered_is_agent()
     ensures { AnsweredIsAgent }
@@ -28,8 +29,8 @@ pub fn answers_hold()
     ensures { AnswersHold }
 {}
 
-/// An answer with status 0, to a Get or a Set that arrived at a port up to the port count, is true of the node: what it
-/// is, whether a port is down, and how many entries its forwarding table has room for.
+/// If the answer to a request that arrived at a port up to the port count has status 0, what it says of the node is
+/// true: what the node is, whether a port is down, and the size of its forwarding table.
 #[tactic(auto, using(crate::proofs::Says::answers_say))]
 pub fn answers_say()
     ensures { AnswersSay }
@@ -47,29 +48,30 @@ pub fn refusals_change_nothing()
     ensures { RefusalsChangeNothing }
 {}
 
-/// A Get right after a Set that is accepted, of the same attribute and modifier and at the same port, returns what the
-/// answer to the Set returned.
+/// If a Set is accepted, a Get right after it, with the same attribute and modifier and at the same port, returns
+/// what the answer to the Set returned.
 pub fn gets_tell_as_sets()
     ensures { GetsTellAsSets }
 {}
 
-/// If a Set of a block is accepted, the answer returns the block, and the table has it at its offset; nothing else
-/// changes.
+/// If a Set of a forwarding block is accepted, the answer returns this block, and the table has it at its offset.
+/// Nothing else changes.
 #[tactic(auto, using(crate::proofs::Sets::blocks_are_set))]
 pub fn blocks_are_set()
     ensures { BlocksAreSet }
 {}
 
-/// If a Set of SwitchInfo is accepted, the answer returns its LinearFDBTop, and the agent has this top; nothing else
-/// changes.
+/// If a Set of SwitchInfo is accepted, the answer returns the LinearFDBTop of the Set, and the agent has this top.
+/// Nothing else changes.
 #[tactic(auto, using(crate::proofs::Sets::tops_are_set))]
 pub fn tops_are_set()
     ensures { TopsAreSet }
 {}
 
-/// If a Set of PortInfo that arrived at a port up to the port count is accepted for a port with a LID of its own, that
-/// port has the LID and the LMC of the Set, and the answer returns them. For any port, the answer returns the state of
-/// the Set unless that is 0 (no change). No other port changes, and nothing of the agent but its ports.
+/// If a Set of PortInfo arrived at a port up to the port count and is accepted, the answer returns the state of the
+/// Set, unless that is 0 (no change). If the port that it is about has a LID of its own, this port has the LID and
+/// the LMC of the Set, and the answer returns them. No other port changes, and nothing in the agent changes except
+/// its ports.
 pub fn ports_are_set()
     ensures { PortsAreSet }
 {}

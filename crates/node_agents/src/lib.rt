@@ -1,4 +1,4 @@
-//! The subnet management agents of simulated switches and channel adapters: what a node holds, and what it answers.
+//! The subnet management agents of simulated switches and channel adapters: what an agent keeps, and what it answers.
 #![tactic(auto)]
 
 mod agent;

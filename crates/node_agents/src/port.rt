@@ -3,14 +3,14 @@ ghost use Rattle.std.specs.Prelude.{◌≡◌};
 use attr_codec::{Lmc, PortState};
 use smp_bytes::Lid;
 
-/// A port's values as its agent holds them.
+/// The values of a port that its agent keeps.
 #[derive(Clone, Copy)]
 pub struct Port {
-    /// The port's base LID, 0 for none.
+    /// The base LID of the port, or 0 if it has none.
     pub(crate) base_lid: Lid,
     /// The LMC: a port with a LID has 2^LMC LIDs, from its base LID on.
     pub(crate) lmc: Lmc,
-    /// The LID of the subnet manager that was set at the port, 0 for none.
+    /// The LID that was set at the port as the subnet manager's, or 0 if none was set.
     pub(crate) master_sm_lid: Lid,
     pub(crate) state: PortState,
     /// IsSM: whether a subnet manager sits at the port.

@@ -19,9 +19,10 @@ pub(crate) fn get(agent: &Agent, modifier: u32, arrival: PortNum) -> Option<[u8;
     Some(info_of(agent.port(port), arrival))
 }
 
-/// Writes the LID, the LMC and the manager's LID of an end port, and the state of any port. Returns whether the Set is
-/// accepted. Writes nothing if a value is refused, or if `modifier` means no port. `arrival` must be at most the port
-/// count.
+/// Applies a Set of `payload` to the port that `modifier` means for a request that arrived at the port `arrival`.
+/// Writes the LID, the LMC and the manager's LID if this is an end port, and the state of any port. Returns whether
+/// the Set is accepted. Writes nothing if a value is refused, or if `modifier` means no port. `arrival` must be at
+/// most the port count.
 pub(crate) fn set(agent: &mut Agent, modifier: u32, arrival: PortNum, payload: &[u8; 64]) -> bool
     requires { arrival ≤ agent.old.node.ports }
     ensures taken { result ≡ is_some (set_port_info agent.old modifier arrival payload.now) }
@@ -37,8 +38,8 @@ pub(crate) fn set(agent: &mut Agent, modifier: u32, arrival: PortNum, payload: &
     }
 }
 
-/// Returns the port that a Set means, with its values after the Set, or `None` if the Set is refused. `arrival` must be
-/// at most the port count.
+/// Returns the port that a Set of `payload` means, with the values of the port after the Set, or `None` if the Set is
+/// refused. `arrival`, the port where the request arrived, must be at most the port count.
 #[tactic(auto, unfolding(crate::specs::PortInfo::changed_port))]
 fn changed_port(
     agent: &Agent,
@@ -116,8 +117,8 @@ fn are_lids_taken(max_lmc: u8, info: &PortInfo) -> bool
     lmc.number() <= max_lmc && may_have(info.base_lid(), lmc)
 }
 
-/// Returns whether a port may have the LID `base` with `lmc`. `base` must be 0, for none, or a multiple of 2^LMC with
-/// 2^LMC unicast LIDs from `base` on.
+/// Returns whether a port may have the LID `base` with `lmc`. It may if `base` is 0, which stands for none, or if
+/// `base` is a multiple of 2^LMC and there are 2^LMC unicast LIDs from `base` on.
 fn may_have(base: Lid, lmc: Lmc) -> bool
     ensures { result ≡ may_have base lmc }
 {
@@ -126,8 +127,8 @@ fn may_have(base: Lid, lmc: Lmc) -> bool
     first == 0 || (first % count == 0 && first + count <= u32::from(Lid::UNICAST_END))
 }
 
-/// Returns `port` after a Set of `payload`, or `None` if a LID, the LMC or the link state is refused. Without
-/// `has_lid`, only the state changes.
+/// Returns `port` after a Set of `payload`, or `None` if the LID, the LMC or the link state is refused. The LMC may
+/// be at most `max_lmc`. Unless `has_lid`, only the state changes.
 fn port_after(port: Port, has_lid: bool, max_lmc: u8, payload: &[u8; 64]) -> Option<Port>
     ensures { result ≡ port_after port has_lid max_lmc payload.now }
 {
@@ -148,8 +149,8 @@ fn port_after(port: Port, has_lid: bool, max_lmc: u8, payload: &[u8; 64]) -> Opt
     })
 }
 
-/// Returns the link state after a Set that asks for `wish`. `wish` must be no change, the present state, or the next
-/// state on the way from Initialize to Active. Returns `None` for any other `wish`.
+/// Returns the link state after a Set that asks for `wish`. Accepts no change, the present state, and the next state
+/// on the way from Initialize to Active. Returns `None` for any other `wish`.
 fn state_after(state: PortState, wish: PortState) -> Option<PortState>
     ensures { result ≡ state_after state wish }
 {

@@ -3,7 +3,7 @@ ghost use Rattle.node_agents.specs.Refusal.{status_of};
 
 use smp_bytes::Status;
 
-/// Why an agent refuses a request. The variants are in the order of checks.
+/// Why an agent refuses a request. The variants are in the order of the checks.
 #[derive(Clone, Copy)]
 pub(crate) enum Refusal {
     /// The method is neither Get nor Set.
@@ -15,7 +15,7 @@ pub(crate) enum Refusal {
 }
 
 impl Refusal {
-    /// Returns the status of the answer to the request that is refused.
+    /// Returns the status of the answer to a request that is refused for this reason.
     pub(crate) fn status(self) -> Status
         ensures number { result.0 ≡ status_of self }
         ensures fits { result.0 < 2 ^ 15 }

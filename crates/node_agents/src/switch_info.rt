@@ -6,7 +6,7 @@ ghost use Rattle.node_agents.specs.SwitchInfo.{get_switch_info, set_switch_info}
 use crate::agent::Agent;
 use attr_codec::{Attribute, SwitchInfo};
 
-/// Returns the attribute for a Get: the number of entries that the table has room for, and the top.
+/// Returns the attribute for a Get: the size of the forwarding table, and the top.
 pub(crate) fn get(agent: &Agent) -> [u8; 64]
     ensures { result ≡ get_switch_info agent.now }
 {
@@ -16,8 +16,8 @@ pub(crate) fn get(agent: &Agent) -> [u8; 64]
     info.encode()
 }
 
-/// Writes the LinearFDBTop in `payload` if it is below LinearFDBCap, and ignores all else in `payload`. Returns whether
-/// it was written.
+/// Writes the LinearFDBTop in `payload` if it is below LinearFDBCap, and ignores all else in `payload`. Returns
+/// whether the top was written.
 pub(crate) fn set(agent: &mut Agent, payload: &[u8; 64]) -> bool
     ensures taken { result ≡ is_some (set_switch_info agent.old payload.now) }
     ensures agent { agent.new ≡ unwrap_or (set_switch_info agent.old payload.now) agent.old }

@@ -14,23 +14,23 @@ use Rattle.packet_walks.specs.HopsByTables.{is_at, next_hop_of}
 use Rattle.held_tables.specs.Owners.{sole_among}
 use Rattle.packet_walks.specs.EndsBySwitch.{IsEndOf, onward}
 
--- the only end port that holds the LID at `index` of the block `number`, by `owners`; None if none or several do, or if
--- `owners` has no entry for the LID
+-- the only end port that holds the LID at `index` of the block `number`, according to `owners`; None if no end port
+-- or several hold it, or if `owners` has no item for the LID
 abbrev pub target_at : List Owner → ℕ → ℕ → Option EndPort
 target_at owners number index = sole_among (slice_index_or owners (64 * number + index) Several)
 
--- the owners of a LID that has at most one: none for None, otherwise the one end port
+-- the list of owners of a LID that has at most one: empty for None, otherwise the given end port
 abbrev pub owners_in : Option EndPort → List EndPort
 owners_in None = []
 owners_in (Some port) = port ∷ []
 
--- the next hop of each of `nodes` for packets for `lid`, by the blocks `rows`, if `target` alone holds `lid` or, for
--- None, nobody does
+-- the next hop of each of `nodes` for packets for `lid`, by the blocks `rows`, where only `target` holds `lid` or, if
+-- `target` is None, no end port does
 abbrev pub hops_for : List AuditedSwitch → List (List ℕ) → ℕ → Option EndPort → List NextHop
 hops_for nodes rows lid target = map (next_hop_of (owners_in target) rows lid) nodes
 
 -- the next hop of each of `nodes` for packets for the LID at `index` of the block `number`, by `rows`. If several end
--- ports hold the LID, the hops are as if nobody did
+-- ports hold the LID, the hops are as if no end port did
 abbrev pub hops_at : List AuditedSwitch → List Owner → List (List ℕ) → ℕ → ℕ → List NextHop
 hops_at nodes owners rows number index = hops_for nodes rows (64 * number + index) (target_at owners number index)
 
@@ -44,8 +44,8 @@ pub record Comes (hops : List NextHop) (target : Option EndPort) (switch : ℕ) 
 abbrev pub lids_at : List LidSet → ℕ → LidSet
 lids_at arrived switch = slice_index_or arrived switch no_lids
 
--- `arrived` has a set for each of `count` switches, and packets from a switch for the LIDs of its set reach their
--- targets; each exit leads from its switch to the next one, by the hops at each index of the exit's LIDs
+-- `arrived` has a set for each of `count` switches; packets from the switch reach the target of each LID in its set.
+-- For each LID of an exit, the hop of the exit's switch leads from `from` to `to`
 pub record AreSeen (count : ℕ) (hops : ℕ → List NextHop) (target : ℕ → Option EndPort) (arrived : List LidSet)
     (exits : List Exit) : Type 0 where
   pub as_many : length arrived ≡ count
@@ -54,8 +54,8 @@ pub record AreSeen (count : ℕ) (hops : ℕ → List NextHop) (target : ℕ →
   pub lead : (k index : ℕ) (exit : Exit) → slice_get exits k ≡ Some exit → has exit.lids index ≡ true
       → onward (hops index) (To exit.from) ≡ To exit.to
 
--- `AreSeen` for each of `nodes`: the hops are by the blocks `rows`, for each LID of the block `number`, and the only
--- holder of the LID is its target
+-- `AreSeen` for `nodes` and for the LIDs of the block `number`: the hops are by the blocks `rows`, and the target of
+-- a LID is the only end port that holds it
 abbrev pub AreSeenBy : List AuditedSwitch → List Owner → List (List ℕ) → ℕ → List LidSet → List Exit → Type 0
 AreSeenBy nodes owners rows number arrived exits =
     AreSeen (length nodes) (hops_at nodes owners rows number) (target_at owners number) arrived exits
@@ -66,8 +66,8 @@ pub record ComeFromEach (count : ℕ) (hops : List NextHop) (target : Option End
   pub is_target : target ≡ Some port
   pub each : (switch : ℕ) → switch < count → IsEndOf hops (To switch) (Some (Taken port))
 
--- for each of `lids`, of the block `number`, one end port alone holds it, and packets from each of `nodes` reach this
--- port
+-- for each of `lids`, which are LIDs of the block `number`, exactly one end port holds the LID, and packets for the
+-- LID from each of `nodes` reach this port
 abbrev pub AreDelivered : List AuditedSwitch → List Owner → List (List ℕ) → ℕ → LidSet → Type 0
 AreDelivered nodes owners rows number lids = (index : ℕ) → has lids index ≡ true
     → ComeFromEach (length nodes) (hops_at nodes owners rows number index) (target_at owners number index)
@@ -106,8 +106,8 @@ IsWithHop arrived exits switch index port (To to) more others =
 IsWithHop arrived exits switch index port (Ends end) more others =
     (more ≡ arrived_if (is_at port (Some end)) arrived switch index) × (others ≡ exits)
 
--- `arrived` with arrivals carried back along `exit`: each LID of `exit` that `exit.to` has in `arrived` is added to
--- those of `exit.from`
+-- `arrived` with arrivals carried back along `exit`: each LID of `exit` that the set of `exit.to` has is added to the
+-- set of `exit.from`
 abbrev pub back_over : Exit → List LidSet → List LidSet
 back_over exit arrived =
     slice_set arrived exit.from (either (lids_at arrived exit.from) (both (lids_at arrived exit.to) exit.lids))

@@ -11,18 +11,19 @@ use Rattle.packet_walks.specs.HopsByTables.{next_hops_of}
 use Rattle.held_tables.specs.Tables.{owners_of}
 use Rattle.packet_walks.specs.EndsBySwitch.{IsEndOf}
 
--- `lid` is one of `deliveries`: it is in their block, and their set has its index there
+-- whether `lid` is one of `deliveries`: it is in their block, and their set has its index in the block
 abbrev pub is_delivered : Deliveries → ℕ → Bool
 is_delivered deliveries lid = lid / 64 == deliveries.number && has deliveries.lids (lid % 64)
 
--- one end port alone holds `lid`, and packets for `lid` from each usable switch reach this port
+-- exactly one end port holds `lid`, and packets for `lid` from each usable switch reach this port
 pub record ComeToOwner (cells : Cells) (held : HeldPlan) (lid : ℕ) : Type 0 where
   pub port : EndPort
   pub owner_is : owners_of held lid ≡ port ∷ []
   pub each : (switch : ℕ) → switch < length (switches cells)
       → IsEndOf (next_hops_of cells held lid) (To switch) (Some (Taken port))
 
--- one end port alone holds each LID of `deliveries`, and packets for this LID from each usable switch reach this port
+-- for each LID of `deliveries`, exactly one end port holds the LID, and packets for the LID from each usable switch
+-- reach this port
 abbrev pub AreDeliveries : Cells → HeldPlan → Deliveries → Type 0
 AreDeliveries cells held deliveries =
     (lid : ℕ) → is_delivered deliveries lid ≡ true → ComeToOwner cells held lid

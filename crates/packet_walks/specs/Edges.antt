@@ -11,23 +11,23 @@ use Rattle.held_tables.specs.Switches.{row_of, switch_over}
 use Rattle.packet_walks.specs.HopsByTables.{node_entry}
 use Rattle.held_tables.specs.Tables.{entry_for, top_of}
 
--- the edge by `port`, if the wire there leads to a usable switch; otherwise None
+-- the edge by `port`, if the wire in this port leads to a usable switch; otherwise None
 abbrev pub edge_to : ℕ → Far → Option Edge
 edge_to port Nothing = None
 edge_to port (Switch index) = Some (record { port = port; to = index })
 edge_to port (Port e) = None
 
--- the index of the usable switch to which `entry` leads; None if it leads to none, or is 0
+-- the index of the usable switch to which `entry` leads; None if `entry` is 0, or does not lead to a usable switch
 abbrev pub switch_by : List Far → ℕ → Option ℕ
 switch_by row entry = if entry == 0 then None else switch_over (slice_index_or row entry Nothing)
 
--- the edge by the port `entry`; None if that leads to no usable switch, and for entry 0, by which the switch keeps the
--- packet
+-- the edge by the port `entry`; None if this port does not lead to a usable switch, or if `entry` is 0, by which the
+-- switch keeps the packet
 abbrev pub edge_by : List Far → ℕ → Option Edge
 edge_by row entry = if entry == 0 then None else edge_to entry (slice_index_or row entry Nothing)
 
 -- for each usable switch, in ascending order of GUID, the edge by which it forwards packets for `lid`; None if it
--- forwards them to no usable switch
+-- does not forward them to a usable switch
 abbrev pub edges_of : Cells → HeldPlan → ℕ → List (Option Edge)
 edges_of cells held lid = map (λ g. edge_by (row_of cells g) (entry_for held lid g)) (switches cells)
 
@@ -35,7 +35,7 @@ edges_of cells held lid = map (λ g. edge_by (row_of cells g) (entry_for held li
 abbrev pub greatest_top : Cells → HeldPlan → ℕ
 greatest_top cells held = greatest (map (top_of held) (switches cells))
 
--- the edge by which the switch `node` forwards packets for `lid`, by its effective entry in the blocks `rows`; None if
--- it forwards them to no usable switch
+-- the edge by which the switch `node` forwards packets for `lid`, given by its effective entry in the blocks `rows`;
+-- None if it does not forward them to a usable switch
 abbrev pub edge_of : List (List ℕ) → ℕ → AuditedSwitch → Option Edge
 edge_of rows lid node = edge_by node.row (node_entry rows lid node)

@@ -16,7 +16,7 @@ pub record Ended : Type 0 where
   pub port : EndPort
   pub ends : List (Option End)
 
--- the end of the packet of `source`, if `walks` has the end of the walk from each switch; None if the packet loops
+-- the end of the packet of `source`, where `walks` has the end of the walk from each switch; None if the packet loops
 -- forever
 abbrev pub end_from : List EndPort → List NextHop → Sender → Option End
 end_from owners walks source = end_of (onward walks (first_hop owners source))
@@ -25,19 +25,19 @@ end_from owners walks source = end_of (onward walks (first_hop owners source))
 abbrev pub arrivals : EndPort → List NextHop → List Bool
 arrivals port walks = map (λ walk. is_at port (end_of walk)) walks
 
--- by `arrive`, the walk from the switch at the given index ends at the port; false for None and past the end
+-- whether the walk from the switch at the given index ends at the port, as `arrive` says; false if there is no index,
+-- or if it is past the end of `arrive`
 abbrev pub comes_by : Option ℕ → List Bool → Bool
 comes_by None arrive = false
 comes_by (Some index) arrive = slice_index_or arrive index false
 
--- all packets first reach a switch (`begin`), each walk ends at the port (`arrive`), and no other end port holds the
--- LID (`sole`)
+-- whether all packets first reach a switch (`begin`), each walk ends at the port (`arrive`), and no other end port
+-- holds the LID (`sole`)
 abbrev pub all_come : Bool → List Bool → Bool → Bool
 all_come begin arrive sole = begin && sole && list_all (λ arrives. arrives) arrive
 
--- `firsts` has the first switch of each sender's packets, and `arrive` whether the walk from each switch ends at
--- `port`; `sole` says that each of `owners` is `port`, and `all` that all packets first reach a switch and come to
--- `port` alone
+-- `firsts` has the first switch that the packets of each sender reach, and `arrive` says whether the walk from each
+-- switch ends at `port`. `sole` says whether each of `owners` is `port`, and `all` is `all_come` of these
 pub record AreEnds (port : EndPort) (sources : List Sender) (firsts : List (Option ℕ)) (owners : List EndPort)
     (walks : List NextHop) (arrive : List Bool)
     (sole all : Bool) : Type 0 where

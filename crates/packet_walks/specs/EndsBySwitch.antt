@@ -4,23 +4,23 @@ use Rattle.packet_walks.specs.declared.packet_end.End.{End}
 use Rattle.packet_walks.specs.declared.next_hop.NextHop.{NextHop}
 use Rattle.packet_walks.specs.declared.next_hop.NextHop.TheVariants.{To, Ends}
 
--- the step after a step, if `steps` has the step of each switch; an end stays as it is, and so does a switch past the
--- end of `steps`
+-- the step after a step, where `steps` has the step of each switch; an end stays as it is, and so does a hop to a
+-- switch past the end of `steps`
 abbrev pub onward : List NextHop → NextHop → NextHop
 onward steps (To i) = slice_index_or steps i (To i)
 onward steps (Ends e) = Ends e
 
--- the step `n` steps after `s`, if `steps` has the step of each switch
+-- the step `n` steps after `s`, where `steps` has the step of each switch
 abbrev pub after : ℕ → List NextHop → NextHop → NextHop
 after zero steps s = s
 after (suc n) steps s = after n steps (onward steps s)
 
--- the walk from `s` by `steps` ends at the given end; for None, it goes on forever
+-- the walk from `s` by `steps` ends at the given end; if the end is None, the walk goes on forever
 abbrev pub IsEndOf : List NextHop → NextHop → Option End → Type 0
 IsEndOf steps s (Some e) = (n : ℕ) × (after n steps s ≡ Ends e)
 IsEndOf steps s None = (n : ℕ) → (i : ℕ) × (after n steps s ≡ To i)
 
--- the step leads to a switch, and is no end
+-- whether the step leads to a switch, and so is not an end
 abbrev pub is_to : NextHop → Bool
 is_to (To i) = true
 is_to (Ends e) = false
@@ -30,12 +30,12 @@ abbrev pub end_of : NextHop → Option End
 end_of (To i) = None
 end_of (Ends e) = Some e
 
--- by `ends`, the walk from each switch has ended, or it goes on forever
+-- `ends` has the end of the walk from each switch by `steps`, or a hop to a switch if the walk goes on forever
 pub record HaveEnded (steps ends : List NextHop) : Type 0 where
   pub as_many : length ends ≡ length steps
   pub ended : (s : NextHop) → IsEndOf steps s (end_of (onward ends s))
 
--- each of `jumps` is the step that `n` of `steps` lead to from its switch
+-- each of `jumps` is the step that is reached from its switch after `n` steps by `steps`
 pub record AreAfter (steps jumps : List NextHop) (n : ℕ) : Type 0 where
   pub as_many : length jumps ≡ length steps
   pub onward_is : (s : NextHop) → onward jumps s ≡ after n steps s

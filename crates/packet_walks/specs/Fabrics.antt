@@ -16,9 +16,9 @@ use Rattle.packet_walks.specs.declared.packet_end.End.TheVariants.{Taken, Lost}
 use Rattle.packet_walks.specs.HopsByTables.{IsBrought}
 use Rattle.held_tables.specs.Tables.{owners_of, is_owner, counted, entry_for}
 
--- an end port owns exactly the LIDs, from 1 on, that its lines give. The effective entry of a switch, by its agent's
--- top and table, is the effective entry by its lines: 255 for LIDs above the top and in a block without a line. The
--- other entries of the switch's table may be anything
+-- each end port owns exactly the LIDs, from 1 on, that the held tables give to it. The effective entry of each
+-- switch, by the top and the table of its agent, is the effective entry by the held tables: 255 for LIDs above the
+-- top and in blocks that are not held. The other entries of the table of its agent may be anything
 pub record HoldsTables (held : HeldPlan) (f : Fabric) : Type 0 where
   pub lids : (port : NodePort) (node : Node) (lid : ℕ) → IsNodeAt f port.node node → IsEndPort f port → 1 ≤ lid
       → owns f port lid ≡ is_owner (owners_of held lid) (record { node = node.guid; port = port.port })
@@ -31,8 +31,8 @@ pub record IsSeen (cells : Cells) (held : HeldPlan) (f : Fabric) : Type 0 where
   pub agrees : AgreesOn WholeFabric cells f
   pub holds : HoldsTables held f
 
--- each end port of `part` owns exactly the LIDs, from 1 on, that its lines give, and each switch there has the
--- effective entries of its lines
+-- each end port of `part` owns exactly the LIDs, from 1 on, that the held tables give to it, and each switch there
+-- has the effective entries of the held tables
 pub record HoldsTablesIn (part : Part) (held : HeldPlan) (f : Fabric) : Type 0 where
   pub lids : (port : NodePort) (node : Node) (lid : ℕ) → IsEndPortIn part f port node → 1 ≤ lid
       → owns f port lid ≡ is_owner (owners_of held lid) (record { node = node.guid; port = port.port })
@@ -53,8 +53,8 @@ EndsAs f lid source (Some (Taken e)) =
 EndsAs f lid source (Some (Lost g cause)) = (hops : List Hop) × (id : ℕ) × IsLost f lid source hops id
 EndsAs f lid source None = (hops : List Hop) × (id : ℕ) × IsLost f lid source hops id
 
--- a packet that an end port sends for a LID other than 0 ends as facts and tables say, if the facts describe the fabric
--- exactly and the fabric holds the tables
+-- if the facts describe the fabric exactly and the fabric holds the tables, a packet that an end port sends for a LID
+-- other than 0 ends as facts and tables say
 abbrev pub PacketsEndAsTold : Type 0
 PacketsEndAsTold = (facts : Facts) (held : HeldPlan) (f : Fabric) → IsSeen (cells_of facts) held f
     → (source : NodePort) (node : Node) (lid : ℕ) (end : Option End) → IsNodeAt f source.node node → IsEndPort f source
@@ -62,8 +62,8 @@ PacketsEndAsTold = (facts : Facts) (held : HeldPlan) (f : Fabric) → IsSeen (ce
     → IsBrought (cells_of facts) held lid (record { node = node.guid; port = source.port }) end
     → EndsAs f lid source end
 
--- a packet that an end port of the part that is joined to `origin` sends for a LID other than 0 ends as facts and
--- tables say, if the facts describe this part and the part holds the tables
+-- if the facts describe the part that is joined to the end port `origin` and this part holds the tables, packets in
+-- it end as facts and tables say. The packets are those that an end port of the part sends for a LID other than 0
 abbrev pub PacketsEndAsToldInParts : Type 0
 PacketsEndAsToldInParts = (facts : Facts) (held : HeldPlan) (f : Fabric) (origin : NodePort) → IsEndPort f origin
     → IsSeenIn (IsJoinedTo f origin) (cells_of facts) held f

@@ -21,8 +21,8 @@ use Rattle.held_tables.specs.Switches.{row_of, sender_of}
 use Rattle.held_tables.specs.Tables.{owners_of, is_owner, is_same_end, counted, entry_for, top_of}
 use Rattle.packet_walks.specs.EndsBySwitch.{IsEndOf, after, end_of}
 
--- the end of a packet that reaches the port `e`: it is taken there if `e` is one of `owners`, who hold its LID, and
--- lost otherwise
+-- the end of a packet that reaches the port `e`: it is delivered there if `e` is one of `owners`, the end ports that
+-- hold its LID, and lost otherwise
 abbrev pub at_port : List EndPort → EndPort → End
 at_port owners e = if is_owner owners e then Taken e else Lost e.node Foreign
 
@@ -33,8 +33,8 @@ over owners g cause Nothing = Ends (Lost g cause)
 over owners g cause (Switch index) = To index
 over owners g cause (Port e) = Ends (at_port owners e)
 
--- the cause for which a switch with `ports` ports does not forward a packet for `lid` by `entry`: the first that
--- applies
+-- the cause for which a switch with `ports` ports and the top `top` does not forward a packet for `lid` by `entry`:
+-- the first cause that applies
 abbrev pub cause_by : ℕ → ℕ → ℕ → ℕ → Cause
 cause_by ports top lid entry =
     if nat_lt top lid then AboveTop else
@@ -45,8 +45,8 @@ cause_by ports top lid entry =
 abbrev pub cause_of : Cells → HeldPlan → ℕ → ℕ → Cause
 cause_of cells held lid g = cause_by (port_count_of cells g) (top_of held g) lid (entry_for held lid g)
 
--- the next hop of switch `g` by `entry`: 0 is the switch itself, and any other entry is the port by which the packet
--- leaves
+-- the next hop of switch `g` for a packet with the effective entry `entry`: the packet is delivered at the switch
+-- itself if `entry` is 0, and otherwise leaves by the port `entry`
 abbrev pub by_entry : List EndPort → ℕ → Cause → List Far → ℕ → NextHop
 by_entry owners g cause row entry =
     if entry == 0 then Ends (Taken (record { node = g; port = 0 })) else over owners g cause
@@ -62,11 +62,11 @@ next_hops_of cells held lid =
 abbrev pub entry_among : List (List ℕ) → Option ℕ → ℕ → ℕ
 entry_among rows index lid = option_map_or (λ k. slice_index_or (slice_index_or rows k []) (lid % 64) 255) index 255
 
--- the effective entry of the switch `node` for `lid`, if `rows` are the blocks that `lid` is in
+-- the effective entry of the switch `node` for `lid`, where `rows` has the blocks that `lid` is in
 abbrev pub node_entry : List (List ℕ) → ℕ → AuditedSwitch → ℕ
 node_entry rows lid node = counted lid node.top (entry_among rows node.index lid)
 
--- the next hop of the switch `node` for packets for `lid`, if its effective entry is `entry`
+-- the next hop of the switch `node` for packets for `lid`, given its effective entry `entry`
 abbrev pub next_hop_by : List EndPort → ℕ → AuditedSwitch → ℕ → NextHop
 next_hop_by owners lid node entry = by_entry owners node.guid (cause_by node.ports node.top lid entry) node.row entry
 
@@ -91,8 +91,9 @@ switch_step_by owners lid node entry =
 abbrev pub switch_step_of : List EndPort → List (List ℕ) → ℕ → AuditedSwitch → SwitchStep
 switch_step_of owners rows lid node = switch_step_by owners lid node (node_entry rows lid node)
 
--- the first hop of a packet that `e` sends: to the usable switch at the index, if `e` is its end port; another end port
--- (None) takes a packet for its own LID, and sends any other over its wire
+-- the first hop of a packet that `e` sends. If the node of `e` is the usable switch at the given index, the packet is
+-- at this switch. If there is no index, the packet is delivered at `e` if `e` is one of `owners`, and otherwise
+-- leaves over the wire of `e`
 abbrev pub sent : List EndPort → EndPort → Option ℕ → Far → NextHop
 sent owners e (Some index) far = To index
 sent owners e None far = if is_owner owners e then Ends (Taken e) else over owners e.node NoLink far
@@ -106,19 +107,19 @@ abbrev pub IsBrought : Cells → HeldPlan → ℕ → EndPort → Option End →
 IsBrought cells held lid e end =
     IsEndOf (next_hops_of cells held lid) (first_hop (owners_of held lid) (sender_of cells e)) end
 
--- the end that the packet that `e` sends for `lid` reaches within as many steps as there are switches; None if it
--- reaches none
+-- the end that a packet that `e` sends for `lid` reaches within as many steps as there are usable switches; None if
+-- it reaches no end by then
 abbrev pub end_for : Cells → HeldPlan → ℕ → EndPort → Option End
 end_for cells held lid e =
     end_of (after (length (switches cells)) (next_hops_of cells held lid)
     (first_hop (owners_of held lid) (sender_of cells e)))
 
--- the packet that an end port sends for a LID ends at `end` exactly if `end` is the end that `end_for` gives
+-- the packet that an end port sends for a LID ends at `end` exactly when `end` is the end that `end_for` gives
 abbrev pub EndsAreFound : Type 0
 EndsAreFound = (cells : Cells) (held : HeldPlan) (lid : ℕ) (e : EndPort) (end : Option End)
     → IsBrought cells held lid e end ↔ (end ≡ end_for cells held lid e)
 
--- the entry by which usable switch `g` forwards packets for `lid`; None for another node
+-- the effective entry by which the usable switch `g` forwards packets for `lid`; None if `g` is not a usable switch
 abbrev pub entry_by : Cells → HeldPlan → ℕ → ℕ → Option ℕ
 entry_by cells held g lid = if is_usable cells g then Some (entry_for held lid g) else None
 
@@ -128,12 +129,12 @@ pub record AreBrought (cells : Cells) (held : HeldPlan) (lid : ℕ) (ends : List
   pub brought : (k : ℕ) (e : EndPort) (end : Option End) → slice_get (end_ports cells) k ≡ Some e → slice_get ends k
       ≡ Some end → IsBrought cells held lid e end
 
--- the packets that the end ports of the facts send for the LID of `line` arrive at its port
+-- the packets that the end ports of the facts send for the LID of `line` are delivered at the port of `line`
 abbrev pub LineArrives : Cells → HeldPlan → HeldLid → Type 0
 LineArrives cells held line =
     (e : EndPort) → Contains (end_ports cells) e → IsBrought cells held line.lid e (Some (Taken line.port))
 
--- a packet with this end is delivered at `e`; false if it is lost or loops forever
+-- whether a packet with the given end is delivered at `e`; false if the packet is lost or loops forever
 abbrev pub is_at : EndPort → Option End → Bool
 is_at e None = false
 is_at e (Some (Lost g cause)) = false

@@ -19,13 +19,13 @@ abbrev pub at_lid_code : Coded AtLid
 at_lid_code = code_by (Seen × ℕ) (coded× seen_code coded_ℕ) (λ a. (a.seen, a.lid)) (λ p.
     record { seen = p.0; lid = p.1 }) (λ _. refl)
 
--- the LIDs that are told, if any, are deliveries (`AreDeliveries`)
+-- the given deliveries, if there are any, are right for the held tables (`AreDeliveries`)
 abbrev pub HasDeliveries : Cells → HeldPlan → Option Deliveries → Type 0
 HasDeliveries cells held None = ⊤
 HasDeliveries cells held (Some deliveries) = AreDeliveries cells held deliveries
 
--- `number` and `rows` are the held blocks with the entries for `lid`, and `deliveries`, if there are any, are
--- deliveries by the tables of `seen`
+-- `number` and `rows` are the held blocks with the entries for `lid`, and `deliveries`, if there are any, are right
+-- for the tables of `seen` (`AreDeliveries`)
 pub record IsLidCursor (seen : Seen) (lid number : ℕ) (rows : List (List ℕ)) (deliveries : Option Deliveries) : Type 0
   where
     pub blocks_are : AreBlocks seen.held number rows

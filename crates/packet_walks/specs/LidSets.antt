@@ -1,4 +1,4 @@
--- A set of LIDs of one block, as the bits of a 64-bit word.
+-- Sets of LIDs of the same block, as the bits of a 64-bit word.
 use Rattle.std.specs.Prelude.{ℕ, ◌*◌, ◌%◌, ◌^◌, ◌==◌, Bool, bit_and, bit_or}
 use Rattle.std.specs.Int.{bit_at}
 use Rattle.packet_walks.specs.declared.lid_set.LidSet.{LidSet}
@@ -19,6 +19,6 @@ either set other = record { bits = bit_or set.bits other.bits }
 abbrev pub both : LidSet → LidSet → LidSet
 both set other = record { bits = bit_and set.bits other.bits }
 
--- the set has the LID at `index`
+-- whether the set has the LID at `index`
 unfoldable pub has : LidSet → ℕ → Bool
 has set index = bit_at set.bits index == 1

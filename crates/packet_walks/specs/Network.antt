@@ -1,4 +1,4 @@
--- The facts of a subnet with the tables that its switches hold, and the network that is made of both.
+-- The facts of a subnet and the tables that its switches hold, and the network that is made of both.
 use Rattle.std.specs.Prelude.{◌≡◌, List, map}
 use Rattle.subnet_view.specs.Reading.{Cells, switches}
 use Rattle.std.specs.Coded.{Coded, code_by, coded×}
@@ -27,8 +27,8 @@ seen_code = code_by (Facts
     × HeldPlan) (coded× facts_code (held.the_row).coded) (λ s. (s.facts, s.held)) (λ p.
     record { facts = p.0; held = p.1 }) (λ _. refl)
 
--- the fields of a network: the usable switches in ascending order of GUID, the chains of the blocks' numbers, the held
--- LIDs, and who holds each LID
+-- the fields of a network fit the facts and the held tables: the usable switches in ascending order of GUID, the
+-- chains of the numbers of the blocks, the held LIDs, and who holds each LID
 pub record IsNetwork (cells : Cells) (held : HeldPlan) (nodes : List AuditedSwitch) (chains : Chains)
     (lines : List HeldLid) (owners : List Owner) : Type 0 where
   pub nodes_are : nodes ≡ map (node_of cells held) (switches cells)

@@ -14,8 +14,8 @@ use smp_bytes::Lid;
 use std::alloc::{AllocError, Global};
 use subnet_view::EndPort;
 
-/// LIDs of a block. Exactly one end port holds each of these LIDs, and packets for the LID are seen to reach this end
-/// port from every usable switch.
+/// LIDs of the same block. Exactly one end port holds each of these LIDs, and packets for the LID are seen to reach
+/// this end port from every usable switch.
 #[derive(Clone, Copy, Debug, PartialEq, Eq)]
 pub(crate) struct Deliveries {
     /// The number of the block.
@@ -32,7 +32,7 @@ impl Deliveries {
     }
 }
 
-/// LIDs of a block for which the switch at index `from` forwards packets to the switch at index `to`.
+/// LIDs of a block. For each of them, the switch at index `from` forwards packets to the switch at index `to`.
 #[derive(Clone, Copy)]
 pub(crate) struct Exit {
     pub(crate) from: usize,
@@ -43,10 +43,10 @@ pub(crate) struct Exit {
 /// What is known so far about packets for the LIDs of a block.
 #[derive(Drop)]
 pub(crate) struct BlockWalks {
-    /// For each switch, a set of LIDs. One end port alone holds each of these LIDs, and packets for the LID are seen to
-    /// reach this end port from the switch.
+    /// For each switch, a set of LIDs. Exactly one end port holds each of these LIDs, and packets for the LID are
+    /// seen to reach this end port from the switch.
     pub(crate) arrived: Vec<LidSet>,
-    /// The switches that forward packets to a next switch, with the LIDs of these packets.
+    /// The exits: which switch forwards packets to which next switch, and for which LIDs.
     pub(crate) exits: Vec<Exit>,
     /// For each switch, the index of the last exit that leads to it, or 0 if there is none.
     slots: Vec<usize>,
@@ -59,9 +59,10 @@ const NUMBERS: u16 = 0x400;
 /// missed, depending on the order of its exits.
 const MOST_ROUNDS: usize = 64;
 
-/// Returns the LIDs of the block `number` that exactly one end port holds, if packets for the LID are seen to reach
-/// this end port from every switch. Can miss LIDs if a walk has over 64 switches. Returns none if there is no switch.
-/// `rows` are the blocks `number`, and `owners` says who holds each LID.
+/// Returns the LIDs of the block `number` for which the following holds: exactly one end port holds the LID, and
+/// packets for the LID reach this end port from every switch. Can miss such LIDs if a walk has over 64 switches.
+/// Returns the empty set if there is no switch. `rows` has the block `number` of each held switch, and `owners` says
+/// who holds each LID.
 pub(crate) fn delivered(
     alloc: Global,
     nodes: &[AuditedSwitch],
@@ -96,8 +97,8 @@ impl BlockWalks {
     }
 
     /// Adds what the switch at index `switch` does with packets for each LID of the block `number`. `switch` must be
-    /// the index of one of `nodes`, and `number` must be below 1024. What `self` has must already be right by `nodes`,
-    /// `owners`, `rows` and `number`.
+    /// the index of one of `nodes`, and `number` must be below 1024. What `self` has must already be right for
+    /// `nodes`, `owners`, `rows` and `number` (`AreSeenBy`).
     fn add_switch(
         &mut self,
         nodes: &[AuditedSwitch],
@@ -125,8 +126,8 @@ impl BlockWalks {
 
     /// Adds what the switch at index `switch` does with packets for the LID at `index` of the block `number`. Adds
     /// nothing unless exactly one end port holds the LID. `switch` must be the index of one of `nodes`, `number` must
-    /// be below 1024, and `index` below 64. What `self` has must already be right by `nodes`, `owners`, `rows` and
-    /// `number`.
+    /// be below 1024, and `index` below 64. What `self` has must already be right for `nodes`, `owners`, `rows` and
+    /// `number` (`AreSeenBy`).
     fn add_last(
         &mut self,
         nodes: &[AuditedSwitch],
@@ -151,8 +152,8 @@ impl BlockWalks {
         Ok(())
     }
 
-    /// Adds `hop`, the next hop of `switch` for the LID at `index`. A hop to a switch is added as an exit, and a
-    /// delivery at `port` as an arrival. Any other end adds nothing. `index` must be below 64.
+    /// Adds `hop`, the next hop of `switch` for the LID at `index`. Adds a hop to a switch as an exit, and a delivery
+    /// at `port` as an arrival. Adds nothing for any other end. `index` must be below 64.
     fn add_hop(
         &mut self,
         switch: usize,
@@ -242,8 +243,8 @@ fn put_slot(slots: &mut Vec<usize>, switch: usize, slot: usize) {
     }
 }
 
-/// Records in `arrived` that packets for the LID at `index` reach the LID's end port from `switch`. Does nothing if
-/// there is no such switch. `index` must be below 64.
+/// Records in `arrived` that packets for the LID at `index` reach the end port that holds the LID from `switch`. Does
+/// nothing if there is no such switch. `index` must be below 64.
 fn add_lid(arrived: &mut Vec<LidSet>, switch: usize, index: usize)
     requires { index < 64 }
     ensures { arrived.new.items ≡ arrived_more arrived.old.items switch index }
@@ -252,7 +253,7 @@ fn add_lid(arrived: &mut Vec<LidSet>, switch: usize, index: usize)
     put_lids(arrived, switch, lids);
 }
 
-/// Returns the LIDs whose packets are seen to arrive from `switch`, or no LIDs if there is no such switch.
+/// Returns the LIDs whose packets are seen to arrive from `switch`, or the empty set if there is no such switch.
 fn lids_at(arrived: &[LidSet], switch: usize) -> LidSet
     ensures { result ≡ lids_at arrived.now switch }
 {
@@ -299,7 +300,7 @@ fn go_back_once(arrived: &mut Vec<LidSet>, exits: &[Exit]) -> bool
     more
 }
 
-/// Returns the LIDs that are in each set of `arrived`, or no LIDs if there is no set.
+/// Returns the LIDs that are in each set of `arrived`, or the empty set if there is no set.
 fn from_each(arrived: &[LidSet]) -> LidSet
     ensures { result ≡ from_each arrived.now }
 {

@@ -15,7 +15,7 @@ use std::alloc::{AllocError, Global};
 use std::marker::Model;
 use subnet_view::EndPort;
 
-/// For each source in order, the end of its packet for one LID.
+/// For each source in order, the end of its packet for the same LID.
 #[derive(Drop)]
 pub struct Ends<'a> {
     /// The end port that the packets should reach.
@@ -51,7 +51,7 @@ impl<'a> Model for Ends<'a> {
 impl<'a> Ends<'a> {
     /// Builds the ends of the packets of `sources`. `owners` are the end ports that hold the LID, and `walks` has the
     /// end of the walk from each switch. `firsts` must have, for each source, the index of the first switch that its
-    /// packet reaches, if there is one. `begin` must be whether each of `firsts` is the index of one of `walks`.
+    /// packet reaches, if there is one. `begin` must say whether each of `firsts` is the index of one of `walks`.
     pub(crate) fn new(
         alloc: Global,
         port: EndPort,
@@ -155,8 +155,8 @@ fn end_from(owners: &[EndPort], walks: &[NextHop], source: &Sender) -> Option<En
     end_of(onward(walks, first_hop(owners, source)))
 }
 
-/// Returns whether `sole` is true and, by `arrive`, the walk from the first switch of the source at `index` ends at the
-/// port.
+/// Returns whether `sole`, and the walk from the first switch of the source at `index` ends at the port. `arrive`
+/// says, for each switch, whether the walk from there ends at the port.
 fn comes_there(sole: bool, firsts: &[Option<usize>], arrive: &[bool], index: usize) -> bool
     ensures { result ≡ (sole && comes_by (slice_index_or firsts.now index None) arrive.now) }
 {
@@ -170,8 +170,8 @@ fn first_at(firsts: &[Option<usize>], index: usize) -> Option<usize>
     firsts.get(index).copied().flatten()
 }
 
-/// Returns whether, by `arrive`, the walk from the switch at index `first` ends at the port. Returns false if `first`
-/// is `None` or `arrive` has no such item.
+/// Returns whether the walk from the switch at index `first` ends at the port, as `arrive` says for each switch.
+/// Returns false if `first` is `None` or `arrive` has no such item.
 fn comes_by(first: Option<usize>, arrive: &[bool]) -> bool
     ensures { result ≡ comes_by first arrive.now }
 {
@@ -191,21 +191,22 @@ fn arrivals(alloc: Global, port: &EndPort, walks: &[NextHop]) -> Result<Vec<bool
         .collect(alloc)
 }
 
-/// Returns whether each of `owners` is `port`, which is true if there are none.
+/// Returns whether each of `owners` is `port`, which is true if there are no owners.
 fn is_sole(port: &EndPort, owners: &[EndPort]) -> bool
     ensures { result ≡ is_sole port.now owners.now }
 {
     owners.iter().all(|owner| is_same_end(port, owner))
 }
 
-/// Returns whether `begin` and `sole` are true and, by `arrive`, all walks end at the port.
+/// Returns whether all packets end at the port: each packet first reaches a switch (`begin`), the walk from each
+/// switch ends at the port (`arrive`), and no other end port holds the LID (`sole`).
 fn all_come(begin: bool, arrive: &[bool], sole: bool) -> bool
     ensures { result ≡ all_come begin arrive.now sole }
 {
     begin && sole && all_arrive(arrive)
 }
 
-/// Returns whether all walks end at the port, by `arrive`.
+/// Returns whether all walks end at the port, as `arrive` says for each of them.
 fn all_arrive(arrive: &[bool]) -> bool
     ensures { result ≡ list_all (λ arrives. arrives) arrive.now }
 {

@@ -7,8 +7,9 @@ use crate::next_hop::NextHop;
 use crate::packet_end::End;
 
 /// Returns, for each switch, the end of the walk from there by `steps`, or a hop to a switch if the walk goes on
-/// forever. Each round takes time linear in the number of switches. There are at most as many rounds as the longest
-/// walk's length has binary digits, and one more if some walk goes on forever.
+/// forever. `steps` has the next hop of each switch. Each round takes time linear in the number of switches. There
+/// are at most as many rounds as the length of the longest walk has binary digits, and one more if some walk goes on
+/// forever.
 pub fn ends(steps: Vec<NextHop>) -> Vec<NextHop>
     ensures { HaveEnded steps.items result.items }
 {

@@ -1,4 +1,4 @@
-//! The entry of a switch for one LID.
+//! The entry of a switch for a LID.
 ghost use Rattle.std.specs.Prelude.{◌≡◌};
 ghost use Rattle.held_tables.specs.Tables.{block_at, entry_at, entry_for, is_block_of};
 
@@ -28,7 +28,8 @@ fn entry_at(held: &Held, index: Option<usize>, lid: Lid) -> u8
     }
 }
 
-/// Returns the last held block with the number `number` of the switch at `index`, or `None` if there is none.
+/// Returns the last held block with the number `number` of the switch at `index`, or `None` if there is no such
+/// block.
 fn block_at(held: &Held, index: usize, number: u16) -> Option<HeldBlock>
     ensures { result ≡ block_at held.now index number }
 {

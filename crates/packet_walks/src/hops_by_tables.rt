@@ -1,4 +1,4 @@
-//! What becomes of packets for one LID at each switch, and at the port that sends them.
+//! What becomes of packets for the same LID at each switch, and at the port that sends them.
 ghost use Rattle.std.specs.Prelude.{◌≡◌, IfOk, map};
 ghost use Rattle.packet_walks.specs.HopsByTables.{at_port, cause_by, entry_among, first_hop, next_hop_by, next_hop_of};
 ghost use Rattle.packet_walks.specs.HopsByTables.{node_entry, over, switch_step_of};
@@ -23,7 +23,7 @@ pub(crate) fn is_owner(owners: &[EndPort], port: &EndPort) -> bool
 }
 
 /// Returns the next hop of each of `nodes` for packets for `lid`. `owners` are the end ports that hold `lid`. `rows`
-/// are the blocks with the entries for `lid`.
+/// has, for each held switch, the block with the entries for `lid`.
 pub(crate) fn steps(
     alloc: Global,
     nodes: &[AuditedSwitch],
@@ -39,8 +39,8 @@ pub(crate) fn steps(
         .collect(alloc)
 }
 
-/// Returns the next hop of the switch `node` for packets for `lid`. `owners` are the end ports that hold `lid`. `rows`
-/// are the blocks with the entries for `lid`.
+/// Returns the next hop of the switch `node` for packets for `lid`. `owners` are the end ports that hold `lid`.
+/// `rows` has, for each held switch, the block with the entries for `lid`.
 pub(crate) fn next_hop_at(
     owners: &[EndPort],
     rows: &[[u8; 64]],
@@ -52,8 +52,8 @@ pub(crate) fn next_hop_at(
     next_hop_by(owners, lid, node, entry_of(rows, lid, node))
 }
 
-/// Returns the next hop of the switch `node` for packets for `lid` if its effective entry is `entry`. `owners` are the
-/// end ports that hold `lid`.
+/// Returns the next hop of the switch `node` for packets for `lid`, given its effective entry `entry`. `owners` are
+/// the end ports that hold `lid`.
 fn next_hop_by(owners: &[EndPort], lid: Lid, node: &AuditedSwitch, entry: u8) -> NextHop
     ensures { result ≡ next_hop_by owners.now lid node.now entry }
 {
@@ -74,7 +74,7 @@ fn next_hop_by(owners: &[EndPort], lid: Lid, node: &AuditedSwitch, entry: u8) ->
 }
 
 /// Returns, for each of `nodes`, its effective entry for `lid` and its next hop by this entry. `owners` are the end
-/// ports that hold `lid`. `rows` are the blocks with the entries for `lid`.
+/// ports that hold `lid`. `rows` has, for each held switch, the block with the entries for `lid`.
 pub(crate) fn switch_steps(
     alloc: Global,
     nodes: &[AuditedSwitch],
@@ -91,7 +91,7 @@ pub(crate) fn switch_steps(
 }
 
 /// Returns the effective entry of the switch `node` for `lid`, and its next hop by this entry. `owners` are the end
-/// ports that hold `lid`. `rows` are the blocks with the entries for `lid`.
+/// ports that hold `lid`. `rows` has, for each held switch, the block with the entries for `lid`.
 fn switch_step_at(
     owners: &[EndPort],
     rows: &[[u8; 64]],
@@ -124,7 +124,8 @@ fn cause_by(ports: u8, top: Lid, lid: Lid, entry: u8) -> Cause
     }
 }
 
-/// Returns the effective entry of each of `nodes` for `lid`. `rows` are the blocks with the entries for `lid`.
+/// Returns the effective entry of each of `nodes` for `lid`. `rows` has, for each held switch, the block with the
+/// entries for `lid`.
 pub(crate) fn entries(
     alloc: Global,
     nodes: &[AuditedSwitch],
@@ -139,7 +140,8 @@ pub(crate) fn entries(
         .collect(alloc)
 }
 
-/// Returns the effective entry of the switch `node` for `lid`. `rows` are the blocks with the entries for `lid`.
+/// Returns the effective entry of the switch `node` for `lid`. `rows` has, for each held switch, the block with the
+/// entries for `lid`.
 pub(crate) fn entry_of(rows: &[[u8; 64]], lid: Lid, node: &AuditedSwitch) -> u8
     ensures { result ≡ node_entry rows.now lid node.now }
 {
@@ -171,8 +173,8 @@ pub(crate) fn counted(lid: Lid, top: Lid, entry: u8) -> u8
 }
 
 /// Returns, for each of `nodes`, the edge along which it forwards packets for `lid` to a usable switch, possibly
-/// itself. The edge is `None` for a switch that forwards these packets to no usable switch. `rows` are the blocks with
-/// the entries for `lid`.
+/// itself. The edge is `None` if the switch does not forward these packets to a usable switch. `rows` has, for each
+/// held switch, the block with the entries for `lid`.
 pub(crate) fn edges(
     alloc: Global,
     nodes: &[AuditedSwitch],
@@ -196,7 +198,7 @@ pub(crate) fn edges(
 }
 
 /// Returns the index of the usable switch to which the switch `node` forwards packets by `entry`. Returns `None` if
-/// `entry` is 0 or leads to no usable switch.
+/// `entry` is 0, or does not lead to a usable switch.
 pub(crate) fn switch_by(node: &AuditedSwitch, entry: u8) -> Option<usize>
     ensures { result ≡ switch_by node.now.row entry }
 {
@@ -218,8 +220,8 @@ fn over(owners: &[EndPort], node: Guid, cause: Cause, far: Far) -> NextHop
     }
 }
 
-/// Returns the end of a packet that reaches `port`, whose node is no usable switch. The packet is delivered if `port`
-/// is one of `owners`, and otherwise lost.
+/// Returns the end of a packet that reaches `port`, whose node is not a usable switch. The packet is delivered if
+/// `port` is one of `owners`, and otherwise lost.
 fn at_port(owners: &[EndPort], port: &EndPort) -> End
     ensures { result ≡ at_port owners.now port.now }
 {
@@ -230,9 +232,9 @@ fn at_port(owners: &[EndPort], port: &EndPort) -> End
     }
 }
 
-/// Returns the first hop of a packet that `source` sends for a LID that `owners` hold. If `source` is the end port of a
-/// usable switch, the packet is at this switch. Otherwise the packet is delivered at once if `source` is one of
-/// `owners`. If not, it leaves over the wire of `source`, or is lost if there is no wire.
+/// Returns the first hop of a packet that `source` sends for a LID that `owners` hold. If the node of `source` is a
+/// usable switch, the packet is at this switch. Otherwise, if the port of `source` is one of `owners`, the packet is
+/// delivered at once. Otherwise it leaves over the wire of `source`, or is lost if there is no wire.
 pub(crate) fn first_hop(owners: &[EndPort], source: &Sender) -> NextHop
     ensures { result ≡ first_hop owners.now source.now }
 {

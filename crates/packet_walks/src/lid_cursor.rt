@@ -21,7 +21,7 @@ use std::marker::Model;
 use subnet_view::EndPort;
 
 /// A network at one LID. Keeps the held blocks that have the entries for the LID, since LIDs are mostly visited in
-/// order, 64 to a block.
+/// order and a block has entries for 64 of them.
 #[derive(Drop)]
 pub struct LidCursor<'n> {
     network: &'n Network<'n>,
@@ -74,9 +74,9 @@ impl<'n> LidCursor<'n> {
         })
     }
 
-    /// Moves the cursor to `lid`, or leaves it as it is if memory is refused. Takes constant time if the cursor is at a
-    /// LID of the same block. Otherwise takes time linear in the number of held switches, plus that of held blocks with
-    /// the block's number, plus the time to look for deliveries if the cursor does so.
+    /// Moves the cursor to `lid`, or leaves it as it is if memory runs out. Takes constant time if the cursor is at a
+    /// LID of the same block. Otherwise takes time linear in the number of held switches, plus the number of held
+    /// blocks with the number of the new block, plus the time to look for deliveries if the cursor does so.
     pub fn go_to(&mut self, alloc: Global, lid: Lid) -> Result<(), AllocError>
         ensures seen { self.new.seen ≡ self.old.seen }
         ensures lid { OnOk result (self.new.lid ≡ lid) }
@@ -111,15 +111,16 @@ impl<'n> LidCursor<'n> {
         self.lid
     }
 
-    /// Returns the end ports that hold the LID. Takes constant time if the LID is below 49,152 and at most one end port
-    /// holds the LID. Otherwise takes time linear in the number of held LIDs.
+    /// Returns the end ports that hold the cursor's LID. Takes constant time if the LID is below 49,152 and at most
+    /// one end port holds it. Otherwise takes time linear in the number of held LIDs.
     pub fn owners(&self, alloc: Global) -> Result<Vec<EndPort>, AllocError>
         ensures { IfOk result (λ owners. owners.items ≡ owners_of self.now.seen.held self.now.lid) }
     {
         self.network.owners(alloc, self.lid)
     }
 
-    /// Returns the effective entry of each usable switch for the LID, in ascending order of GUID. 255 means no entry.
+    /// Returns the effective entry of each usable switch for the LID, in ascending order of GUID. An effective entry
+    /// of 255 stands for no entry.
     pub fn entries(&self, alloc: Global) -> Result<Vec<u8>, AllocError>
         ensures { IfOk result (λ entries. entries.items
             ≡ map (entry_for self.now.seen.held self.now.lid) (switches (cells_of self.now.seen.facts))) }
@@ -127,9 +128,9 @@ impl<'n> LidCursor<'n> {
         self.network.entries(alloc, &self.blocks, self.lid)
     }
 
-    /// Returns, for each usable switch in ascending order of GUID, the edge along which it forwards packets for the LID
-    /// to a usable switch, possibly itself. The edge is `None` for a switch that forwards these packets to no usable
-    /// switch.
+    /// Returns, for each usable switch in ascending order of GUID, the edge along which it forwards packets for the
+    /// LID to a usable switch, possibly itself. The edge is `None` if the switch does not forward these packets to a
+    /// usable switch.
     pub fn edges(&self, alloc: Global) -> Result<Vec<Option<Edge>>, AllocError>
         ensures { IfOk result (λ edges.
             edges.items ≡ edges_of (cells_of self.now.seen.facts) self.now.seen.held self.now.lid) }
@@ -157,9 +158,9 @@ impl<'n> LidCursor<'n> {
         self.network.ends(alloc, &self.blocks, self.lid, port)
     }
 
-    /// Returns true only if packets for the LID, from every usable switch, reach the only end port that holds the LID.
-    /// Can return false although these packets arrive: if the cursor does not look for deliveries, or if a walk has
-    /// over 64 switches. Takes constant time.
+    /// Returns true only if exactly one end port holds the LID, and packets for the LID from every usable switch
+    /// reach this end port. Can return false although these packets arrive, if the cursor does not look for
+    /// deliveries or if a walk has over 64 switches. Takes constant time.
     pub fn is_delivered(&self) -> bool
         ensures { result ≡ true
             → ComeToOwner (cells_of self.now.seen.facts) self.now.seen.held self.now.lid }
@@ -184,7 +185,8 @@ impl<'n> LidCursor<'n> {
     }
 }
 
-/// Returns the deliveries of `blocks` if `asked`, and otherwise `None`. `blocks` must be held blocks of `network`.
+/// Returns the deliveries that are found in `blocks` if `asked`, and otherwise `None`. `blocks` must be held blocks
+/// of `network`.
 fn deliveries_if(
     alloc: Global,
     asked: bool,

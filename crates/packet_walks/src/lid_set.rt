@@ -2,14 +2,14 @@
 ghost use Rattle.std.specs.Prelude.{◌≡◌, ◌<◌};
 ghost use Rattle.packet_walks.specs.LidSets.{both, either, has, no_lids, with_lid};
 
-/// A set of LIDs of one block. The bit at a LID's index in the block is 1 if the set has the LID.
+/// A set of LIDs of the same block. The bit at the index of a LID in the block is 1 if the set has the LID.
 #[derive(Clone, Copy, Debug, PartialEq, Eq)]
 pub(crate) struct LidSet {
     pub(crate) bits: u64,
 }
 
 impl LidSet {
-    /// Returns the empty set.
+    /// Returns the empty set of LIDs.
     pub(crate) fn none() -> Self
         ensures { result ≡ no_lids }
     {

@@ -28,7 +28,7 @@ use std::alloc::{AllocError, Global};
 use std::marker::Model;
 use subnet_view::{EndPort, is_usable};
 
-/// A subnet with the forwarding tables that its switches hold.
+/// A subnet, with the forwarding tables that its switches hold.
 #[derive(Drop)]
 pub struct Network<'a> {
     subnet: &'a Subnet<'a>,
@@ -57,11 +57,11 @@ impl<'a> Model for Network<'a> {
         a.owners.items };
 }
 
-/// The held blocks with one number.
+/// The held blocks with the same number.
 #[derive(Drop)]
 pub(crate) struct Blocks {
     pub(crate) number: u16,
-    /// For each held switch in order, the entries of its block `number`.
+    /// For each held switch in order, the entries of its block with the number `number`.
     pub(crate) rows: Vec<[u8; 64]>,
 }
 
@@ -84,8 +84,8 @@ impl<'a> Network<'a> {
         })
     }
 
-    /// Returns the blocks `number`, which have the entries for the 64 LIDs from 64 * `number` on. Takes time linear in
-    /// the number of held switches, plus that of held blocks with the number `number`.
+    /// Returns the held blocks with the number `number`, which have the entries for the 64 LIDs from 64 * `number`
+    /// on. Takes time linear in the number of held switches, plus the number of held blocks with the number `number`.
     pub(crate) fn blocks(&self, alloc: Global, number: u16) -> Result<Blocks, AllocError>
         ensures { IfOk result (λ blocks. AreBlocks self.now.held blocks.number blocks.rows.items
             × (blocks.number ≡ number)) }
@@ -95,8 +95,8 @@ impl<'a> Network<'a> {
     }
 
     /// Returns, for each end port in order, the end of the packet that it sends for `lid`, or `None` if the packet
-    /// loops forever. The result also says which of these packets are delivered at `port`. `blocks` must be this
-    /// network's blocks with the entries for `lid`.
+    /// loops forever. The result also says which of these packets are delivered at `port`. `blocks` must be the held
+    /// blocks of this network that have the entries for `lid`.
     pub(crate) fn ends(
         &self,
         alloc: Global,
@@ -124,7 +124,7 @@ impl<'a> Network<'a> {
     }
 
     /// Returns, for each usable switch in ascending order of GUID, its effective entry for `lid` and its next hop by
-    /// this entry. `blocks` must be this network's blocks with the entries for `lid`.
+    /// this entry. `blocks` must be the held blocks of this network that have the entries for `lid`.
     pub(crate) fn switch_steps(
         &self,
         alloc: Global,
@@ -140,8 +140,8 @@ impl<'a> Network<'a> {
         switch_steps(alloc, &self.nodes, &owners, &blocks.rows, lid)
     }
 
-    /// Returns the effective entry of each usable switch for `lid`, in ascending order of GUID. 255 means no entry.
-    /// `blocks` must be this network's blocks with the entries for `lid`.
+    /// Returns the effective entry of each usable switch for `lid`, in ascending order of GUID. An effective entry of
+    /// 255 stands for no entry. `blocks` must be the held blocks of this network that have the entries for `lid`.
     pub(crate) fn entries(
         &self,
         alloc: Global,
@@ -156,9 +156,9 @@ impl<'a> Network<'a> {
         entries(alloc, &self.nodes, &blocks.rows, lid)
     }
 
-    /// Returns LIDs of the block of `blocks` that exactly one end port holds, if packets for the LID are seen to reach
-    /// this end port from every usable switch. Can miss LIDs if a walk has over 64 switches. `blocks` must be held
-    /// blocks of this network.
+    /// Returns the LIDs of the block of `blocks` for which the following holds: exactly one end port holds the LID,
+    /// and packets for the LID reach this end port from every usable switch. Can miss such LIDs if a walk has over 64
+    /// switches. `blocks` must be held blocks of this network.
     pub(crate) fn deliveries(
         &self,
         alloc: Global,
@@ -180,8 +180,9 @@ impl<'a> Network<'a> {
         })
     }
 
-    /// Returns true only if each packet that an end port sends to the LID of `line` is delivered at the port of `line`.
-    /// Can return false although all these packets arrive. `deliveries` must be of this network. Takes constant time.
+    /// Returns true only if each packet that an end port sends to the LID of `line` is delivered at the port of
+    /// `line`. Can return false although all these packets arrive. `deliveries` must be deliveries of this network.
+    /// Takes constant time.
     pub(crate) fn all_arrive(&self, deliveries: &Deliveries, line: &HeldLid) -> bool
         requires { AreDeliveries (cells_of self.now.facts) self.now.held deliveries.now }
         ensures { result ≡ true → LineArrives (cells_of self.now.facts) self.now.held line.now }
@@ -229,7 +230,7 @@ impl<'a> Network<'a> {
     }
 
     /// Returns the top of the usable switch at `index`, counted in ascending order of GUID, or 0 if there is no such
-    /// switch or no top is held. Takes constant time.
+    /// switch, or the held tables do not have the switch. Takes constant time.
     pub fn top(&self, index: usize) -> Lid
         ensures { result
             ≡ option_map_or (top_of self.now.held) (slice_get (switches (cells_of self.now.facts)) index) 0 }
@@ -241,8 +242,8 @@ impl<'a> Network<'a> {
     }
 
     /// Returns, for each usable switch in ascending order of GUID, the edge along which it forwards packets for `lid`
-    /// to a usable switch, possibly itself. The edge is `None` for a switch that forwards these packets to no usable
-    /// switch. `blocks` must be this network's blocks with the entries for `lid`.
+    /// to a usable switch, possibly itself. The edge is `None` if the switch does not forward these packets to a
+    /// usable switch. `blocks` must be the held blocks of this network that have the entries for `lid`.
     pub(crate) fn edges(
         &self,
         alloc: Global,
@@ -263,7 +264,7 @@ impl<'a> Network<'a> {
         self.nodes.len()
     }
 
-    /// Returns the greatest top of a usable switch, or 0 if there is no usable switch. No usable switch forwards
+    /// Returns the greatest held top of a usable switch, or 0 if there is no usable switch. No usable switch forwards
     /// packets for a LID above this top to another switch. Takes time linear in the number of usable switches.
     pub fn greatest_top(&self) -> Lid
         ensures { result ≡ greatest_top (cells_of self.now.facts) self.now.held }
@@ -271,8 +272,8 @@ impl<'a> Network<'a> {
         greatest_top(&self.nodes)
     }
 
-    /// Returns the GUID of the usable switch at `index`, counted in ascending order of GUID, or `None` if there is
-    /// none. Takes constant time.
+    /// Returns the GUID of the usable switch at `index`, counted in ascending order of GUID, or `None` if there is no
+    /// such switch. Takes constant time.
     pub fn switch(&self, index: usize) -> Option<Guid>
         ensures { result ≡ slice_get (switches (cells_of self.now.facts)) index }
     {
@@ -280,8 +281,8 @@ impl<'a> Network<'a> {
         Some(node.guid)
     }
 
-    /// Returns the far end of the wire in port `number` % 256 of the usable switch at index `number` / 256, in
-    /// ascending order of GUID. Returns `Nothing` if there is no such wire or no such switch.
+    /// Returns the far end of the wire in port `number` % 256 of the usable switch at index `number` / 256, where
+    /// switches are in ascending order of GUID. Returns `Nothing` if there is no such wire or no such switch.
     pub fn far(&self, number: usize) -> Far
         ensures { result ≡ far_by (cells_of self.now.facts) number }
     {
@@ -295,15 +296,16 @@ impl<'a> Network<'a> {
         self.subnet.sources()
     }
 
-    /// Returns the held LIDs in the order of the lines. Each pair of a LID and an end port that holds it occurs once.
+    /// Returns the held LIDs, each with an end port that holds it, in the order of the lines. Each such pair occurs
+    /// once.
     pub fn lids(&self) -> &[HeldLid]
         ensures { result.now ≡ lines_of self.now.held }
     {
         &self.lines
     }
 
-    /// Returns the effective entry of `node` for `lid`, 255 for no entry, or `None` if `node` is no usable switch.
-    /// Takes time linear in the number of held switches and blocks.
+    /// Returns the effective entry of `node` for `lid`, which is 255 if there is no entry. Returns `None` if `node`
+    /// is not a usable switch. Takes time linear in the number of held switches and blocks.
     pub fn entry(&self, node: Guid, lid: Lid) -> Option<u8>
         ensures { result ≡ entry_by (cells_of self.now.facts) self.now.held node lid }
     {
@@ -324,7 +326,7 @@ fn lines_and_owners(alloc: Global, held: &Held) -> Result<(Vec<HeldLid>, Vec<Own
     Ok((lines, owners))
 }
 
-/// Returns the greatest top of `nodes`, or 0 if there are none.
+/// Returns the greatest top of `nodes`, or 0 if `nodes` is empty.
 fn greatest_top(nodes: &[AuditedSwitch]) -> Lid
     ensures { result ≡ greatest (map (λ node. node.top) nodes.now) }
 {

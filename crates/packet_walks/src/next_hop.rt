@@ -2,18 +2,18 @@
 use crate::packet_end::End;
 use smp_bytes::Guid;
 
-/// What becomes of a packet at a switch: it reaches the switch at an index, or it ends.
+/// What becomes of a packet at a switch: it reaches the usable switch with this index, or it ends.
 #[derive(Clone, Copy, Debug, PartialEq, Eq)]
 pub enum NextHop {
     To(usize),
     Ends(End),
 }
 
-/// A usable switch's entry for a LID, and what the switch does with packets by this entry.
+/// The entry of a usable switch for a LID, and what becomes of packets for the LID at the switch by this entry.
 #[derive(Clone, Copy, Debug, PartialEq, Eq)]
 pub struct SwitchStep {
     pub switch: Guid,
-    /// The effective entry; 255 means no entry.
+    /// The effective entry; 255 stands for no entry.
     pub entry: u8,
     /// What becomes of a packet for the LID at the switch.
     pub hop: NextHop,

@@ -14,14 +14,14 @@ pub enum End {
 /// that applies.
 #[derive(Clone, Copy, Debug, PartialEq, Eq)]
 pub enum Cause {
-    /// The LID is above the switch's top.
+    /// The LID is above the top of the switch.
     AboveTop,
     /// The effective entry is 255, as it is for LID 0 and for a LID whose block is not held.
     NoEntry,
-    /// The entry is above the number of the switch's ports.
+    /// The effective entry is above the port count of the switch.
     NoPort,
     /// The outgoing port has no wire.
     NoLink,
-    /// The packet reached a port that does not hold the packet's LID, of a node that is no usable switch.
+    /// The packet reached a port that does not hold the packet's LID, at a node that is not a usable switch.
     Foreign,
 }

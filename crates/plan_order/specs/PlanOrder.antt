@@ -7,7 +7,8 @@ use Rattle.updown_routes.specs.Ranks.{is_before, rank_of}
 use Rattle.spread_labels.specs.Orders.{position_of}
 use Rattle.lft_blocks.specs.Rules.{RuleValue, order_of, spread_in, up_and_down}
 
--- the position of switch `b` by rank: the number of switches of lesser rank, or of equal rank and lesser GUID
+-- the position of switch `b` in order of rank: the number of switches that have a lesser rank, or an equal rank and a
+-- lesser GUID
 abbrev pub rank_position : List SwitchEdges → ℕ → ℕ
 rank_position graph b = count_by (λ a. is_before graph a b) (guids_of graph)
 
@@ -20,8 +21,8 @@ ranked graph g = (unwrap_or (rank_of graph g) 0, g)
 abbrev pub comes_before : ℕ × ℕ → ℕ × ℕ → Bool
 comes_before a b = nat_lt a.0 b.0 || (a.0 == b.0 && nat_lt a.1 b.1)
 
--- the position of each usable switch, in ascending order of GUID, in the order by which a rule plans: by rank for
--- up/down routing; in the order of the rule if it spreads
+-- the position of each usable switch, in ascending order of GUID, in the order by which a rule plans: by rank and
+-- then by GUID for up/down routing; in its own order for a rule that spreads
 abbrev pub positions_by : RuleValue → Cells → List ℕ
 positions_by up_and_down cells = map (rank_position (graph_of cells)) (guids_of (graph_of cells))
 positions_by (spread_in order) cells =

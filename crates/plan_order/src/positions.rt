@@ -16,7 +16,7 @@ use subnet_view::{SwitchGraph, Wires};
 use updown_routes::Graph;
 
 /// Returns the position of each usable switch of `store`, in ascending order of GUID, in the order that `rule` plans
-/// by. A rule that goes up and down plans by rank and then by GUID. A rule that spreads plans by its order.
+/// by. Up/down routing orders switches by rank and then by GUID. A rule that spreads has its own order.
 pub fn plan_positions(alloc: Global, store: &Store, rule: &Rule) -> Result<Vec<usize>, Refused>
     ensures { IfOk result (λ positions.
         positions.items ≡ positions_by (value_of rule.now) (cells_of store.now)) }
@@ -28,7 +28,7 @@ pub fn plan_positions(alloc: Global, store: &Store, rule: &Rule) -> Result<Vec<u
     }
 }
 
-/// Returns the position of each usable switch, in ascending order of GUID, in the order by rank and then by GUID.
+/// Returns the position of each usable switch, in ascending order of GUID, in order of rank and then of GUID.
 fn by_rank(alloc: Global, wires: &Wires) -> Result<Vec<usize>, Refused>
     ensures { IfOk result (λ positions.
         positions.items ≡ positions_by up_and_down (cells_of wires.now)) }

@@ -7,8 +7,8 @@ use smp_bytes::Guid;
 use std::alloc::{AllocError, Global};
 use updown_routes::Graph;
 
-/// Returns, for each switch in ascending order of GUID, how many switches come before the switch by rank and then by
-/// GUID. Takes time quadratic in the number of switches, besides the time to look up their ranks.
+/// Returns, for each switch in ascending order of GUID, how many switches come before it, in order of rank and then
+/// of GUID. A missing rank counts as 0. Besides looking up the ranks, takes time quadratic in the number of switches.
 pub(crate) fn rank_positions(alloc: Global, graph: &Graph) -> Result<Vec<usize>, AllocError>
     ensures { IfOk result (λ positions.
         positions.items ≡ map (rank_position graph.now) (guids_of graph.now)) }
@@ -39,7 +39,7 @@ fn ranked(alloc: Global, graph: &Graph) -> Result<Vec<(usize, Guid)>, AllocError
         .collect(alloc)
 }
 
-/// Counts those of `ranked` that come before `own`.
+/// Counts the switches of `ranked` that come before the switch `own`.
 fn count_before(ranked: &[(usize, Guid)], own: &(usize, Guid)) -> usize
     ensures { result ≡ count_by (λ other. comes_before other own.now) ranked.now }
 {

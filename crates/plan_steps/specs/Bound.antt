@@ -1,4 +1,4 @@
--- The greatest number of steps that a phase of a plan can have, as known before there is a plan.
+-- A bound on the number of steps in a phase of a plan, known before there is a plan.
 use Rattle.std.specs.Prelude.{◌≤◌, ◌+◌, ◌*◌, ℕ, length}
 use Rattle.std.specs.List.{AllByRecursion}
 use Rattle.fact_store.specs.View.{Facts, cells_of}
@@ -9,12 +9,12 @@ use Rattle.lft_blocks.specs.Plan.{plan_of}
 use Rattle.sweep.specs.Sweep.{Sweep}
 use Rattle.plan_steps.specs.Phases.{phases_by}
 
--- a bound on the steps of a phase: one for each number below 0xC000, one for each block of these numbers at each usable
--- switch, and one for each cell
+-- a bound on the steps of a phase: one step for each number below 0xC000, one for each block of these numbers at each
+-- usable switch, and one for each cell
 abbrev pub most_steps : Cells → ℕ
 most_steps cells = 0xC000 + 768 * length (switches cells) + length cells
 
--- if there is room for the LIDs, no phase of a plan has more than `most_steps` steps
+-- if every end port finds a LID, no phase of a plan has more than `most_steps` steps
 abbrev pub PhaseBoundLaw : Type 0
 PhaseBoundLaw =
     (rule : RuleValue) (lmc : ℕ) (facts : Facts) (s : Sweep) (master : ℕ) → ¬ (IsNoRoom lmc (cells_of facts))

@@ -14,7 +14,7 @@ use Rattle.plan_steps.specs.declared.carried.PortRead.{PortRead}
 
 -- what is changed of what was read ---------------------------------------------------------------
 
--- some bits, and the number that a Set carries in them instead of what was read
+-- some bits, and the number that a Set carries in these bits instead of the one that was read
 pub record Change : Type 0 where
   pub bits : Bits
   pub number : ℕ
@@ -44,13 +44,14 @@ quarter_second = 16
 abbrev pub one_second : ℕ
 one_second = 18
 
--- the NeighborMTU of a port: the lesser MTUCap of its wire's two ends, if both images are there and neither says 0;
--- else as it was read
+-- the NeighborMTU of a port: the lesser of the MTUCaps in `own` and in the far image, if there is a far image and
+-- neither MTUCap is 0; else the NeighborMTU in `own`
 abbrev pub mtu_of : List ℕ → Option (List ℕ) → ℕ
 mtu_of own None = bits_in neighbor_mtu own
 mtu_of own (Some far) = or_default (bits_in neighbor_mtu own) (min (bits_in mtu_cap own) (bits_in mtu_cap far))
 
--- the changes that a Set makes in the PortInfo that was read, besides the GID prefix and the fields of its step
+-- the changes that a Set makes in the PortInfo that was read, besides those of the GID prefix and of the fields that
+-- its step sets
 abbrev pub port_changes : PortRead → List Change
 port_changes read =
     record { bits = link_width_enabled; number = no_change }
@@ -63,8 +64,8 @@ port_changes read =
     ∷ record { bits = subnet_timeout; number = or_default one_second (bits_in subnet_timeout read.own) }
     ∷ record { bits = client_reregister; number = 0 } ∷ []
 
--- the changes that a Set makes in the SwitchInfo that was read, besides the field of its step; a 1 clears
--- PortStateChange
+-- the changes that a Set makes in the SwitchInfo that was read, besides that of the field that its step sets. Writing
+-- 1 to PortStateChange clears it
 abbrev pub switch_changes : List ℕ → List Change
 switch_changes read =
     record { bits = life_time_value; number = or_default one_second (bits_in life_time_value read) }
@@ -72,12 +73,13 @@ switch_changes read =
 
 -- what was read ---------------------------------------------------------------------------------------
 
--- the image of PortInfo of the other end of the wire in port `port` of node `guid`; None if there is no wire, or the
+-- the image of PortInfo of the far end of the wire at port `port` of node `guid`; None if there is no wire, or the
 -- image is not kept
 abbrev pub far_image : Cells → Sweep → ℕ → ℕ → Option (List ℕ)
 far_image cells sweep guid port = option_and_then (λ far. port_image sweep far.0 far.1) (across cells guid port)
 
--- the images of PortInfo of port `port` of node `guid` and of its wire's other end; None if the port's own is not kept
+-- the images of PortInfo of port `port` of node `guid` and of the far end of its wire; None if the image of the port
+-- itself is not kept
 abbrev pub port_read : Cells → Sweep → ℕ → ℕ → Option PortRead
 port_read cells sweep guid port =
     option_map (λ own. record { own = own; far = far_image cells sweep guid port }) (port_image sweep guid port)
@@ -92,16 +94,16 @@ all_bytes = record { at = 0; len = 64 }
 abbrev pub copied : List ℕ → List ℕ
 copied read = with_number all_bytes (number_in all_bytes read) (replicate 64 0)
 
--- PortInfo as a Set carries it, before the fields of its step are set: as it was read, with `port_changes` made and a
--- GID prefix of 0 replaced; zeros without an image
+-- PortInfo as a Set carries it, before the step sets its own fields: the image that was read, with `port_changes`
+-- applied, and with the link-local prefix if its GID prefix is 0; zeros if there is no image
 abbrev pub carried_port : Option PortRead → List ℕ
 carried_port None = replicate 64 0
 carried_port (Some read) =
     changed (port_changes read)
     (with_number gid_prefix (or_default link_local_prefix (number_in gid_prefix read.own)) (copied read.own))
 
--- SwitchInfo as a Set carries it, before the field of its step is set: as it was read, with `switch_changes` made;
--- zeros without an image
+-- SwitchInfo as a Set carries it, before the step sets its own field: the image that was read, with `switch_changes`
+-- applied; zeros if there is no image
 abbrev pub carried_switch : Option (List ℕ) → List ℕ
 carried_switch None = replicate 64 0
 carried_switch (Some read) = changed (switch_changes read) (copied read)

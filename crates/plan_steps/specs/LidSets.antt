@@ -24,11 +24,13 @@ abbrev pub is_own_port : Cells → ℕ → ℕ → EndPort → Bool
 is_own_port cells port_guid port e =
     e.port == port && option_map_or (λ guid. guid == port_guid) (port_guid_of cells e.node e.port) false
 
--- the LID of the manager's end port, the first with the GUID `port_guid` and the number `port`; 0 if there is none
+-- the LID of the manager's end port, which is the first in `given` with the GUID `port_guid` and the number `port`; 0
+-- if there is none
 abbrev pub own_lid : Cells → List (EndPort × ℕ) → ℕ → ℕ → ℕ
 own_lid cells given port_guid port = option_map_or (λ x. x.1) (find (λ x. is_own_port cells port_guid port x.0) given) 0
 
--- PortInfo with a LID and an LMC, the manager's LID `master` and a state; all else as a Set carries it (`carried_port`)
+-- PortInfo with the LID and the LMC of `range`, the manager's LID `master` and a state, and with all else as a Set
+-- carries it (`carried_port`)
 abbrev pub port_data : Option PortRead → ℕ × ℕ → ℕ → PortState → List ℕ
 port_data read range master state =
     with_bits port_state (number_of_state state)
@@ -40,8 +42,8 @@ abbrev pub lid_step : Cells → Sweep → ℕ → ℕ × ℕ → EndPort → Opt
 lid_step cells sweep master range e =
     step_at sweep e.node e.port port_info e.port (port_data (port_read cells sweep e.node e.port) range master NoChange)
 
--- the step that sets the LID `lid` at the end port that owns it; None if no end port owns it, or the sweep did not
--- reach the end port
+-- the step that sets the LID `lid` at the end port that owns it; None if no end port owns `lid`, or if the sweep did
+-- not reach this end port
 abbrev pub owner_step : Cells → Sweep → ℕ → Given → ℕ → Option Step
 owner_step cells sweep master given lid =
     option_and_then (λ e. lid_step cells sweep master (lid, lmc_of given e) e) (owner_of given lid)
@@ -56,8 +58,8 @@ lid_steps cells sweep master given = filter_map (owner_step cells sweep master g
 abbrev pub IsOwnPort : Cells → ℕ → ℕ → EndPort → Type 0
 IsOwnPort cells port_guid port e = (e.port ≡ port) × (port_guid_of cells e.node e.port ≡ Some port_guid)
 
--- `lid` is the LID of the manager's end port; if several end ports can be the manager's, of the one with the least node
--- GUID
+-- `lid` is the LID of an end port that can be the manager's; if there are several, it is that of the one with the
+-- least node GUID
 pub record IsOwnLid (cells : Cells) (given : List (EndPort × ℕ)) (port_guid port lid : ℕ) : Type 0 where
   pub end : EndPort
   pub held : Contains given (end, lid)
@@ -74,8 +76,8 @@ abbrev pub IsOwnLidOr0 : Cells → List (EndPort × ℕ) → ℕ → ℕ → ℕ
 IsOwnLidOr0 cells given port_guid port lid =
     IsOwnLid cells given port_guid port lid ⊎ (HasNoOwnPort cells given port_guid port × (lid ≡ 0))
 
--- if there is room for the LIDs, `own_lid` gives the LID of the manager's end port, or 0 if no end port with a LID can
--- be the manager's
+-- if every end port finds a LID, `own_lid` gives the LID of the manager's end port, or 0 if no end port with a LID
+-- can be the manager's
 abbrev pub OwnLidLaw : Type 0
 OwnLidLaw =
     (lmc : ℕ) (facts : Facts) → ¬ (IsNoRoom lmc (cells_of facts)) → (port_guid port : ℕ)

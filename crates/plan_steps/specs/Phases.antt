@@ -15,8 +15,8 @@ pub record Phase : Type 0 where
   pub counts : Bool
   pub steps : List Step
 
--- the phases of a plan, with the manager's LID `master`: LIDs, blocks, tops, and then the states Armed and Active of
--- ports, so that no data moves before the plan is set
+-- the phases in which a manager with the LID `master` writes a plan: LIDs, blocks, tops, and then the port states
+-- Armed and Active. No data moves before the plan is set
 abbrev pub phases_by : PlanValue → Cells → Sweep → ℕ → List Phase
 phases_by plan cells sweep master =
     record { counts = true; steps = lid_steps cells sweep master plan.given }

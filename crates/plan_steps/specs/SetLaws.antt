@@ -1,4 +1,4 @@
--- Laws of Sets of PortInfo and SwitchInfo: Sets say what the plan asks for, and change nothing else except what is
+-- Laws of Sets of PortInfo and SwitchInfo: a Set says what the plan asks for, and changes nothing else except what is
 -- listed.
 use Rattle.std.specs.Prelude.{◌≡◌, ℕ, ◌<◌, ◌^◌, Bool, true, ◌&&◌, List, [], ◌∷◌, Contains, Option, Some, length, map}
 use Rattle.smp_bytes.specs.Field.{Bits, Field, are_apart, are_bits_apart, bits_in, number_in, with_bits}
@@ -32,7 +32,7 @@ pub record SaysTop (top : ℕ) (payload : List ℕ) : Type 0 where
   pub whole : length payload ≡ 64
   pub top_is : number_in linear_fdb_top payload ≡ top
 
--- whatever was read, a Set says what the plan asks for, if LIDs, LMC and top fit their fields
+-- whatever was read, a Set says what the plan asks for, if the LIDs, the LMC and the top fit in their fields
 pub record SetsSayThePlan : Type 0 where
   pub port : (read : Option PortRead) (range : ℕ × ℕ) (master : ℕ) (state : PortState)
       → range.0 < 2 ^ 16 → range.1 < 8 → master < 2 ^ 16
@@ -41,7 +41,7 @@ pub record SetsSayThePlan : Type 0 where
 
 -- all else -------------------------------------------------------------------------------------------
 
--- whether the bits `b` have no bit in common with any other bits of the list
+-- whether the bits `b` have no bit in common with any of the bits in the list
 abbrev pub are_apart_from : List Bits → Bits → Bool
 are_apart_from [] b = true
 are_apart_from (other ∷ others) b = are_bits_apart b other && are_apart_from others b
@@ -63,8 +63,8 @@ port_fields = base_lid ∷ master_sm_lid ∷ gid_prefix ∷ []
 abbrev pub port_bits : PortRead → List Bits
 port_bits read = port_state ∷ lmc ∷ bits_of (port_changes read)
 
--- `payload` is what was read, except in `port_fields` and `port_bits`. It has the numbers of `port_changes`, and the
--- GID prefix that was read or, if that is 0, the link-local one
+-- `payload` is the image that was read, except in `port_fields` and `port_bits`. It has the numbers of
+-- `port_changes`. Its GID prefix is the one that was read or, if that is 0, the link-local one
 pub record CarriesPort (read : PortRead) (payload : List ℕ) : Type 0 where
   pub others : (b : Bits) → are_outside port_fields b ≡ true → are_apart_from (port_bits read) b ≡ true
       → bits_in b payload ≡ bits_in b read.own
@@ -79,8 +79,8 @@ pub record CarriesSwitch (read payload : List ℕ) : Type 0 where
       → bits_in b payload ≡ bits_in b read
   pub changes : (c : Change) → Contains (switch_changes read) c → bits_in c.bits payload ≡ c.number
 
--- a Set leaves what was read as it is (`CarriesPort`, `CarriesSwitch`), except for what the plan asks for and for the
--- changes. What was read has 64 bytes, and the LMC is below 8
+-- if the image that was read has 64 bytes and the LMC is below 8, a Set leaves the image as it is, except for what
+-- the plan asks for and for the changes (`CarriesPort`, `CarriesSwitch`)
 pub record SetsChangeNothingElse : Type 0 where
   pub port : (read : PortRead) (range : ℕ × ℕ) (master : ℕ) (state : PortState) → Are64Bytes read.own → range.1 < 8
       → CarriesPort read (port_data (Some read) range master state)
@@ -88,8 +88,8 @@ pub record SetsChangeNothingElse : Type 0 where
 
 -- two Sets of one port -------------------------------------------------------------------------------
 
--- the Set of a state at an end port is the Set of its LID with this state; so whichever of the two Sets comes last, it
--- takes back neither LID nor LMC
+-- if an end port has a LID, the Set of a state there is the Set of this LID with the state. So whichever of the two
+-- Sets comes last, the port keeps the LID and the LMC
 abbrev pub LidAndStateAgree : Type 0
 LidAndStateAgree =
     (cells : Cells) (sweep : Sweep) (given : Given) (master : ℕ) (state : PortState) (e : EndPort) (range : ℕ × ℕ)

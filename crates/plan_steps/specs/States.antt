@@ -1,5 +1,5 @@
--- The steps that set the states of ports on wires, so that they carry data. InfiniBand Architecture Specification,
--- Volume 1: subnet management, PortInfo (PortState); link layer, link states.
+-- The steps that set the states of ports on wires, so that these ports carry data. InfiniBand Architecture
+-- Specification, Volume 1: subnet management, PortInfo (PortState); link layer, link states.
 use Rattle.std.specs.Prelude.{◌≡◌, ◌↔◌, ℕ, Bool, true, false, List, Contains, Option, Some, None, IsSome, is_some, if◌then◌else◌}
 use Rattle.std.specs.Option.{option_map_or}
 use Rattle.std.specs.List.{filter_map, AllPairs}
@@ -22,29 +22,30 @@ use Rattle.plan_steps.specs.Carried.{port_read}
 use Rattle.plan_steps.specs.Step.{step_at}
 use Rattle.plan_steps.specs.LidSets.{port_data}
 
--- the port whose link a cell says; None if the cell is of no link, or the port is not on a wire
+-- the port whose link a cell is about; None if the cell is not about a link, or if the port is not on a wire
 abbrev pub wired_port : Cells → Key × Cell Value → Option (ℕ × ℕ)
 wired_port cells ((Link g p), c) = if is_some (across cells g p) then Some (g, p) else None
 wired_port cells (_, c) = None
 
--- the ports on wires, both ends of each, by node GUID and port
+-- the ports on wires, both ends of each wire, in order of node GUID and port
 abbrev pub wired_ports : Cells → List (ℕ × ℕ)
 wired_ports cells = filter_map (wired_port cells) cells
 
--- whether a port that was seen in a state, the second argument, is due to be set to another, the first: from Initialize
--- to Armed or Active, or from Armed to Active
+-- whether a port that was seen in the second state is due to be set to the first state: from Initialize to Armed or
+-- Active, or from Armed to Active
 abbrev pub is_due : PortState → PortState → Bool
 is_due Armed Initialize = true
 is_due Active Initialize = true
 is_due Active Armed = true
 is_due state seen = false
 
--- the port of the vertex that the port `at` belongs to: 0 for a usable switch, else the port itself
+-- the port number of the vertex that the port `at` belongs to: 0 if its node is a usable switch, else the number of
+-- the port itself
 abbrev pub vertex_port : Cells → ℕ × ℕ → ℕ
 vertex_port cells at = if is_usable cells at.0 then 0 else at.1
 
--- PortInfo with a state. At an end port it has the port's LID and LMC and the manager's LID; at a port without a LID,
--- such as the other ports of a switch, these three are 0
+-- PortInfo that sets `state` at the port `at`. For a port with a LID, it has this LID, the port's LMC and the
+-- manager's LID `master`. For a port without a LID, such as the external ports of a switch, these three are 0
 abbrev pub state_data : Option PortRead → Given → ℕ → PortState → ℕ × ℕ → List ℕ
 state_data read given master state at =
     option_map_or (λ range. port_data read range master state) (range_of given (record { node = at.0; port = at.1 }))
@@ -59,8 +60,8 @@ state_step cells sweep given master state at =
     (state_data (port_read cells sweep at.0 at.1) given master state at)
     else None
 
--- the steps that set `state` at each port on a wire that is due for it and whose vertex the sweep reached, by node GUID
--- and port
+-- the steps that set `state`, one for each port on a wire that was seen in a state that `is_due` for `state` and
+-- whose vertex the sweep reached, in order of node GUID and port
 abbrev pub state_steps : Cells → Sweep → Given → ℕ → PortState → List Step
 state_steps cells sweep given master state = filter_map (state_step cells sweep given master state) (wired_ports cells)
 
@@ -70,10 +71,10 @@ state_steps cells sweep given master state = filter_map (state_step cells sweep 
 abbrev pub HasWiredPorts : Cells → List (ℕ × ℕ) → Type 0
 HasWiredPorts cells ports = (g p : ℕ) → Contains ports (g, p) ↔ IsSome (across cells g p)
 
--- `ports` has exactly the ports on wires as members, each once, by node GUID and port
+-- `ports` has exactly the ports on wires as members, each once, in order of node GUID and port
 abbrev pub AreWiredPorts : Cells → List (ℕ × ℕ) → Type 0
 AreWiredPorts cells ports = HasWiredPorts cells ports × AllPairs (λ a b. is_before a b ≡ true) ports
 
--- `wired_ports` has exactly the ports on wires as members, each once, by node GUID and port
+-- `wired_ports` has exactly the ports on wires as members, each once, in order of node GUID and port
 abbrev pub WiredPortsLaw : Type 0
 WiredPortsLaw = (facts : Facts) → AreWiredPorts (cells_of facts) (wired_ports (cells_of facts))

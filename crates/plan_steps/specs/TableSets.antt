@@ -1,5 +1,5 @@
--- The steps that set forwarding tables at switches: their blocks, and the greatest LID as top. InfiniBand Architecture
--- Specification, Volume 1: subnet management, LinearForwardingTable, SwitchInfo.
+-- The steps that set forwarding tables at switches: the blocks of the tables, and the greatest LID as their top.
+-- InfiniBand Architecture Specification, Volume 1: subnet management, LinearForwardingTable, SwitchInfo.
 use Rattle.std.specs.Prelude.{ℕ, List, [], Option, option_and_then}
 use Rattle.std.specs.Option.{option_map_or}
 use Rattle.std.specs.List.{filter_map, flat_map, range_with_len}
@@ -19,8 +19,8 @@ use Rattle.plan_steps.specs.Step.{step_at}
 abbrev pub block_step : Sweep → PlanValue → ℕ → ℕ → Option Step
 block_step sweep plan guid b = option_and_then (step_at sweep guid 0 linear_forwarding_table b) (block_at plan guid b)
 
--- the steps that set the blocks of the switch `guid`, from 0 to that of the greatest LID; none if the sweep did not
--- reach the switch
+-- the steps that set the blocks of the switch `guid`, from block 0 to the block of the greatest LID; none if the
+-- sweep did not reach the switch
 abbrev pub switch_steps : Sweep → PlanValue → ℕ → List Step
 switch_steps sweep plan guid =
     filter_map (block_step sweep plan guid) (range_with_len 0 (block_count (top_of plan.given)))
@@ -29,7 +29,7 @@ switch_steps sweep plan guid =
 abbrev pub block_steps : Sweep → PlanValue → List Step
 block_steps sweep plan = flat_map (switch_steps sweep plan) (switches_of plan)
 
--- SwitchInfo with the LinearFDBTop `top`; all else as a Set carries it (`carried_switch`)
+-- SwitchInfo with the LinearFDBTop `top`, and with all else as a Set carries it (`carried_switch`)
 abbrev pub top_data : Option (List ℕ) → ℕ → List ℕ
 top_data read top = with_number linear_fdb_top top (carried_switch read)
 

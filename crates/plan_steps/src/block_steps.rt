@@ -12,7 +12,8 @@ use smp_bytes::{AttributeId, Guid, Lid, PortNum};
 use std::alloc::{AllocError, Global};
 use sweep::Sweep;
 
-/// Builds the step of each block of each usable switch that the sweep reached, in ascending order of GUID.
+/// Builds a step for each block of the plan at each usable switch that the sweep reached, in ascending order of GUID
+/// and then of block.
 pub(crate) fn block_steps(
     alloc: Global,
     sweep: &Sweep,
@@ -27,7 +28,8 @@ pub(crate) fn block_steps(
     Ok(steps)
 }
 
-/// Appends the steps of the blocks of the switch `guid`, or nothing if the sweep did not reach the switch.
+/// Appends the steps that set the blocks of the switch `guid` to `steps`. Appends nothing if the sweep did not reach
+/// the switch.
 #[tactic(auto, using(crate::proofs::Ranges::given_some, crate::proofs::Ranges::given_none))]
 fn add_switch_steps(
     steps: &mut Vec<Step>,
@@ -46,8 +48,8 @@ fn add_switch_steps(
     Ok(())
 }
 
-/// Builds the step of block `b` of the switch `guid`. Returns `None` if the plan has no such block, or the sweep did
-/// not reach the switch. `b` must be below 1024.
+/// Builds the step that sets block `b` of the switch `guid`. Returns `None` if the plan has no such block, or the
+/// sweep did not reach the switch. `b` must be below 1024.
 fn block_step(sweep: &Sweep, plan: &Plan, guid: Guid, b: usize) -> Option<Step>
     requires { b < 1024 }
     ensures { result ≡ block_step sweep.now plan.now guid b }
@@ -63,8 +65,8 @@ fn block_step(sweep: &Sweep, plan: &Plan, guid: Guid, b: usize) -> Option<Step>
     )
 }
 
-/// Builds the step of the greatest LID for each usable switch that the sweep reached, in ascending order of GUID.
-/// Builds none if the plan has no LID.
+/// Builds a step for each usable switch that the sweep reached, in ascending order of GUID. The step sets the top of
+/// the switch to the greatest LID of the plan. Builds no step if the plan has no LID.
 pub(crate) fn top_steps(alloc: Global, sweep: &Sweep, plan: &Plan) -> Result<Vec<Step>, AllocError>
     ensures { IfOk result (λ steps. steps.items ≡ top_steps sweep.now plan.now) }
 {
@@ -74,8 +76,8 @@ pub(crate) fn top_steps(alloc: Global, sweep: &Sweep, plan: &Plan) -> Result<Vec
     }
 }
 
-/// Builds the step that sets `top` as the greatest LID for each usable switch that the sweep reached, in ascending
-/// order of GUID.
+/// Builds a step for each usable switch that the sweep reached, in ascending order of GUID. The step sets the
+/// greatest LID of the switch to `top`.
 #[tactic(auto, using(crate::proofs::Walked::walked_some, crate::proofs::Walked::walked_none))]
 fn steps_with_top(
     alloc: Global,
@@ -95,8 +97,8 @@ fn steps_with_top(
     Ok(steps)
 }
 
-/// Builds the step that sets `top` as the greatest LID at the switch `guid`. Returns `None` if the sweep did not reach
-/// the switch.
+/// Builds the step that sets the greatest LID of the switch `guid` to `top`. Returns `None` if the sweep did not
+/// reach the switch.
 fn top_step(sweep: &Sweep, top: Lid, guid: Guid) -> Option<Step>
     ensures { result ≡ top_step sweep.now top guid }
 {
@@ -111,7 +113,8 @@ fn top_step(sweep: &Sweep, top: Lid, guid: Guid) -> Option<Step>
     )
 }
 
-/// Returns SwitchInfo with `top` as the greatest LID, and everything else as `carried_switch` gives it for `read`.
+/// Returns the SwitchInfo that has `top` as the greatest LID, and everything else as `carried_switch` gives it for
+/// `read`.
 fn top_data(read: Option<SwitchInfo>, top: Lid) -> [u8; 64]
     ensures { result ≡ top_data read top }
 {

@@ -9,11 +9,11 @@ use subnet_view::usable_guid;
 /// The number of LIDs from 0 up to the last unicast one.
 const NUMBERS: usize = Lid::UNICAST_END as usize;
 
-/// The number of blocks that hold `NUMBERS` entries.
+/// The number of blocks that `NUMBERS` entries fill.
 const BLOCKS: usize = NUMBERS / 64;
 
-/// Returns a number of steps that no phase of a plan of `store` exceeds if the plan's LIDs have room. The number is at
-/// most 2^64 - 1. Does not allocate.
+/// Returns a bound on the number of steps in a phase of a plan of `store`, or 2^64 - 1 if the bound is greater. The
+/// bound holds if every end port finds a LID. Does not allocate.
 pub fn most_steps(store: &Store) -> usize
     ensures { result ≡ min (most_steps (cells_of store.now)) (2 ^ 64 - 1) }
 {

@@ -1,4 +1,4 @@
-//! What a Set of PortInfo or SwitchInfo carries in addition to what its step sets.
+//! What a Set of PortInfo or SwitchInfo carries besides the fields that its step sets.
 ghost use Rattle.std.specs.Prelude.{◌≡◌, ℕ, ◌<◌, Some};
 ghost use Rattle.fact_store.specs.View.{cells_of};
 ghost use Rattle.plan_steps.specs.Carried.{carried_port, carried_switch, far_image, mtu_of, or_default, port_read};
@@ -40,7 +40,8 @@ pub struct PortRead {
     pub far: Option<PortInfo>,
 }
 
-/// Returns the PortInfo that was read of a port and of its far end, or `None` if the port's own PortInfo is not kept.
+/// Returns the PortInfo that was read of `port` of the node `guid` and, if the port is on a wire, of the far end.
+/// Returns `None` if the port's own PortInfo is not kept.
 pub(crate) fn port_read(store: &Store, sweep: &Sweep, guid: Guid, port: PortNum) -> Option<PortRead>
     ensures { result ≡ port_read (cells_of store.now) sweep.now guid port }
 {
@@ -49,8 +50,8 @@ pub(crate) fn port_read(store: &Store, sweep: &Sweep, guid: Guid, port: PortNum)
     Some(PortRead { own, far })
 }
 
-/// Returns the PortInfo that was read of a port's far end, or `None` if the port is on no wire or that PortInfo is not
-/// kept.
+/// Returns the PortInfo that was read of the far end of the wire at `port` of the node `guid`. Returns `None` if the
+/// port is not on a wire, or if the far end's PortInfo is not kept.
 fn far_image(store: &Store, sweep: &Sweep, guid: Guid, port: PortNum) -> Option<PortInfo>
     ensures { result ≡ far_image (cells_of store.now) sweep.now guid port }
 {
@@ -58,9 +59,9 @@ fn far_image(store: &Store, sweep: &Sweep, guid: Guid, port: PortNum) -> Option<
     sweep.port_image(far_node, far_port)
 }
 
-/// Returns PortInfo as a Set carries it: as it was read, except for defaults for some fields that are 0, the MTU of the
-/// wire, no ClientReregister, and "no change" in fields that must not be written back. Returns zeros if `read` is
-/// `None`.
+/// Returns the PortInfo that a Set carries: the one that was read, with some changes. Some fields have a default if
+/// they were 0, NeighborMTU is the MTU of the wire, ClientReregister is 0, and fields that must not be written back
+/// say "no change". Returns zeros if `read` is `None`.
 pub(crate) fn carried_port(read: Option<PortRead>) -> PortInfo
     ensures { result ≡ carried_port read }
 {
@@ -71,7 +72,7 @@ pub(crate) fn carried_port(read: Option<PortRead>) -> PortInfo
 }
 
 /// Returns the PortInfo `own`, which was read of a port, as a Set carries it. `far` is the PortInfo that was read of
-/// the far end, or `None` if there is no wire or that PortInfo is not kept.
+/// the far end, or `None` if there is no wire or the far end's PortInfo is not kept.
 fn carried_port_of(own: &[u8; 64], far: Option<PortInfo>) -> [u8; 64]
     ensures { result ≡ carried_port (Some (record { own = own.now; far = far })) }
 {
@@ -95,8 +96,8 @@ fn carried_port_of(own: &[u8; 64], far: Option<PortInfo>) -> [u8; 64]
     bytes
 }
 
-/// Returns the lesser of the MTUs that the two ends of a wire can take, if both report one. Otherwise returns the
-/// NeighborMTU in `own`.
+/// Returns the lesser of the MTUCaps in `own` and `far`, if `far` is not `None` and neither is 0. Otherwise returns
+/// the NeighborMTU in `own`.
 fn mtu_of(own: &[u8; 64], far: Option<PortInfo>) -> u8
     ensures value { result ≡ mtu_of own.now far }
     ensures fits { result < 16 }
@@ -111,7 +112,7 @@ fn mtu_of(own: &[u8; 64], far: Option<PortInfo>) -> u8
     }
 }
 
-/// Returns SwitchInfo as a Set carries it: `read`, except for a default for a LifeTimeValue of 0, and the bit that
+/// Returns the SwitchInfo that a Set carries: `read`, with a default if LifeTimeValue is 0, and with the bit set that
 /// clears PortStateChange. Returns zeros if `read` is `None`.
 pub(crate) fn carried_switch(read: Option<SwitchInfo>) -> SwitchInfo
     ensures { result ≡ carried_switch read }
@@ -122,7 +123,7 @@ pub(crate) fn carried_switch(read: Option<SwitchInfo>) -> SwitchInfo
     }
 }
 
-/// Returns the SwitchInfo `read` as a Set carries it.
+/// Returns the SwitchInfo that a Set carries if `read` was read, as `carried_switch` does.
 fn carried_switch_of(read: &[u8; 64]) -> SwitchInfo
     ensures { result ≡ carried_switch (Some read.now) }
 {

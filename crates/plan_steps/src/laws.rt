@@ -4,37 +4,40 @@ ghost use Rattle.plan_steps.specs.LidSets.{OwnLidLaw};
 ghost use Rattle.plan_steps.specs.SetLaws.{LidAndStateAgree, SetsChangeNothingElse, SetsSayThePlan};
 ghost use Rattle.plan_steps.specs.States.{WiredPortsLaw};
 
-/// If there is room for the LIDs, the manager's LID is that of the first end port, by node GUID, with the manager's
-/// port GUID and port number, or 0 if there is no such port.
+/// If every end port finds a LID, the manager's LID is that of the end port with the manager's port GUID and port
+/// number, or 0 if there is no such end port. If several have them, it is that of the one with the least node GUID.
 #[tactic(auto, using(crate::proofs::OwnLid::own_lid_law))]
 pub fn own_lid_is_of_the_first()
     ensures { OwnLidLaw }
 {}
 
-/// The list of ports on wires has exactly these ports, each once, by node GUID and port.
+/// The list of ports on wires has exactly the ports on wires, each once, in ascending order of node GUID and port.
 pub fn wired_ports_are_listed_in_order()
     ensures { WiredPortsLaw }
 {}
 
-/// If there is room for the LIDs, no phase of a plan has more steps than the bound that is known before there is a
-/// plan.
+/// If every end port finds a LID, no phase of a plan has more steps than `most_steps`, a bound that is known before
+/// there is a plan.
 pub fn phases_are_bounded()
     ensures { PhaseBoundLaw }
 {}
 
-/// Whatever was read of a port or a switch, a Set contains the values that the plan asks for, if these fit their
-/// fields: LID, LMC, the manager's LID and the state, or the greatest LID.
+/// Whatever was read of a port or a switch, a Set contains the values that the plan asks for, if they fit in their
+/// fields. For a port, these are the LID, the LMC, the manager's LID and the state. For a switch, it is the greatest
+/// LID.
 pub fn sets_say_the_plan()
     ensures { SetsSayThePlan }
 {}
 
-/// A Set carries what was read, except for what the plan asks for, the MTU of the wire, "no change" in some bits,
-/// defaults for some fields that were 0, and the bits ClientReregister and PortStateChange.
+/// If the image that was read has 64 bytes and the LMC is below 8, a Set carries what was read, except for the
+/// following: what the plan asks for, the MTU of the wire, "no change" in some bits, defaults for some fields that
+/// were 0, and the bits ClientReregister and PortStateChange.
 pub fn sets_change_nothing_else()
     ensures { SetsChangeNothingElse }
 {}
 
-/// The Set of a state at an end port contains what the Set of its LID contains, except for the state.
+/// If an end port has a LID, the Set of a state there contains what the Set of its LID contains, except for the
+/// state.
 pub fn lid_and_state_agree()
     ensures { LidAndStateAgree }
 {}

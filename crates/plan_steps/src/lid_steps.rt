@@ -13,8 +13,8 @@ use std::alloc::{AllocError, Global};
 use subnet_view::EndPort;
 use sweep::Sweep;
 
-/// Returns the LID of the manager at the port `port` with the GUID `own_guid`: the LID of the first end port, by node
-/// GUID, that has this port GUID and number, or 0 if there is no such end port.
+/// Returns the LID of the manager at the port with the number `port` and the GUID `own_guid`. This is the LID of the
+/// first end port in `lids` that has this number and is known to have this GUID, or 0 if there is no such end port.
 pub(crate) fn own_lid(store: &Store, lids: &LidMap, own_guid: Guid, port: PortNum) -> Lid
     ensures { result ≡ own_lid (cells_of store.now) lids.now.ports own_guid port }
 {
@@ -26,15 +26,15 @@ pub(crate) fn own_lid(store: &Store, lids: &LidMap, own_guid: Guid, port: PortNu
     Lid::NONE
 }
 
-/// Returns whether `end` has the number `port`, and its GUID is known to be `own_guid`.
+/// Returns whether `end` has the port number `port`, and its port GUID is known to be `own_guid`.
 fn is_own_port(store: &Store, end: EndPort, own_guid: Guid, port: PortNum) -> bool
     ensures { result ≡ is_own_port (cells_of store.now) own_guid port end }
 {
     end.port == port && store.port_guid(end.node, end.port) == Some(own_guid)
 }
 
-/// Builds the step that sets the LID, the LMC and the manager's LID `master` at each end port that the sweep reached,
-/// in ascending order of LID.
+/// Builds a step for each end port that has a LID in `lids` and that the sweep reached, in ascending order of LID.
+/// The step sets the port's LID and LMC, and the manager's LID `master`.
 pub(crate) fn lid_steps(
     alloc: Global,
     store: &Store,
@@ -54,8 +54,8 @@ pub(crate) fn lid_steps(
     Ok(steps)
 }
 
-/// Builds the step that sets `lid`, its LMC and the manager's LID `master` at the end port that owns `lid`. Returns
-/// `None` if no end port owns `lid`, or the sweep did not reach the end port.
+/// Builds the step for the end port that owns `lid`: it sets `lid`, the port's LMC and the manager's LID `master`.
+/// Returns `None` if no end port owns `lid`, or if the sweep did not reach this end port.
 fn owner_step(store: &Store, sweep: &Sweep, master: Lid, lids: &LidMap, lid: Lid) -> Option<Step>
     ensures { result ≡ owner_step (cells_of store.now) sweep.now master lids.now lid }
 {
@@ -87,8 +87,8 @@ fn lid_step(
     )
 }
 
-/// Returns PortInfo with `lid`, `lmc`, the manager's LID `master` and `state`, and everything else as `carried_port`
-/// gives it for `read`.
+/// Returns the PortInfo that has `lid`, `lmc`, the manager's LID `master` and `state`, and everything else as
+/// `carried_port` gives it for `read`.
 pub(crate) fn port_data(
     read: Option<PortRead>,
     lid: Lid,

@@ -15,10 +15,11 @@ use std::collections::VecDeque;
 use std::marker::Model;
 use sweep::Sweep;
 
-/// Steps that are sent together. Contracts see the steps, and whether they count.
+/// Steps that are sent together. Contracts see the steps, and whether the plan counts as written only if they were
+/// done.
 #[derive(Drop)]
 pub struct Phase {
-    /// Whether the plan counts as written only if the steps were done.
+    /// Whether the plan counts as written only if all these steps were done.
     pub counts: bool,
     pub steps: Vec<Step>,
 }
@@ -31,9 +32,10 @@ impl Model for Phase {
     ghost view = { λ a. record { counts = a.counts; steps = a.steps.items } };
 }
 
-/// Builds the phases in which a manager writes a plan over the paths of its last sweep: LIDs, blocks, the greatest LID,
-/// and then the states of ports on wires, Armed and Active (subnet management, initialization). The manager is at the
-/// port `port` with the GUID `port_guid`. Leaves out agents that the sweep did not reach.
+/// Builds the phases in which a manager writes a plan over the paths of its last sweep: LIDs, forwarding blocks, the
+/// greatest LID at each switch, and then the states of ports on wires, first Armed and then Active (subnet
+/// management, initialization). The manager is at the port with the number `port` and the GUID `port_guid`. Leaves
+/// out agents that the sweep did not reach.
 ///
 /// # Errors
 ///
@@ -53,7 +55,7 @@ pub fn phases(
     phases_by(alloc, plan, store, sweep, master)
 }
 
-/// Builds the phases in which a manager with the LID `master` writes `plan`.
+/// Builds the phases in which a manager with the LID `master` writes `plan`, as `phases` does.
 fn phases_by(
     alloc: Global,
     plan: &Plan,

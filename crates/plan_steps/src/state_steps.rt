@@ -17,7 +17,7 @@ use std::alloc::{AllocError, Global};
 use subnet_view::{EndPort, is_usable, wire};
 use sweep::Sweep;
 
-/// Returns the ports on wires, including both ends of each wire, by node GUID and port.
+/// Returns the ports on wires, which are both ends of each wire, in ascending order of node GUID and port.
 pub(crate) fn wired_ports(alloc: Global, store: &Store) -> Result<Vec<(Guid, PortNum)>, AllocError>
     ensures { IfOk result (λ ports. ports.items ≡ wired_ports (cells_of store.now)) }
 {
@@ -30,8 +30,8 @@ pub(crate) fn wired_ports(alloc: Global, store: &Store) -> Result<Vec<(Guid, Por
     Ok(ports)
 }
 
-/// Returns the port that `sighting` is about, or `None` if `sighting` is not about a port's link or the port is on no
-/// wire.
+/// Returns the port that `sighting` is about, or `None` if `sighting` is not about the link of a port, or if that
+/// port is not on a wire.
 fn wired_port(store: &Store, sighting: &Sighting) -> Option<(Guid, PortNum)>
     ensures { result ≡ wired_port (cells_of store.now) sighting.now }
 {
@@ -47,9 +47,9 @@ fn wired_port(store: &Store, sighting: &Sighting) -> Option<(Guid, PortNum)>
     }
 }
 
-/// Builds the step that sets `state` at each of `ports`, in their order. Leaves out a port that the sweep did not see
-/// in Initialize or, if `state` is Active, in Armed. Also leaves out a port whose vertex the sweep did not reach.
-/// Builds none if `state` is neither Armed nor Active.
+/// Builds a step for each of `ports`, in their order, that sets `state` there. Leaves out a port that the sweep did
+/// not see in Initialize or, if `state` is Active, in Armed. Also leaves out a port whose vertex the sweep did not
+/// reach. Builds no step if `state` is neither Armed nor Active.
 #[tactic(auto, using(crate::proofs::Walked::walked_some, crate::proofs::Walked::walked_none))]
 pub(crate) fn state_steps(
     alloc: Global,
@@ -72,8 +72,8 @@ pub(crate) fn state_steps(
     Ok(steps)
 }
 
-/// Builds the step that sets `state` at a port. Returns `None` if the sweep did not see the port in a state from which
-/// the port is due to go to `state`, or did not reach the port's vertex.
+/// Builds the step that sets `state` at `port` of the node `guid`. Returns `None` if the sweep did not see the port
+/// in a state from which the port is due to go to `state`, or did not reach the port's vertex.
 fn state_step(
     store: &Store,
     sweep: &Sweep,
@@ -99,7 +99,7 @@ fn state_step(
     )
 }
 
-/// Returns whether the sweep saw a port in a state from which the port is due to go to `state`.
+/// Returns whether the sweep saw `port` of the node `guid` in a state from which the port is due to go to `state`.
 fn is_still_due(sweep: &Sweep, state: PortState, guid: Guid, port: PortNum) -> bool
     ensures { result ≡ option_map_or (is_due state) (seen_state sweep.now guid port) false }
 {
@@ -132,8 +132,9 @@ fn vertex_port(store: &Store, guid: Guid, port: PortNum) -> PortNum
     }
 }
 
-/// Returns the PortInfo that sets `state` at a port. If the port has a LID, the PortInfo has this LID, its LMC and the
-/// manager's LID `master`. Otherwise the PortInfo has 0 for these three.
+/// Returns the PortInfo that sets `state` at `port` of the node `guid`, with everything else as `carried_port` gives
+/// it for `read`. If the port has a LID in `lids`, the PortInfo has this LID, the port's LMC and the manager's LID
+/// `master`. Otherwise it has 0 for these three.
 fn state_data(
     read: Option<PortRead>,
     lids: &LidMap,

@@ -23,26 +23,27 @@ use Rattle.schedule_file.specs.ManagerName.{manager_name_in}
 use Rattle.schedule_file.specs.ManagerWords.{asked_by, generation_of, shown_by}
 use Rattle.text_words.specs.Number.{lid_of, number_up_to}
 
--- a command as its line gives it: managers and nodes by their names
+-- a command, as given by its line, with managers and nodes given by their names
 abbrev pub NamedCommand : Type 0
 NamedCommand = Command (List ℕ) PortName
 
--- a packet in flight: the packet sent last, or the packet with a serial number; None if the word names neither
+-- a packet in flight: the packet sent last, or the packet with a serial number; None if the word names no packet
 abbrev pub which_of : List ℕ → Option Which
 which_of word = if bytes_eq word (codes "last") then Some Last else option_map Serial (number_up_to (2 ^ 64 - 1) word)
 
--- the number of a port in brackets, up to 255; None for another word
+-- the number of a port, up to 255, in brackets; None for any other word
 abbrev pub bracketed_number : List ℕ → Option ℕ
 bracketed_number word = option_and_then (number_up_to 255) (option_and_then alone (enclosed 91 93 word))
 
--- a node's name in quotes, directly followed by a port in brackets; None for another word
+-- a node's name in quotes, directly followed by the number of a port in brackets; None for any other word
 abbrev pub port_name : List ℕ → Option PortName
 port_name word =
     option_and_then (λ x. option_and_then
     (λ name. option_map (λ port. record { node = name; port = port }) (bracketed_number x.1)) (name_in x.0))
     (enclosed 34 34 word)
 
--- what follows the priority of a new manager: nothing, or 'live' and an SM_Key; None for other words
+-- the SM_Key that the words after the priority of a new manager give: no words, or 'live' and a 64-bit SM_Key; None
+-- for other words. The inner value is None if there are no words
 abbrev pub sm_key_in : List (List ℕ) → Option (Option ℕ)
 sm_key_in [] = Some None
 sm_key_in (word ∷ key ∷ []) =
@@ -59,7 +60,7 @@ new_manager _ = None
 
 -- commands of one word -----------------------------------------------------------------------
 
--- the command of the one word `word`; None if `word` is no command
+-- the command that has the one word `word`; None if `word` is not a command
 abbrev pub bare_of : List ℕ → Option NamedCommand
 bare_of word =
     if bytes_eq word (codes "tables") then Some command.Tables
@@ -70,27 +71,28 @@ bare_of word =
 
 -- commands of two words --------------------------------------------------------------------------
 
--- the command that asks the manager `name` for `what`; None if `name` is no name of a manager
+-- the command that asks the manager `name` for `what`; None if `name` is not a name of a manager
 abbrev pub ask : Ask → List ℕ → Option NamedCommand
 ask what name = option_map (λ manager. command.Ask manager what) (manager_name_in name)
 
--- the command that shows `what` of the manager `name`; None if `name` is no name of a manager
+-- the command that shows `what` of the manager `name`; None if `name` is not a name of a manager
 abbrev pub show : Shown → List ℕ → Option NamedCommand
 show what name = option_map (λ manager. command.Show manager what) (manager_name_in name)
 
--- the command with the first word `word` about the manager `name`; None if there is none, or `name` is no name of a
--- manager
+-- the command with the first word `word` about the manager `name`; None if there is no such command, or if `name` is
+-- not a name of a manager
 abbrev pub to_manager : List ℕ → List ℕ → Option NamedCommand
 to_manager word name =
     option_map_or (λ what. ask what name) (asked_by word)
     (if bytes_eq word (codes "timeout") then option_map command.Timeout (manager_name_in name)
     else option_and_then (λ what. show what name) (shown_by word))
 
--- the command that delivers, loses or repeats the packet in flight that a word names; None if it names none
+-- the command that delivers, loses or repeats the packet in flight that a word names; None if the word names no
+-- packet
 abbrev pub packet : Fate → List ℕ → Option NamedCommand
 packet fate which = option_map (λ w. command.Packet w fate) (which_of which)
 
--- any command of the two words `word` and `arg`; None if they are no command
+-- any command of the two words `word` and `arg`; None if they are not a command
 abbrev pub of_one : List ℕ → List ℕ → Option NamedCommand
 of_one word arg =
     if bytes_eq word (codes "deliver") then packet Deliver arg
@@ -102,16 +104,17 @@ of_one word arg =
 
 -- commands of three words ------------------------------------------------------------------------
 
--- the command `merge` of two managers; None if one of the words is no manager's name
+-- the command `merge` of two managers; None if one of the words is not a name of a manager
 abbrev pub merge : List ℕ → List ℕ → Option NamedCommand
 merge one other = option_and_then (λ m. option_map (command.Merge m) (manager_name_in other)) (manager_name_in one)
 
--- `poll` with a manager and a LID; None if `name` is no name of a manager, or `lid` is no LID
+-- `poll` with a manager and a LID; None if `name` is not a name of a manager, or `lid` is not a LID
 abbrev pub poll : List ℕ → List ℕ → Option NamedCommand
 poll name lid =
     option_and_then (λ m. option_map (λ n. command.Ask m (Poll (Some n))) (lid_of lid)) (manager_name_in name)
 
--- `floor` with a manager and a generation; None if `name` is no name of a manager, or `generation` is no generation
+-- `floor` with a manager and a generation; None if `name` is not a name of a manager, or `generation` is not a
+-- generation
 abbrev pub floor : List ℕ → List ℕ → Option NamedCommand
 floor name generation =
     option_and_then (λ m. option_map (command.Floor m) (generation_of generation)) (manager_name_in name)
@@ -120,11 +123,11 @@ floor name generation =
 abbrev pub plug : List ℕ → List ℕ → Option NamedCommand
 plug one other = option_and_then (λ p. option_map (command.Plug p) (port_name other)) (port_name one)
 
--- `ping` with a port and a LID; None if `port` names no port, or `lid` is no LID
+-- `ping` with a port and a LID; None if `port` names no port, or `lid` is not a LID
 abbrev pub ping : List ℕ → List ℕ → Option NamedCommand
 ping port lid = option_and_then (λ p. option_map (command.Ping p) (lid_of lid)) (port_name port)
 
--- any command of three words; None if they are no command
+-- any command of three words; None if they are not a command
 abbrev pub of_two : List ℕ → List ℕ → List ℕ → Option NamedCommand
 of_two word one other =
     if bytes_eq word (codes "merge") then merge one other
@@ -136,7 +139,7 @@ of_two word one other =
 
 -- lines ----------------------------------------------------------------------------------------
 
--- the command of the word `word` and the words after it; None if they are no command
+-- the command that has the word `word` and the words after it; None if they are not a command
 abbrev pub command_in : List ℕ → List (List ℕ) → Option NamedCommand
 command_in word [] = bare_of word
 command_in word (arg ∷ []) = of_one word arg
@@ -152,4 +155,5 @@ line_in (word ∷ args) =
 
 -- what a line says; None if the grammar has no such line
 unfoldable pub line_of : List ℕ → Option ScheduleLine
+
 line_of line = line_in (words line)

@@ -1,4 +1,4 @@
--- The first fault of a schedule's text, found by keeping only the managers.
+-- The first fault of a schedule's text, found from its lines and the managers so far alone.
 use Rattle.std.specs.Prelude.{◌≡◌, ◌⊎◌, ◌<◌, ℕ, Bool, true, false, List, [], ◌∷◌, ◌++◌, Option, None, Some, Result, Ok, Err, length}
 use Rattle.topo_file.specs.declared.node.Node.{Node}
 use Rattle.schedule_file.specs.declared.fault.ScheduleFault.{ScheduleFault}
@@ -13,7 +13,7 @@ abbrev pub fault_of : {T : Type 0} → Result T ScheduleFault → Option Schedul
 fault_of (Ok value) = None
 fault_of (Err fault) = Some fault
 
--- up to some line the lines have no fault, and add more than 64 managers
+-- some of the lines, from the first one on, have no fault and add more than 64 managers
 pub record IsCrowded (nodes : List Node) (lines : List (List ℕ)) : Type 0 where
   pub front : List (List ℕ)
   pub back : List (List ℕ)
@@ -22,7 +22,7 @@ pub record IsCrowded (nodes : List Node) (lines : List (List ℕ)) : Type 0 wher
   pub told : schedule_of_lines nodes front ≡ Ok script
   pub many : 64 < length script.seats
 
--- the lines have no fault; or, up to some line, they have no fault and add more than 64 managers
+-- the lines have no fault, or some of them, from the first one on, have no fault and add more than 64 managers
 abbrev pub IsSoundOrCrowded : List Node → List (List ℕ) → Type 0
 IsSoundOrCrowded nodes lines = (fault_of (schedule_of_lines nodes lines) ≡ None) ⊎ IsCrowded nodes lines
 
@@ -35,8 +35,8 @@ seats_with nodes number seats (Some (line.Manager new)) =
 seats_with nodes number seats (Some (line.Command named)) =
     where_known number (command_of nodes seats named) >>= λ command. Ok seats
 
--- the outcome of a call that should give managers or a fault: it returned `true` and left those managers as `new`,
--- returned `false` and there are more than 64 of them, or returned that fault
+-- a call that should give the managers or the fault of the first result did so: it returned `true` and left these
+-- managers as `new`, returned `false` and they are more than 64, or returned this fault
 abbrev pub Leaves : Result (List Seat) ScheduleFault → Result Bool ScheduleFault → List Seat → Type 0
 Leaves (Ok now) (Ok true) new = new ≡ now
 Leaves (Ok now) (Ok false) new = 64 < length now

@@ -3,7 +3,7 @@ use Rattle.std.specs.Prelude.{ℕ, Bool, List, Option, None, Some, length, ◌&&
 use Rattle.std.specs.Char.{is_ascii_alphanumeric}
 use Rattle.std.specs.List.{list_all}
 
--- `name` is 1 to 16 ASCII letters and digits
+-- whether `name` is 1 to 16 ASCII letters and digits
 abbrev pub is_manager_name : List ℕ → Bool
 is_manager_name name = nat_le 1 (length name) && nat_le (length name) 16 && list_all is_ascii_alphanumeric name
 

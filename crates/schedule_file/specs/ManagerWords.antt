@@ -1,4 +1,5 @@
--- Words about one manager: what it is asked for, what is shown of it, and the numbers that follow.
+-- The words of commands about one manager: what it is asked for, what is shown of it, and the numbers that follow its
+-- name.
 use Rattle.std.specs.Prelude.{ℕ, List, Option, None, Some, option_and_then, codes, ◌==◌, if◌then◌else◌}
 use Rattle.std.specs.Str.{bytes_eq}
 use Rattle.text_words.specs.Number.{number_up_to}
@@ -7,7 +8,8 @@ use Rattle.schedule_file.specs.declared.command.Ask.TheVariants.{Sweep, Write, H
 use Rattle.schedule_file.specs.declared.command.Shown.{Shown}
 use Rattle.schedule_file.specs.declared.command.Shown.TheVariants.{Facts, Plan, Progress, Silent, State, Written}
 
--- the request that `word` alone makes to a manager; None if it makes none
+-- the request to a manager that `word` stands for when only the manager's name follows; None if it stands for no
+-- request
 abbrev pub asked_by : List ℕ → Option Ask
 asked_by word =
     if bytes_eq word (codes "sweep") then Some Sweep
@@ -16,7 +18,7 @@ asked_by word =
     else if bytes_eq word (codes "poll") then Some (Poll None)
     else None
 
--- what `word` shows of a manager; None if it shows nothing
+-- what is to be shown of a manager by the command `word`; None if `word` is not such a command
 abbrev pub shown_by : List ℕ → Option Shown
 shown_by word =
     if bytes_eq word (codes "facts") then Some Facts

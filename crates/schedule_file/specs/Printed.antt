@@ -1,4 +1,4 @@
--- The text of a schedule, which is read as that schedule again.
+-- The text of a schedule, which is read back as that schedule.
 use Rattle.std.specs.Prelude.{◌≡◌, ℕ, List, [], ◌∷◌, Ok, codes, decimal, map, slice_get, Option, None, Some}
 use Rattle.std.specs.Option.{option_map_or}
 use Rattle.fabric_model.specs.declared.cable.NodePort.{NodePort}
@@ -56,7 +56,7 @@ abbrev pub sm_key_words : Option ℕ → List (List ℕ)
 sm_key_words None = []
 sm_key_words (Some key) = codes "live" ∷ decimal key ∷ []
 
--- the words of a command; none for a new manager, whose line says more than the command
+-- the words of a command; none for a new manager, whose line has more words than the command says
 abbrev pub named_words : NamedCommand → List (List ℕ)
 named_words (command.Manager name) = []
 named_words (command.Ask name what) = ask_words what name
@@ -78,7 +78,7 @@ named_words command.Flight = codes "flight" ∷ []
 abbrev pub manager_at : List Seat → ℕ → List ℕ
 manager_at seats seat = option_map_or (λ s. s.name) (slice_get seats seat) []
 
--- the port `p`, with its node named by its name in `nodes`, not by its index
+-- in a schedule, the port `p`, with its node given by its name in `nodes` instead of its index
 abbrev pub port_at : List Node → NodePort → PortName
 port_at nodes p = record { node = name_at nodes p.node; port = p.port }
 
@@ -86,7 +86,8 @@ port_at nodes p = record { node = name_at nodes p.node; port = p.port }
 abbrev pub seat_words : List Node → Seat → List (List ℕ)
 seat_words nodes s = codes "manager" ∷ s.name ∷ port_word (port_at nodes s.at) ∷ decimal s.priority ∷ sm_key_words s.sm_key
 
--- the words of a command's line, with the names of its managers and nodes
+-- the words of the line of a command, with the names of its managers and nodes; none if the command adds a manager
+-- that is not in `seats`
 abbrev pub command_words : List Node → List Seat → SeatCommand → List (List ℕ)
 command_words nodes seats (command.Manager seat) = option_map_or (seat_words nodes) (slice_get seats seat) []
 command_words nodes seats (command.Ask seat what) = named_words (command.Ask (manager_at seats seat) what)
@@ -109,7 +110,8 @@ command_words nodes seats command.Flight = named_words command.Flight
 abbrev pub schedule_text : List Node → Script → List ℕ
 schedule_text nodes script = lines_text (map (command_words nodes script.seats) script.commands)
 
--- the text of a schedule that was read is read as that schedule
+-- if a schedule was read from a text, the text of this schedule (`schedule_text`) is read back as it, for the same
+-- nodes
 abbrev pub PrintedSchedulesAreRead : Type 0
 PrintedSchedulesAreRead =
     (nodes : List Node) (text : List ℕ) (script : Script) → schedule_of nodes text ≡ Ok script

@@ -22,7 +22,7 @@ use Rattle.schedule_file.specs.declared.named_command.PortName.{PortName}
 use Rattle.schedule_file.specs.declared.schedule.Seat.{Seat}
 use Rattle.schedule_file.specs.Command.{NamedCommand, line_of}
 
--- a command as it is run: managers by the indices of their seats, from 0, and nodes by their indices
+-- a command as it is run; managers are given by the indices of their seats, from 0, and nodes by their indices
 abbrev pub SeatCommand : Type 0
 SeatCommand = Command ℕ NodePort
 
@@ -31,7 +31,7 @@ pub record Script : Type 0 where
   pub seats : List Seat
   pub commands : List SeatCommand
 
--- `next` of the value, or the fault
+-- `next` applied to the value, or the fault
 infixl 10 ◌>>=◌
 abbrev pub ◌>>=◌ : {A B : Type 0} → Result A ScheduleFault → (A → Result B ScheduleFault) → Result B ScheduleFault
 (Ok value) >>= next = next value
@@ -41,24 +41,25 @@ abbrev pub ◌>>=◌ : {A B : Type 0} → Result A ScheduleFault → (A → Resu
 abbrev pub seat_of : List Seat → List ℕ → Option ℕ
 seat_of seats name = position (λ seat. bytes_eq seat.name name) seats
 
--- a manager of `seats` sits at the port `p`
+-- whether a manager of `seats` sits at the port `p`
 abbrev pub is_taken : List Seat → NodePort → Bool
 is_taken seats p = list_any (λ seat. is_same_port seat.at p) seats
 
--- a manager may sit at the port `port` of `node`: the node has the port, from 1 on, and is no switch
+-- whether a manager may sit at the port `port` of `node`: the node is not a switch, and the number is from 1 to its
+-- port count
 abbrev pub may_seat : Node → ℕ → Bool
 may_seat node port = not (is_switch node.kind) && is_within port node.ports
 
--- a manager may sit at the port `p`: it is a port of an adapter of `nodes`
+-- whether a manager may sit at the port `p`: it is a port of an adapter of `nodes`
 abbrev pub is_seat : List Node → NodePort → Bool
 is_seat nodes p = option_map_or (λ node. may_seat node p.port) (slice_get nodes p.node) false
 
--- a manager may sit at the port `p`, and none of `seats` sits there
+-- whether a manager may sit at the port `p`, and none of `seats` sits there
 abbrev pub is_free : List Node → List Seat → NodePort → Bool
 is_free nodes seats p = is_seat nodes p && not (is_taken seats p)
 
--- the port that `name` names, whether or not its node has a port of that number; None if no node has the node name in
--- `name`
+-- the port that `name` names, whether or not its node has a port with this number; None if no node has the node name
+-- in `name`
 abbrev pub port_of : List Node → PortName → Option NodePort
 port_of nodes name = option_map (λ id. record { node = id; port = name.port }) (id_of nodes name.node)
 
@@ -82,7 +83,7 @@ command_of nodes seats command.Resend = Some command.Resend
 command_of nodes seats command.Tables = Some command.Tables
 command_of nodes seats command.Flight = Some command.Flight
 
--- the command, or the fault of the line `number` if a name of it is unknown (None)
+-- the given command, or the fault of the line `number` if it is None, since a name in it is unknown
 abbrev pub where_known : ℕ → Option SeatCommand → Result SeatCommand ScheduleFault
 where_known number (Some command) = Ok command
 where_known number None = Err (fault.Name number)
@@ -91,16 +92,16 @@ where_known number None = Err (fault.Name number)
 abbrev pub with_command : Script → SeatCommand → Script
 with_command before command = record before { commands = before.commands ++ command ∷ [] }
 
--- the seat of the new manager `new` at a port, or the fault of the line `number`: the port is unknown (None), taken, or
--- no adapter's
+-- the seat of the new manager `new` at a port, or the fault of the line `number`: the port is None, since its node is
+-- unknown, is taken, or is not a port of an adapter
 abbrev pub seat_at : List Node → List Seat → ℕ → NewManager → Option NodePort → Result Seat ScheduleFault
 seat_at nodes seats number new (Some p) =
     if is_free nodes seats p then Ok (record { name = new.name; at = p; priority = new.priority; sm_key = new.sm_key })
     else Err (fault.Seat number)
 seat_at nodes seats number new None = Err (fault.Name number)
 
--- the seat of the new manager `new`, or the fault of the line `number`: its name is used, or its port is unknown, taken
--- or no adapter's
+-- the seat of the new manager `new`, or the fault of the line `number`: its name is used, the node of its port is
+-- unknown, or the port is taken or not a port of an adapter
 abbrev pub new_seat : List Node → List Seat → ℕ → NewManager → Result Seat ScheduleFault
 new_seat nodes seats number new =
     if is_some (seat_of seats new.name) then Err (fault.Name number)
@@ -115,7 +116,8 @@ with_seat before seat =
           ∷ [];
     }
 
--- `before`, the schedule so far, with what the line `number` adds, or that line's fault
+-- `before`, the schedule so far, with the manager or the command that the line `number` adds, or the fault of this
+-- line
 abbrev pub with_line : List Node → ℕ → Script → Option ScheduleLine → Result Script ScheduleFault
 with_line nodes number before None = Err (fault.Syntax number)
 with_line nodes number before (Some line.Empty) = Ok before
@@ -124,17 +126,18 @@ with_line nodes number before (Some (line.Manager new)) =
 with_line nodes number before (Some (line.Command named)) =
     where_known number (command_of nodes before.seats named) >>= λ command. Ok (with_command before command)
 
--- `before`, the schedule so far, with what the lines add, or the first fault; the first line has the number `number`
+-- `before`, the schedule so far, with the managers and commands that the given lines add, or the first fault; the
+-- first of these lines has the number `number`
 abbrev pub with_lines : List Node → ℕ → Script → List (List ℕ) → Result Script ScheduleFault
 with_lines nodes number before [] = Ok before
 with_lines nodes number before (line ∷ later) =
     with_line nodes number before (line_of line) >>= λ now. with_lines nodes (number + 1) now later
 
--- the schedule that the lines say, for a fabric with `nodes`, or their first fault
+-- the schedule that the lines give, for a fabric with `nodes`, or their first fault
 abbrev pub schedule_of_lines : List Node → List (List ℕ) → Result Script ScheduleFault
 schedule_of_lines nodes lines = with_lines nodes 1 (record { seats = []; commands = [] }) lines
 
--- the schedule that a text says, for a fabric with `nodes`, or its first fault
+-- the schedule that a text gives, for a fabric with `nodes`, or its first fault
 unfoldable pub schedule_of : List Node → List ℕ → Result Script ScheduleFault
 schedule_of nodes text = schedule_of_lines nodes (lines text)
 

@@ -3,12 +3,12 @@ use Rattle.std.specs.Prelude.{◌≡◌, ℕ, List, Option, None, Some, Result, 
 use Rattle.schedule_file.specs.declared.fault.ScheduleFault.{ScheduleFault}
 use Rattle.schedule_file.specs.declared.fault.ScheduleFault.TheVariants.{Syntax, Name, Seat, Memory}
 
--- a call is refused for the given fault: lack of memory, or else the fault in `told`
+-- the given fault is lack of memory, or `told` is this fault
 abbrev pub IsRefused : {T : Type 0} → ScheduleFault → Result T ScheduleFault → Type 0
 IsRefused Memory told = Unit {0}
 IsRefused fault told = told ≡ Err fault
 
--- the result of a call is `told`, a value or the first fault, or it is lack of memory
+-- the given result of a call is `told`, which is a value or the first fault; or it is lack of memory
 abbrev pub Reads : {T : Type 0} → Result T ScheduleFault → Result T ScheduleFault → Type 0
 Reads (Ok value) told = told ≡ Ok value
 Reads (Err fault) told = IsRefused fault told
@@ -20,7 +20,7 @@ fault_word (Name line) = codes "name"
 fault_word (Seat line) = codes "seat"
 fault_word Memory = codes "out of memory"
 
--- the number of the faulty line, from 1; lack of memory has none
+-- the number of the faulty line, counted from 1; None for lack of memory
 abbrev pub fault_line : ScheduleFault → Option ℕ
 fault_line (Syntax line) = Some line
 fault_line (Name line) = Some line

@@ -1,8 +1,8 @@
 //! The commands of a schedule.
 use smp_bytes::{Generation, Lid};
 
-/// A command over managers `M` and ports `P`. In a line, `M` and `P` are names. In a command as it is run, `M` is the
-/// index of a manager's seat, from 0, and `P` has the index of a port's node.
+/// A command about managers of the type `M` and ports of the type `P`. In a line, `M` and `P` are names. In a command
+/// as it is run, `M` is the index of a manager's seat, from 0, and `P` is a port with the index of its node.
 #[derive(Clone, Copy, PartialEq, Eq, Drop)]
 pub enum Command<M, P> {
     /// Adds a manager.
@@ -11,15 +11,17 @@ pub enum Command<M, P> {
     Ask(M, Ask),
     /// Makes a manager give up each request that waits for its answer.
     Timeout(M),
-    /// Makes a manager forget the facts that are older than the generation.
+    /// Makes a manager forget the facts of generations below this one.
     Floor(M, Generation),
-    /// Makes the first manager take in all that the second one knows, and the floor of the second if that is greater.
+    /// Makes the first manager take in all facts of the second one, and the floor of the second one if that is
+    /// greater.
     Merge(M, M),
     /// Shows something of a manager.
     Show(M, Shown),
     /// Delivers, loses or duplicates a packet in flight.
     Packet(Which, Fate),
-    /// Takes a step of the packet in flight with the least serial number, at most this many times, up to 1,000,000.
+    /// Takes a step of the packet in flight with the least serial number, again and again, at most this many times.
+    /// The number is at most 1,000,000.
     Drain(u32),
     /// Cuts the cable in the port.
     Cut(P),
@@ -46,7 +48,7 @@ pub enum Ask {
     Write,
     /// A HANDOVER to the manager's successor among the managers that its last sweep saw.
     Handover,
-    /// A poll of the manager at the LID; without a LID, of a manager that the last sweep saw.
+    /// A poll of the manager at the LID or, if there is no LID, of a manager that the last sweep saw.
     Poll(Option<Lid>),
 }
 
@@ -57,7 +59,7 @@ pub enum Shown {
     Facts,
     /// The manager's plan.
     Plan,
-    /// The progress of the manager's sweep.
+    /// The progress of the manager's last sweep.
     Progress,
     /// The number of requests for SMInfo in the manager's last sweep that were given up.
     Silent,

@@ -7,9 +7,10 @@ use std::fmt;
 /// Why a text is not a schedule. The variants are in the order of a line's checks. Lines are counted from 1.
 #[derive(Clone, Copy, Debug, PartialEq, Eq)]
 pub enum ScheduleFault {
-    /// The line is not in the grammar, or a number in it is out of its range.
+    /// The grammar has no such line, or a number in the line is out of its range.
     Syntax { line: usize },
-    /// No node has the name, no manager of an earlier line has the name, or a new manager's name is taken.
+    /// The name of a node or of a manager in the line is unknown, or the name of a new manager is taken. A manager is
+    /// known from its own line on.
     Name { line: usize },
     /// A new manager is at a switch, at a port that the adapter does not have, or at a port with a manager already.
     Seat { line: usize },

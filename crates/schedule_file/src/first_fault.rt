@@ -13,7 +13,7 @@ use arrayvec::ArrayVec;
 use text_words::split_line;
 use topo_file::Topology;
 
-/// The managers so far, at most 64, which take no memory from the allocator.
+/// The managers so far, at most 64. They take no memory from the allocator.
 type Seats = ArrayVec<Seat, 64>;
 
 /// Returns the first fault of `text`. Returns `None` if `text` has no fault, or has more than 64 managers before its
@@ -37,8 +37,9 @@ pub(crate) fn first_fault(topology: &Topology, text: &[u8]) -> Option<ScheduleFa
     None
 }
 
-/// Checks `line`, whose number is `number`, given `seats`, the managers above. If the line has a new manager, appends
-/// it to `seats`. Returns the line's fault if it has one, and `false` if `seats` has no room for the manager.
+/// Checks `line`, whose number is `number`, given `seats`, the managers of the lines above. If the line has a new
+/// manager, appends it to `seats`. Returns the line's fault if it has one. Otherwise returns `false` if `seats` has
+/// 64 managers already and so cannot take the new one, and `true` if not.
 fn judge_line(
     topology: &Topology,
     seats: &mut Seats,

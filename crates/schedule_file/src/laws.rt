@@ -1,8 +1,8 @@
 //! The law of printed schedules.
 ghost use Rattle.schedule_file.specs.Printed.{PrintedSchedulesAreRead};
 
-/// The text of a schedule that was read, with a line for each of its commands, is read as that schedule for the same
-/// nodes.
+/// If a schedule was read from a text for some nodes, its printed text is read back as this schedule for the same
+/// nodes. The printed text has a line for each command.
 #[tactic(auto, using(crate::proofs::Printed::printed_is_read))]
 pub fn printed_schedules_are_read()
     ensures law { PrintedSchedulesAreRead }

@@ -17,13 +17,13 @@ pub(crate) enum ScheduleLine {
     Command(NamedCommand),
 }
 
-/// A new manager as its line gives it.
+/// A new manager, as given by its line.
 #[derive(Drop)]
 pub(crate) struct NewManager {
     pub(crate) name: ManagerName,
     pub(crate) at: PortName,
     pub(crate) priority: Priority,
-    /// The SM_Key of a manager by the live conduct; `None` for a plain manager.
+    /// The SM_Key of a manager of the live conduct; `None` for one of the plain conduct.
     pub(crate) sm_key: Option<u64>,
 }
 
@@ -57,8 +57,8 @@ fn new_manager(line: &[u8]) -> Option<NewManager>
     })
 }
 
-/// Parses `line`, what follows the priority of a new manager: nothing, or `live` and an SM_Key in decimal. The inner
-/// value is `None` if nothing follows. Returns `None` for anything else.
+/// Parses `line`, the words that follow the priority of a new manager: none, or `live` and a 64-bit SM_Key in
+/// decimal. Returns `None` for anything else. The inner value is `None` if no word follows.
 fn sm_key_in(line: &[u8]) -> Option<Option<u64>>
     ensures { result ≡ sm_key_in (words line.now) }
 {
@@ -73,7 +73,7 @@ fn sm_key_in(line: &[u8]) -> Option<Option<u64>>
     }
 }
 
-/// Parses a priority in decimal. Returns `None` if `word` is no decimal number, or is over 15.
+/// Parses a priority in decimal. Returns `None` if `word` is not a decimal number, or if the number is above 15.
 fn priority_of(word: &[u8]) -> Option<Priority>
     ensures { result ≡ number_up_to 15 word.now }
 {

@@ -1,4 +1,5 @@
-//! Words about one manager: what it is asked for, what is shown of it, and the numbers that follow.
+//! The words of commands about one manager: what it is asked for, what is shown of it, and the numbers that follow
+//! its name.
 ghost use Rattle.std.specs.Prelude.{◌≡◌};
 ghost use Rattle.schedule_file.specs.ManagerWords.{asked_by, generation_of, shown_by};
 ghost use Rattle.text_words.specs.Number.{lid_of};
@@ -8,8 +9,8 @@ use crate::numbers::number_up_to;
 use smp_bytes::{Generation, Lid};
 use text_words::is_word;
 
-/// Returns the request that `word` makes to a manager if only the manager's name follows, or `None` if `word` makes
-/// none.
+/// Returns the request to a manager that `word` stands for when only the manager's name follows, or `None` if `word`
+/// stands for no request.
 pub fn asked_by(word: &[u8]) -> Option<Ask>
     ensures { result ≡ asked_by word.now }
 {
@@ -26,7 +27,7 @@ pub fn asked_by(word: &[u8]) -> Option<Ask>
     }
 }
 
-/// Returns what `word` shows of a manager, or `None` if `word` shows nothing.
+/// Returns what is to be shown of a manager by the command `word`, or `None` if `word` is not such a command.
 pub fn shown_by(word: &[u8]) -> Option<Shown>
     ensures { result ≡ shown_by word.now }
 {
@@ -47,14 +48,15 @@ pub fn shown_by(word: &[u8]) -> Option<Shown>
     }
 }
 
-/// Parses a LID in decimal. Returns `None` if `word` is no decimal number, or is over 65,535.
+/// Parses a LID in decimal. Returns `None` if `word` is not a decimal number, or if the number is above 65,535.
 pub fn lid_of(word: &[u8]) -> Option<Lid>
     ensures { result ≡ lid_of word.now }
 {
     Some(Lid::new(number_up_to(word, 0xFFFF)? as u16))
 }
 
-/// Parses a generation in decimal. Returns `None` if `word` is no decimal number, or is not from 1 to 4,294,967,295.
+/// Parses a generation in decimal. Returns `None` if `word` is not a decimal number, or if the number is not from 1
+/// to 4,294,967,295.
 pub fn generation_of(word: &[u8]) -> Option<Generation>
     ensures { result ≡ generation_of word.now }
 {

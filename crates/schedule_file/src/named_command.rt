@@ -1,4 +1,4 @@
-//! Commands with names, as in their lines. There is a function for each number of words after the first one.
+//! Commands with names, as lines give them. There is a function for each number of words after the first one.
 ghost use Rattle.std.specs.Prelude.{◌≡◌};
 ghost use Rattle.text_words.specs.Text.{words};
 ghost use Rattle.schedule_file.specs.Command.{ask, bare_of, bracketed_number, command_in, floor};
@@ -12,15 +12,15 @@ use crate::numbers::{number_up_to, serial};
 use smp_bytes::PortNum;
 use text_words::{NodeName, enclosed, is_word, split_word};
 
-/// A port as a line gives it.
+/// A port, as given by a line: the name of its node and its number.
 #[derive(Drop)]
 pub(crate) struct PortName {
     pub(crate) node: NodeName,
     pub(crate) port: PortNum,
 }
 
-/// A command as its line gives it. A new manager's line is a `NewManager` instead, and becomes a command when its seat
-/// is found.
+/// A command, as given by its line. The line of a new manager is a `NewManager` instead, and becomes a command once
+/// the seat of the manager is known.
 pub(crate) type NamedCommand = Command<ManagerName, PortName>;
 
 /// Parses a command from `word`, the first word of its line, and `line`, the rest. Returns `None` if the grammar has no
@@ -57,7 +57,7 @@ fn bare(word: &[u8]) -> Option<NamedCommand>
     }
 }
 
-/// Parses the command of the two words `word` and `arg`. Returns `None` if the grammar has no such command.
+/// Parses the command that has the two words `word` and `arg`. Returns `None` if the grammar has no such command.
 fn of_one(word: &[u8], arg: &[u8]) -> Option<NamedCommand>
     ensures { result ≡ of_one word.now arg.now }
 {
@@ -76,7 +76,8 @@ fn of_one(word: &[u8], arg: &[u8]) -> Option<NamedCommand>
     }
 }
 
-/// Parses the command of two words, `word` and a manager's name. Returns `None` if the grammar has no such command.
+/// Parses the command that has two words, `word` and a manager's name, `name`. Returns `None` if the grammar has no
+/// such command.
 fn to_manager(word: &[u8], name: &[u8]) -> Option<NamedCommand>
     ensures { result ≡ to_manager word.now name.now }
 {
@@ -89,7 +90,8 @@ fn to_manager(word: &[u8], name: &[u8]) -> Option<NamedCommand>
     }
 }
 
-/// Parses the command of the three words `word`, `one` and `other`. Returns `None` if the grammar has no such command.
+/// Parses the command that has the three words `word`, `one` and `other`. Returns `None` if the grammar has no such
+/// command.
 fn of_two(word: &[u8], one: &[u8], other: &[u8]) -> Option<NamedCommand>
     ensures { result ≡ of_two word.now one.now other.now }
 {
@@ -161,8 +163,8 @@ fn ping(port: &[u8], lid: &[u8]) -> Option<NamedCommand>
     Some(Command::Ping(port, lid_of(lid)?))
 }
 
-/// Parses `word` as the name of a packet in flight: `last`, or a serial number in decimal. Returns `None` for anything
-/// else.
+/// Parses `word` as the name of a packet in flight: `last`, or a 64-bit serial number in decimal. Returns `None` for
+/// anything else.
 fn which(word: &[u8]) -> Option<Which>
     ensures { result ≡ which_of word.now }
 {
@@ -173,8 +175,8 @@ fn which(word: &[u8]) -> Option<Which>
     }
 }
 
-/// Parses a node's name in quotes, directly followed by a port in brackets, up to 255. Returns `None` for anything
-/// else.
+/// Parses a node's name in quotes, directly followed by a port number of up to 255 in brackets. Returns `None` for
+/// anything else.
 pub(crate) fn port_name(word: &[u8]) -> Option<PortName>
     ensures { result ≡ port_name word.now }
 {
@@ -184,7 +186,7 @@ pub(crate) fn port_name(word: &[u8]) -> Option<PortName>
     Some(PortName { node, port })
 }
 
-/// Parses a number in brackets, up to 255. Returns `None` for anything else.
+/// Parses a decimal number of up to 255 in brackets. Returns `None` for anything else.
 fn bracketed_number(word: &[u8]) -> Option<u8>
     ensures { result ≡ bracketed_number word.now }
 {

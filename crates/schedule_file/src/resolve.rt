@@ -12,10 +12,10 @@ use fabric_model::NodePort;
 use smp_bytes::PortNum;
 use topo_file::{Node, Topology};
 
-/// A command as it is run: managers by the indices of their seats, from 0, and nodes by their ids.
+/// A command as it is run. Managers are given by the indices of their seats, from 0, and nodes by their ids.
 pub type SeatCommand = Command<usize, NodePort>;
 
-/// Resolves the names in the command of the line `line`.
+/// Resolves the names in `command`, which is from the line `line`.
 ///
 /// # Errors
 ///
@@ -71,8 +71,8 @@ pub(crate) fn seat(seats: &[Seat], name: &ManagerName) -> Option<usize>
     seats.iter().position(|seat| seat.name.is(name))
 }
 
-/// Returns the port with the name `name`, or `None` if the topology has no node of that name. The node need not have
-/// the port.
+/// Returns the port that `name` names, or `None` if the topology has no node with the node name in `name`. The node
+/// need not have this port.
 pub(crate) fn port(topology: &Topology, name: &PortName) -> Option<NodePort>
     ensures { result ≡ port_of topology.now.nodes name.now }
 {

@@ -19,18 +19,18 @@ use std::marker::Model;
 use text_words::split_line;
 use topo_file::Topology;
 
-/// A subnet manager as its line in the schedule gives it.
+/// A subnet manager, as given by its line in the schedule.
 #[derive(Drop)]
 pub struct Seat {
     pub name: ManagerName,
     /// The port at which the manager sits.
     pub at: NodePort,
     pub priority: Priority,
-    /// The SM_Key of a manager by the live conduct; `None` for a plain manager.
+    /// The SM_Key of a manager of the live conduct; `None` for one of the plain conduct.
     pub sm_key: Option<u64>,
 }
 
-/// A seat that fills the unused slots of a vector of fixed capacity.
+/// The seat that fills the unused slots of a vector of fixed capacity.
 impl Default for Seat {
     fn default() -> Self {
         Seat {
@@ -85,7 +85,8 @@ impl Schedule {
         }
     }
 
-    /// Adds `line`, whose number is `number`. Returns the line's fault if it has one, and `Memory` if memory runs out.
+    /// Adds the seat or the command, if any, that `line` gives. `number` is the number of the line. Returns the
+    /// line's fault if it has one, or `Memory` if memory runs out.
     fn with(self, topology: &Topology, number: usize, line: &[u8]) -> Result<Self, ScheduleFault>
         ensures { Reads result (with_line topology.now.nodes number self (line_of line.now)) }
     {
@@ -119,9 +120,9 @@ fn and_one<T: Drop>(items: Vec<T>, item: T) -> Result<Vec<T>, ScheduleFault>
     Ok(items)
 }
 
-/// Builds the seat of the manager `new`, of the line `line`. Returns `Name` if the manager's name is taken, or if no
-/// node has the name in `new.at`. Otherwise returns `Seat` if no manager may sit at this port, or if a manager sits
-/// there already.
+/// Builds the seat of the manager `new`, which is from the line `line`. Returns `Name` if the manager's name is
+/// taken, or if no node has the name in `new.at`. Otherwise returns `Seat` if no manager may sit at this port, or if
+/// one of `seats` is there already.
 pub(crate) fn new_seat(
     topology: &Topology,
     seats: &[Seat],
@@ -153,8 +154,8 @@ pub(crate) fn new_seat(
     })
 }
 
-/// Parses the text of a schedule for a fabric. A line ends with LF or CR LF, and the last one may end with the text. A
-/// line is empty or a command. `#` outside quotes begins a comment:
+/// Parses the text of a schedule for a fabric. A line ends with LF or CR LF, and the last one may end with the text.
+/// A line is empty or a command. `#` outside quotes begins a comment:
 ///
 /// ```text
 /// manager A "H1"[1] 5
@@ -165,26 +166,26 @@ pub(crate) fn new_seat(
 /// | Command | Numbers |
 /// |---|---|
 /// | `manager NAME "node"[port] PRIORITY` | priority 0 to 15 |
-/// | `manager NAME "node"[port] PRIORITY live KEY` | SM_Key of 64 bits |
+/// | `manager NAME "node"[port] PRIORITY live KEY` | 64-bit SM_Key |
 /// | `sweep NAME`, `write NAME`, `handover NAME`, `timeout NAME` | |
 /// | `poll NAME`, `poll NAME LID` | LID 0 to 65,535 |
 /// | `floor NAME GENERATION` | generation 1 to 4,294,967,295 |
 /// | `facts NAME`, `plan NAME`, `progress NAME`, `silent NAME`, `written NAME`, `state NAME` | |
 /// | `merge NAME NAME` | |
-/// | `deliver PACKET`, `lose PACKET`, `repeat PACKET` | `last`, or a serial number of 64 bits |
+/// | `deliver PACKET`, `lose PACKET`, `repeat PACKET` | `last`, or a 64-bit serial number |
 /// | `drain COUNT` | 0 to 1,000,000 |
 /// | `cut "node"[port]`, `plug "node"[port] "node"[port]` | port 0 to 255 |
 /// | `ping "node"[port] LID` | LID 0 to 65,535 |
 /// | `traps`, `resend`, `tables`, `flight` | |
 ///
-/// A manager sits at an adapter's port. Its name is 1 to 16 ASCII letters and digits, and is known from its line on.
-/// Each line takes time linear in the number of managers, besides the time to parse it and to find its nodes.
+/// A manager sits at an adapter's port. Its name is 1 to 16 ASCII letters and digits, and is known from the manager's
+/// line on. For each line, besides parsing it and finding its nodes, takes time linear in the number of managers.
 ///
 /// # Errors
 ///
-/// Returns the first fault. If memory runs out, the lines are checked again without memory from the allocator, with
-/// room for only 64 managers. So after `Memory` no line has a fault, or more than 64 managers come before the first
-/// fault.
+/// Returns the first fault. If memory runs out, checks the lines again without memory from the allocator, with space
+/// for only 64 managers. Returns `Memory` if then no line has a fault, or if more than 64 managers come before the
+/// first fault.
 #[tactic(auto, using(crate::proofs::Scripts::told_is_script), unfolding(crate::specs::Schedule::schedule_of))]
 pub fn parse(alloc: Global, text: &str, topology: &Topology) -> Result<Schedule, ScheduleFault>
     ensures reads { Reads result (schedule_of topology.now.nodes text.now) }
@@ -202,7 +203,7 @@ pub fn parse(alloc: Global, text: &str, topology: &Topology) -> Result<Schedule,
     }
 }
 
-/// Parses the lines of `text`. Returns the first fault, and `Memory` if memory runs out.
+/// Parses the lines of `text`. Returns the first fault, or `Memory` if memory runs out.
 fn read_lines(alloc: Global, text: &[u8], topology: &Topology) -> Result<Schedule, ScheduleFault>
     ensures { Reads result (schedule_of_lines topology.now.nodes (lines text.now)) }
 {

@@ -17,17 +17,19 @@ use Rattle.sm_manager.specs.declared.traps.Trap.{Trap}
 abbrev pub count_text : List ℕ → ℕ → List ℕ
 count_text words count = words ++ decimal count
 
--- how many requests were not answered, and how many ports lead to a node that is too far away
+-- the number of requests that were not answered, and the number of ports by which the sweep did not go on because the
+-- path would have been too long
 unfoldable pub counts_text : ℕ → ℕ → List ℕ
 counts_text unanswered too_far = count_text (codes " unanswered ") unanswered ++ count_text (codes " toofar ") too_far
 
--- how far a sweep is, with the counts of requests without an answer and of ports that lead too far, if it has begun
+-- how far a sweep has come and, if it has begun, the counts of requests that were not answered and of ports that lead
+-- too far
 abbrev pub stage_text : Progress → List ℕ
 stage_text Never = codes " never"
 stage_text (Running unanswered too_far) = codes " running" ++ counts_text unanswered too_far
 stage_text (Done unanswered too_far) = codes " done" ++ counts_text unanswered too_far
 
--- the borrowed name of a manager, as a value; None without a name
+-- the borrowed name of a manager, as a value; None if there is no name
 abbrev pub name_of : Option (Bor (List ℕ)) → Option (List ℕ)
 name_of name = option_map (λ n. n.now) name
 
@@ -44,7 +46,7 @@ end_word word = codes " " ++ word ++ codes "\n"
 abbrev pub progress_line : Option (List ℕ) → Progress → List ℕ
 progress_line manager progress = head_text (codes "progress") manager ++ stage_text progress ++ codes "\n"
 
--- how many managers did not answer a sweep; for None, that no sweep was begun
+-- how many managers did not answer a sweep, or for None, that no sweep has begun
 abbrev pub silent_text : Option ℕ → List ℕ
 silent_text None = codes " never"
 silent_text (Some silent) = count_text (codes " ") silent
@@ -70,12 +72,12 @@ state_line manager state = head_text (codes "state") manager ++ end_word (state_
 abbrev pub trap_line : Option (List ℕ) → ℕ → List ℕ
 trap_line manager issuer = head_text (codes "trap") manager ++ count_text (codes " ") issuer ++ codes "\n"
 
--- the line of the trap that was repressed; empty for None
+-- the line of the trap that was repressed; empty if the trap is None
 abbrev pub trap_text : Option (List ℕ) → Option Trap → List ℕ
 trap_text manager None = []
 trap_text manager (Some trap) = trap_line manager trap.issuer
 
--- a port: its node's name in quotes, and its number in brackets
+-- a port: the name of its node in quotes, and its number in brackets
 abbrev pub port_text : List Node → NodePort → List ℕ
 port_text nodes p = quoted_text (name_at nodes p.node) ++ bracketed_text p.port
 

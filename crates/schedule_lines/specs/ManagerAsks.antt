@@ -18,15 +18,15 @@ use Rattle.sm_manager.specs.declared.fault.ManagerFault.{ManagerFault}
 use Rattle.schedule_lines.specs.Lines.{progress_line, silent_line, state_line, written_line}
 use Rattle.schedule_lines.specs.Refusals.{manager_line}
 
--- the fault for which a manager refuses the request `sweep`, `write`, `handover` or `poll`; None if it may take the
--- request
+-- the fault for which the manager `m` refuses the request `sweep`, `write`, `handover` or `poll`, lack of memory
+-- aside; None if it does not refuse the request
 abbrev pub asked_fault : Ask → Manager → Option ManagerFault
 asked_fault Sweep m = begin_fault m
 asked_fault Write m = writing_fault m
 asked_fault Handover m = handover_fault m
 asked_fault (Poll lid) m = poll_fault m lid
 
--- the manager after `sweep`, `write`, `handover` or `poll`, if it does not refuse the request
+-- the manager after the request `sweep`, `write`, `handover` or `poll`, if it does not refuse the request
 abbrev pub after_asked : Ask → Manager → Manager
 after_asked Sweep m = after_begin_sweep m
 after_asked Write m = after_write_steps m
@@ -37,13 +37,13 @@ after_asked (Poll lid) m = after_poll m lid
 abbrev pub emptied : Manager → Manager
 emptied m = record m { outgoing = [] }
 
--- the text of the plan of the facts `cells` by `planning`, or the line of the given fault
+-- the text of the plan that `planning` makes of the facts `cells` or, if there is a fault, the line of the fault
 abbrev pub plan_or_refusal : Planning → Cells → Option ManagerFault → List ℕ
 plan_or_refusal planning cells None = plan_text (plan_of planning.rule planning.lmc cells)
 plan_or_refusal planning cells (Some fault) = manager_line fault
 
--- what `facts`, `plan`, `progress`, `silent`, `written` or `state` shows about a manager; the last four of these show
--- its name too, if it has one
+-- what `facts`, `plan`, `progress`, `silent`, `written` or `state` shows about a manager; the last four also show its
+-- name, if there is one
 abbrev pub text_of : Shown → Option (List ℕ) → Manager → List ℕ
 text_of Facts name m = facts_text m.store
 text_of Plan name m =

@@ -6,11 +6,11 @@ pub record Outcome (S : Type 0) : Type 0 where
   pub now : S
   pub text : List ℕ
 
--- an outcome that prints nothing
+-- an outcome that leaves `s` and prints nothing
 abbrev pub quiet : {S : Type 0} → S → Outcome S
 quiet s = record { now = s; text = [] }
 
--- an outcome that only prints the text
+-- an outcome that leaves `s` and prints `text`
 abbrev pub shows : {S : Type 0} → List ℕ → S → Outcome S
 shows text s = record { now = s; text = text }
 

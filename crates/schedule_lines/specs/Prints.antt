@@ -4,13 +4,13 @@ use Rattle.std.specs.Io.KnownBytes.{Appends}
 use Rattle.schedule_lines.specs.declared.run_fault.RunFault.{RunFault}
 use Rattle.schedule_lines.specs.declared.run_fault.RunFault.TheVariants.{Write, Memory}
 
--- `text` was appended to what was written, and the output did not fail meanwhile
+-- `text` was appended to the output, and the output did not fail meanwhile
 pub record Prints {W : Type 0} (written : W → Option (List ℕ)) (has_failed : W
     → Bool) (old new : W) (text : List ℕ) : Type 0 where
   pub grown : Appends (written old) (written new) text
   pub works : has_failed old ≡ false → has_failed new ≡ false
 
--- a beginning of `text` was appended to what was written, and the output did not fail meanwhile
+-- a prefix of `text` was appended to the output, and the output did not fail meanwhile
 pub record PrintsSome {W : Type 0} (written : W → Option (List ℕ)) (has_failed : W
     → Bool) (old new : W) (text : List ℕ) : Type 0 where
   pub front : List ℕ
@@ -18,8 +18,8 @@ pub record PrintsSome {W : Type 0} (written : W → Option (List ℕ)) (has_fail
   pub parts : front ++ rest ≡ text
   pub prints : Prints written has_failed old new front
 
--- what a call prints, by its result: `text` if it succeeds, and a beginning of `text` if it failed for lack of memory.
--- If a write failed, the output has failed, and what was printed is left open
+-- what a call prints, given its result: `text` if the call succeeds, and a prefix of `text` if it failed for lack of
+-- memory. If a write failed, the output has failed, and what was printed is unspecified
 abbrev pub PrintsUnless : {W T : Type 0} → (W → Option (List ℕ)) → (W → Bool) → Result T RunFault → W → W → List ℕ
     → Type 0
 PrintsUnless written has_failed (Ok value) old new text = Prints written has_failed old new text

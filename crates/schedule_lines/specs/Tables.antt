@@ -1,4 +1,4 @@
--- The LIDs and tables that the agents of a fabric hold, printed in the form of a plan.
+-- The LIDs and tables that the agents of a fabric have, printed in the form of a plan.
 use Rattle.std.specs.Prelude.{ℕ, ◌+◌, ◌*◌, ◌/◌, Bool, not, List, [], ◌∷◌, ◌++◌, filter, map, ◌==◌, if◌then◌else◌}
 use Rattle.std.specs.List.{flat_map, range_with_len}
 use Rattle.std.specs.Ordering.{is_lt, nat_cmp, ordering_then}
@@ -9,40 +9,40 @@ use Rattle.fabric_sim.specs.Simulation.{Simulation}
 
 -- an order ---------------------------------------------------------------------------------------------
 
--- the list with `x` inserted before the first item that `before` does not put before `x`
+-- the list with `x` inserted before its first item that is not before `x` by `before`
 abbrev pub put_in_order : {X : Type 0} → (X → X → Bool) → X → List X → List X
 put_in_order before x [] = x ∷ []
 put_in_order before x (y ∷ ys) = if before y x then y ∷ put_in_order before x ys else x ∷ y ∷ ys
 
--- the items of a list sorted by `before`; items that tie keep their order
+-- the items of a list, sorted by `before`; items that tie keep their order
 abbrev pub in_order : {X : Type 0} → (X → X → Bool) → List X → List X
 in_order before [] = []
 in_order before (x ∷ xs) = put_in_order before x (in_order before xs)
 
 -- LIDs -------------------------------------------------------------------------------------------------
 
--- a LID with the GUID of the node and the number of the port that holds it, and its LMC
+-- a LID, with the node GUID and the number of the port that has it, and the port's LMC
 abbrev pub Held : Type 0
 Held = ℕ × ℕ × ℕ × ℕ
 
--- the LIDs other than 0 that a node's ports hold, from port 0 on
+-- the LIDs other than 0 that a node's ports have, from port 0 on
 abbrev pub held_by : Agent → List Held
 held_by a = filter (λ x. not (x.0 == 0))
     (map (λ port. (base_lid_at a port, a.node.guid, port, lmc_at a port)) (range_with_len 0 (a.node.ports + 1)))
 
--- the order of three numbers, LID, GUID and port, one after the other
+-- the order of triples of LID, GUID and port: by the LID, then by the GUID, and then by the port
 abbrev pub key_cmp : ℕ × ℕ × ℕ → ℕ × ℕ × ℕ → Ordering
 key_cmp x y = ordering_then (ordering_then (nat_cmp x.0 y.0) (nat_cmp x.1 y.1)) (nat_cmp x.2 y.2)
 
--- the order of LIDs with the ports that hold them, by LID, GUID and port
+-- the order of LIDs with the ports that have them: by the LID, then by the node GUID, and then by the port
 abbrev pub held_cmp : Held → Held → Ordering
 held_cmp x y = key_cmp (x.0, x.1, x.2) (y.0, y.1, y.2)
 
--- the LIDs that the ports of all nodes hold, sorted by LID, GUID and port, and for ties by node number
+-- the LIDs that the ports of all nodes have, in order of LID, node GUID and port; ties are in the order of the nodes
 abbrev pub all_held : List Agent → List Held
 all_held agents = in_order (λ x y. is_lt (held_cmp x y)) (flat_map held_by agents)
 
--- the line of a LID, its LMC and the port that holds it
+-- the line of a LID, with its LMC and the port that has it
 abbrev pub held_line : Held → List ℕ
 held_line x = lid_line (x.0, x.3, record { node = x.1; port = x.2 })
 
@@ -56,7 +56,7 @@ block_at a b = map (λ i. entry_at a (64 * b + i)) (range_with_len 0 64)
 abbrev pub block_shown : Agent → ℕ → List ℕ
 block_shown a b = block_line (b, block_at a b)
 
--- the numbers of the blocks up to the block of the top
+-- the numbers of the blocks up to the block of the LID `top`
 abbrev pub blocks_to : ℕ → List ℕ
 blocks_to top = range_with_len 0 (top / 64 + 1)
 
@@ -64,14 +64,14 @@ blocks_to top = range_with_len 0 (top / 64 + 1)
 abbrev pub blocks_text : Agent → List ℕ
 blocks_text a = flat_map (block_shown a) (blocks_to a.top)
 
--- the lines of a switch: its top, and its blocks
+-- the lines of a switch: its top, and its blocks up to the block of the top
 unfoldable pub table_text : Agent → List ℕ
 table_text a = switch_line a.top a.node.guid ++ blocks_text a
 
--- the agents of switches by GUID, and for equal GUIDs by node number
+-- the agents of the switches, in order of GUID; ties are in the order of the nodes
 abbrev pub switches : List Agent → List Agent
 switches agents = in_order (λ a b. is_lt (nat_cmp a.node.guid b.node.guid)) (filter is_switch agents)
 
--- the lines of the LIDs that ports hold, and then those of the tables of the switches
+-- the lines of the LIDs that ports have, and then those of the tables of the switches
 unfoldable pub tables_text : Simulation → List ℕ
 tables_text fabric = flat_map held_line (all_held fabric.agents) ++ flat_map table_text (switches fabric.agents)

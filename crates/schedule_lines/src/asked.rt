@@ -9,8 +9,8 @@ use schedule_file::Ask;
 use sm_manager::{Manager, ManagerFault};
 use std::alloc::{AllocError, Global};
 
-/// Makes the request `what` to `manager`. If the manager refuses the request, returns the reason and leaves the manager
-/// unchanged.
+/// Makes the request `what` to `manager`. If the manager refuses the request, or memory runs out, returns the reason
+/// and leaves the manager unchanged.
 pub fn ask_manager(manager: &mut Manager, what: Ask) -> Result<(), ManagerFault>
     ensures judged { JudgesButFor is_memory result (asked_fault what manager.old) }
     ensures ok { OnOk result (manager.new ≡ after_asked what manager.old) }

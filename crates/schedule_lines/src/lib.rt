@@ -1,4 +1,5 @@
-//! Requests to managers, the lines that commands print, and the fault of a run that ends before its commands.
+//! Requests to managers, the lines that commands print, and the fault of a run that stops before the end of its
+//! commands.
 #![tactic(auto)]
 
 mod asked;

@@ -57,8 +57,8 @@ fn write_stage<W: Sink>(sink: &mut W, progress: Progress) -> Result<(), WriteFau
     }
 }
 
-/// Prints how many managers did not answer a manager's last sweep, or that there was no sweep if `silent` is `None`.
-/// The line has the manager's name unless `manager` is `None`.
+/// Prints how many managers did not answer a manager's last sweep, which is `silent`. If `silent` is `None`, prints
+/// that there was no sweep. The line has the manager's name unless `manager` is `None`.
 pub fn write_silent<W: Sink>(
     sink: &mut W,
     manager: Option<&str>,
@@ -120,8 +120,8 @@ pub fn write_state<W: Sink>(
     write_end_word(sink, state.word())
 }
 
-/// Prints that a manager repressed a trap that a port with the LID `issuer` issued, with the manager's name unless
-/// `manager` is `None`.
+/// Prints the line of a trap that a manager repressed, with the manager's name unless `manager` is `None`. `issuer`
+/// is the LID of the port that issued the trap.
 pub(crate) fn write_trap<W: Sink>(
     sink: &mut W,
     manager: Option<&str>,

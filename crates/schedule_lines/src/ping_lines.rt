@@ -22,8 +22,8 @@ fn name_at(topology: &Topology, node: NodeId) -> &str
     }
 }
 
-/// Prints the line of a packet that is sent from the port `from` to `lid`: the port, the LID, and then the port where
-/// the packet ends and the number of wires, or the node where it is lost.
+/// Prints the line of a ping, a packet that is sent from the port `from` to `lid`: the port, the LID, and where the
+/// packet ends. That is the port that it reaches and the number of wires that it takes, or the node where it is lost.
 pub fn write_ping<W: Sink>(
     sink: &mut W,
     topology: &Topology,
@@ -39,7 +39,7 @@ pub fn write_ping<W: Sink>(
     sink.write(b"\n")
 }
 
-/// Prints `ping`, the port `from` that a packet is sent from, and the LID `lid` that it is for.
+/// Prints the word `ping`, the port `from` that a packet is sent from, and the LID `lid` that it is for.
 fn write_start<W: Sink>(
     sink: &mut W,
     topology: &Topology,
@@ -72,7 +72,7 @@ fn write_end<W: Sink>(sink: &mut W, topology: &Topology, ping: &Ping) -> Result<
     }
 }
 
-/// Prints `port`: its node's name in quotes, and its number in brackets.
+/// Prints `port`: the name of its node in quotes, and its number in brackets.
 fn write_port<W: Sink>(sink: &mut W, topology: &Topology, port: &NodePort) -> Result<(), WriteFault>
     ensures writes { Writes W.written W.has_failed result sink.old sink.new
         (port_text topology.now.nodes port.now) }

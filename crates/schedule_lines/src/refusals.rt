@@ -1,4 +1,4 @@
-//! Lines of refused calls. Each line has the name of the innermost fault.
+//! The lines of refused calls. Each line has the name of the innermost fault.
 ghost use Rattle.std.specs.Prelude.{◌≡◌, ◌↔◌, Err};
 ghost use Rattle.byte_io.specs.Writes.{Writes};
 ghost use Rattle.fabric_sim.specs.FabricFault.{fabric_fault_name};
@@ -42,7 +42,7 @@ pub fn refuse_manager<W: Sink>(sink: &mut W, fault: ManagerFault) -> Result<(), 
     Ok(())
 }
 
-/// Prints the line of a refused call: `refused`, and `name`, the name of the fault.
+/// Prints the line of a refused call: `refused`, and then `name`, the name of the fault.
 fn write_refusal<W: Sink>(sink: &mut W, name: &str) -> Result<(), WriteFault>
     ensures writes { Writes W.written W.has_failed result sink.old sink.new
         (refusal_line name.now) }

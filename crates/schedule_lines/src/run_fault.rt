@@ -6,7 +6,7 @@ use std::alloc::{AllocError, AllocFailed};
 pub enum RunFault {
     /// A write to the output failed.
     Write,
-    /// Memory was refused.
+    /// Memory ran out.
     Memory,
 }
 

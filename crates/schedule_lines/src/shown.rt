@@ -14,8 +14,8 @@ use record_file::write_facts;
 use schedule_file::Shown;
 use sm_manager::{Manager, Trap};
 
-/// Prints what `what` asks about `manager`. The lines of facts and plans have no name; the other lines have the name of
-/// the manager unless `name` is `None`.
+/// Prints what `what` asks about `manager`. The lines other than those of facts and plans have the manager's name
+/// `name`, unless it is `None`.
 #[tactic(auto, using(crate::proofs::Printing::wrote))]
 pub fn show_manager<W: Sink>(
     sink: &mut W,
@@ -54,7 +54,7 @@ pub fn show_trap<W: Sink>(
     Ok(())
 }
 
-/// Prints the plan of `manager`, or the refusal if the manager has no plan. Returns `Memory` if memory runs out.
+/// Prints the plan of `manager`, or its refusal if some end port finds no LID. Returns `Memory` if memory runs out.
 #[tactic(auto, using(crate::proofs::Printing::wrote))]
 fn show_plan<W: Sink>(sink: &mut W, manager: &Manager) -> Result<(), RunFault>
     ensures prints { PrintsUnless W.written W.has_failed result sink.old sink.new

@@ -1,4 +1,4 @@
-//! The LIDs and tables that the agents of a fabric hold, printed in the form of a plan.
+//! The LIDs and tables that the agents of a fabric have, printed in the form of a plan.
 ghost use Rattle.std.specs.Prelude.{◌≡◌, ◌++◌, ◌<◌, map, IfOk, OnOk};
 ghost use Rattle.schedule_lines.specs.Prints.{PrintsUnless};
 ghost use Rattle.std.specs.List.{flat_map};
@@ -16,7 +16,7 @@ use smp_bytes::{Guid, Lid, PortNum};
 use std::alloc::{AllocError, Global};
 use subnet_view::EndPort;
 
-/// Prints the LIDs that the ports of a fabric hold, and then the forwarding tables of all its switches.
+/// Prints the LIDs that the ports of a fabric have, and then the forwarding tables of all its switches.
 pub fn show_tables<W: Sink>(alloc: Global, fabric: &Fabric, sink: &mut W) -> Result<(), RunFault>
     ensures prints { PrintsUnless W.written W.has_failed result sink.old sink.new
         (tables_text fabric.now) }
@@ -27,10 +27,11 @@ pub fn show_tables<W: Sink>(alloc: Global, fabric: &Fabric, sink: &mut W) -> Res
     write_tables(sink, &switches)
 }
 
-/// A LID with the node GUID and the number of the port that holds it, and the port's LMC.
+/// A LID, with the node GUID and the number of the port that has it, and the port's LMC.
 type AgentLid = (Lid, Guid, PortNum, Lmc);
 
-/// Prints a line for each of `lids`: the LID, its LMC unless that is 0, and the node and port that hold it.
+/// Prints a line for each of `lids`: the LID, the LMC unless it is 0, and the node and the number of the port that
+/// has the LID.
 fn write_held<W: Sink>(sink: &mut W, lids: &[AgentLid]) -> Result<(), RunFault>
     ensures prints { PrintsUnless W.written W.has_failed result sink.old sink.new
         (flat_map held_line lids.now) }
@@ -45,7 +46,8 @@ fn write_held<W: Sink>(sink: &mut W, lids: &[AgentLid]) -> Result<(), RunFault>
     Ok(())
 }
 
-/// Returns the LIDs that ports hold, sorted by LID, node GUID and port. Equal ones are in the order of their nodes.
+/// Returns the LIDs that ports have, in order of LID, node GUID and port. If these are equal, they are in the order
+/// of their nodes. Returns an error if memory runs out.
 fn held_lids(alloc: Global, fabric: &Fabric) -> Result<Vec<AgentLid>, AllocError>
     ensures { IfOk result (λ held. held.items ≡ all_held fabric.now.agents) }
 {
@@ -57,7 +59,8 @@ fn held_lids(alloc: Global, fabric: &Fabric) -> Result<Vec<AgentLid>, AllocError
     Ok(held)
 }
 
-/// Appends the LIDs that the ports of `agent` hold, from port 0 on. A port with LID 0 holds no LID.
+/// Appends the LIDs that the ports of `agent` have to `held`, from port 0 on. A port with LID 0 has no LID. Returns
+/// an error if memory runs out.
 fn hold_lids(held: &mut Vec<AgentLid>, agent: &Agent) -> Result<(), AllocError>
     ensures { OnOk result (held.new.items ≡ held.old.items ++ held_by agent.now) }
 {
@@ -72,7 +75,8 @@ fn hold_lids(held: &mut Vec<AgentLid>, agent: &Agent) -> Result<(), AllocError>
     Ok(())
 }
 
-/// Returns the agents of the switches, sorted by GUID. Agents with equal GUIDs are in the order of their nodes.
+/// Returns the agents of the switches, in order of GUID. Agents with equal GUIDs are in the order of their nodes.
+/// Returns an error if memory runs out.
 fn switches<'f>(alloc: Global, fabric: &'f Fabric) -> Result<Vec<&'f Agent>, AllocError>
     ensures { IfOk result (λ found. map (λ agent. agent.now) found.items ≡ switches fabric.now.agents) }
 {

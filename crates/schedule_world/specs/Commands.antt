@@ -44,25 +44,28 @@ use Rattle.schedule_world.specs.World.{SeatedValue, WorldValue, after_ask, at_se
 
 -- managers -----------------------------------------------------------------------------------------
 
--- `manager M "n"[p] P`, with `live K` or without: the manager is seated at its port, or the fabric refuses
+-- `manager M "n"[p] P`, with `live K` or without: the manager at the index `seat` is seated at its port, or the
+-- fabric refuses the call and the line of its fault is printed
 unfoldable pub after_manager_line : WorldValue → ℕ → Outcome WorldValue
 after_manager_line w seat = at_seat w seat (λ s. after_fabric_call w (after_seat w.fabric s.at))
 
--- `sweep`, `write`, `handover` or `poll`: the manager of a seat is asked, and then the packets that it has queued are
--- sent; or the manager refuses, and the line of its fault is printed
+-- `sweep`, `write`, `handover` or `poll`: the request is made to the manager of a seat, and then the packets that it
+-- has queued are sent; or the manager refuses the request, and the line of its fault is printed
 unfoldable pub after_ask_line : WorldValue → ℕ → Ask → Outcome WorldValue
 after_ask_line w seat what = after_ask (λ now. after_send now seat) w seat (asked_fault what) (after_asked what)
 
--- `merge M N`: the manager M takes in all facts of the manager N
+-- `merge M N`: the manager M takes in all facts and the floor of the manager N
 unfoldable pub after_merge_line : WorldValue → ℕ → ℕ → Outcome WorldValue
 after_merge_line w seat other =
     at_seat w seat (λ s. at_seat w other (λ o. quiet (with_manager w seat s (after_merge s.manager o.manager.store))))
 
--- `floor M G`: the floor of the manager M is raised to G, and facts that are older than G are forgotten
+-- `floor M G`: the floor of the manager M is raised to G if it is lower, and facts of generations below G are
+-- forgotten
 unfoldable pub after_floor_line : WorldValue → ℕ → ℕ → Outcome WorldValue
 after_floor_line w seat floor = at_seat w seat (λ s. quiet (with_manager w seat s (after_raise_floor s.manager floor)))
 
--- the manager of a seat gives up the request with the TransactionID `transaction`, or refuses to
+-- the manager of a seat gives up the request with the TransactionID `transaction`, or refuses to and the line of its
+-- fault is printed
 unfoldable pub after_give_up : WorldValue → ℕ → ℕ → Outcome WorldValue
 after_give_up w seat transaction =
     after_ask quiet w seat (λ m. (manager.after_timeout m transaction).fault)
@@ -94,20 +97,21 @@ after_take w seat packet =
     after_ask (shows (heard_text w seat packet)) w seat (λ m. (manager.after_packet m packet.bytes (Some packet.slid)).fault)
     (λ m. (manager.after_packet m packet.bytes (Some packet.slid)).manager)
 
--- the manager of a seat takes in a packet, or refuses it, and then the packets that it has queued are sent
+-- the manager of a seat takes in a packet, or refuses it; then the packets that the manager has queued are sent
 unfoldable pub after_take_and_send : WorldValue → ℕ → Packet → Outcome WorldValue
 after_take_and_send w seat packet = and_then (after_take w seat packet) (λ now. after_send now seat)
 
--- the index of the manager that sits at a port; None if none does
+-- the index of the manager that sits at the port `p`; None if no manager sits there
 abbrev pub seat_at : WorldValue → NodePort → Option ℕ
 seat_at w p = if is_seat_at w.fabric p then position (λ s. is_same_port s.at p) w.managers else None
 
--- a packet that reaches a port goes to the manager there; if none sits there, it is dropped
+-- a packet that is handed up at the port `p` goes to the manager there; if no manager sits there, the packet is
+-- dropped
 unfoldable pub after_hand_up : WorldValue → NodePort → Packet → Outcome WorldValue
 after_hand_up w p packet = option_map_or (λ seat. after_take_and_send w seat packet) (seat_at w p) (quiet w)
 
--- the outcome of a delivery: a packet that is handed up goes to the manager at the port; any other delivery leaves the
--- world as it is
+-- the outcome of a delivery: a packet that is handed up goes to the manager at the port; any other delivery leaves
+-- the world `w` as it is
 abbrev pub after_arrival : WorldValue → Result Delivered FabricFault → Outcome WorldValue
 after_arrival w (Ok (delivered_is.ToManager p packet)) = after_hand_up w p packet
 after_arrival w (Ok (delivered_is.Moved serial)) = quiet w
@@ -115,26 +119,27 @@ after_arrival w (Ok (delivered_is.Answered serial)) = quiet w
 after_arrival w (Ok (delivered_is.Discarded reason)) = quiet w
 after_arrival w (Err fault) = quiet w
 
--- the packet with the number `serial` takes one step, and a packet that is handed up goes to the manager at the port;
--- or the fabric refuses
+-- the packet with the number `serial` takes one step, and if it is handed up, it goes to the manager at the port; or
+-- the fabric refuses the step, and the line of its fault is printed
 unfoldable pub after_step : WorldValue → ℕ → Outcome WorldValue
 after_step w serial = let called =
     after_deliver w.fabric serial in and_then (after_fabric_call w called) (λ now. after_arrival now called.result)
 
--- the packet with the number `serial` takes one step, is lost or is repeated, by `deliver`, `lose` or `repeat`
+-- the packet with the number `serial` takes one step (`deliver`), is lost (`lose`) or is copied (`repeat`)
 abbrev pub after_fate : WorldValue → Fate → ℕ → Outcome WorldValue
 after_fate w Deliver serial = after_step w serial
 after_fate w Lose serial = after_fabric_call w (after_lose w.fabric serial)
 after_fate w Repeat serial = after_fabric_call w (after_repeat w.fabric serial)
 
--- `deliver`, `lose` or `repeat`: the packet that `which` names takes one step, is lost or is repeated; refused if the
--- last packet is named and none is in flight
+-- `deliver`, `lose` or `repeat`: the packet that `which` names takes one step, is lost or is copied; refused if the
+-- last packet is named and no packet is in flight
 unfoldable pub after_packet_line : WorldValue → Which → Fate → Outcome WorldValue
 after_packet_line w which fate =
     option_map_or (after_fate w fate) (serial_of w.fabric.flights which)
     (shows (refusal_line (fabric_fault_name NoSuchPacket)) w)
 
--- `drain N`: N times, the packet with the least serial number takes one step; no more steps once none is in flight
+-- `drain N`: up to N times, the packet in flight with the least serial number takes one step; no more steps once no
+-- packet is in flight
 abbrev pub after_drain_line : WorldValue → ℕ → Outcome WorldValue
 after_drain_line w zero = quiet w
 after_drain_line w (suc most) =
@@ -155,27 +160,31 @@ flights_text nodes flights = flat_map (flight_shown nodes) flights
 abbrev pub after_tell : WorldValue → ℕ → Outcome WorldValue
 after_tell w id = after_fabric_call w (after_port_change w.fabric id)
 
--- the agents at both ends of a cable are informed, that of the first end first; a node at both ends is informed once
+-- the agents of the nodes at both ends of a cable, `p` and `q`, are informed, that at `p` first; a node at both ends
+-- is informed once
 unfoldable pub after_tell_ends : WorldValue → NodePort → NodePort → Outcome WorldValue
 after_tell_ends w p q =
     and_then (after_tell w p.node) (λ now. if q.node == p.node then quiet now else after_tell now q.node)
 
--- if a cable was plugged in between `p` and `q`, the agents at both ends are informed
+-- if the given result says that a cable was plugged in between `p` and `q`, the agents at both its ends are informed
 abbrev pub after_change : WorldValue → NodePort → NodePort → Result (Unit {0}) FabricFault → Outcome WorldValue
 after_change w p q (Ok done) = after_tell_ends w p q
 after_change w p q (Err fault) = quiet w
 
--- if the cable was cut, the agents at `p` and at the cable's other end are informed
+-- if the given result says that the cable in `p` was cut, the agents at `p` and at the other end of the cable are
+-- informed
 abbrev pub after_parting : WorldValue → NodePort → Option NodePort → Result (Unit {0}) FabricFault → Outcome WorldValue
 after_parting w p other (Ok done) = option_map_or (after_tell_ends w p) other (quiet w)
 after_parting w p other (Err fault) = quiet w
 
--- `cut "n"[p]`: the cable is cut, and the agents at both ends are informed; or the fabric refuses
+-- `cut "n"[p]`: the cable in the port is cut, and the agents at both its ends are informed; or the fabric refuses,
+-- and the line of its fault is printed
 unfoldable pub after_cut_line : WorldValue → NodePort → Outcome WorldValue
 after_cut_line w p = let called = after_cut w.fabric p in
     and_then (after_fabric_call w called) (λ now. after_parting now p (across w.fabric.peers p) called.result)
 
--- `plug "n"[p] "m"[q]`: the cable is plugged in, and the agents at both ends are informed; or the fabric refuses
+-- `plug "n"[p] "m"[q]`: a cable is plugged into the two ports, and the agents at both its ends are informed; or the
+-- fabric refuses, and the line of its fault is printed
 unfoldable pub after_plug_line : WorldValue → NodePort → NodePort → Outcome WorldValue
 after_plug_line w p q = let called =
     after_plug w.fabric p q in and_then (after_fabric_call w called) (λ now. after_change now p q called.result)
@@ -186,7 +195,7 @@ after_plug_line w p q = let called =
 unfoldable pub after_traps_line : WorldValue → Outcome WorldValue
 after_traps_line w = after_fabric_call w (after_begin_traps w.fabric)
 
--- the trap that waits at the node `id`, if one does, is sent again
+-- the trap that waits at the node `id`, if there is one and it can leave, is sent again
 abbrev pub after_resend : WorldValue → ℕ → Outcome WorldValue
 after_resend w id = after_fabric_call w (after_send_trap w.fabric id)
 
@@ -199,7 +208,8 @@ after_resends w id (suc left) = and_then (after_resend w id) (λ now. after_rese
 abbrev pub after_resend_line : WorldValue → Outcome WorldValue
 after_resend_line w = after_resends w 0 (length w.fabric.agents)
 
--- `ping "n"[p] L`: the line that says where the packet ends or, for a fault, why it cannot be sent
+-- `ping "n"[p] L`: the line that says where the packet ends or, if there is a fault, the line that says why it cannot
+-- be sent
 abbrev pub ping_text : List Node → Simulation → NodePort → ℕ → Option FabricFault → List ℕ
 ping_text nodes fabric source lid None = ping_line nodes source lid (ping (fabric_of fabric) lid source)
 ping_text nodes fabric source lid (Some fault) = refusal_line (fabric_fault_name fault)
@@ -244,8 +254,8 @@ after_commands nodes w [] = quiet w
 after_commands nodes w (command ∷ later) =
     and_then (after_command nodes w command) (λ now. after_commands nodes now later)
 
--- the manager of `seat` before any call, under its name; it plans by `planning`, and is live if the seat has an SM_Key.
--- Its port GUID is the GUID of the adapter plus the port's number
+-- the manager of `seat` before any call, with its name. It plans as `planning` says, and its conduct is live if the
+-- seat has an SM_Key. Its port GUID is the GUID of the adapter plus the number of the port
 abbrev pub new_seated : Planning → List Node → Seat → SeatedValue
 new_seated planning nodes seat =
     let guid = option_map_or (λ node. node.guid + seat.at.port) (slice_get nodes seat.at.node) 0 in
@@ -261,7 +271,7 @@ abbrev pub world_of : Planning → Layout → List Seat → WorldValue
 world_of planning topology seats =
     record { fabric = simulation_of topology 1; managers = map (new_seated planning topology.nodes) seats }
 
--- what the run of a schedule prints, with managers that plan by `planning`
+-- what the run of a schedule prints, with managers that plan as `planning` says
 unfoldable pub script_text : Planning → Layout → Script → List ℕ
 script_text planning topology script =
     (after_commands topology.nodes (world_of planning topology script.seats) script.commands).text
@@ -277,6 +287,7 @@ abbrev pub topology_text : Planning → Result Layout TopoFault → List ℕ →
 topology_text planning (Ok topology) schedule = schedule_text planning topology (schedule_of topology.nodes schedule)
 topology_text planning (Err fault) schedule = []
 
--- what a run of the two texts prints, with managers that plan by `planning`; nothing if one of the texts is refused
+-- what a run of the texts of a topology and of a schedule prints, with managers that plan as `planning` says; nothing
+-- if one of the texts is refused
 abbrev pub run_text : Planning → List ℕ → List ℕ → List ℕ
 run_text planning topology schedule = topology_text planning (topology_of topology) schedule

@@ -9,13 +9,13 @@ use Rattle.fabric_sim.specs.declared.flight.Flight.{Flight}
 use Rattle.schedule_file.specs.declared.command.Which.{Which}
 use Rattle.schedule_file.specs.declared.command.Which.TheVariants.{Last, Serial}
 
--- the serial number of the packet that is named, whether or not it is in flight; None if the last packet is named and
--- none is in flight
+-- the serial number of the packet that is named, whether or not this packet is in flight; None if the last packet is
+-- named and no packet is in flight
 abbrev pub serial_of : List Flight → Which → Option ℕ
 serial_of flights Last = option_map (λ flight. flight.serial) (slice_get flights (length flights - 1))
 serial_of flights (Serial serial) = Some serial
 
--- the packet that a manager sends: its DLID is the LID that it is sent to, or the permissive LID on a directed route;
+-- the packet that a manager sends: its DLID is the LID that it is sent to, or the permissive LID if there is none;
 -- its SLID is the permissive LID
 abbrev pub packet_out : Outgoing → Packet
 packet_out outgoing =

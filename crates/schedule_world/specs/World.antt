@@ -42,7 +42,7 @@ value_of w = record { fabric = w.fabric; managers = map seated_value w.managers.
 
 -- the fabric ---------------------------------------------------------------------------------------
 
--- the line of a refusal by the fabric; empty if it does not refuse
+-- the line of a refusal by the fabric; empty if the fabric does not refuse the call
 abbrev pub fabric_line : {R : Type 0} → Result R FabricFault → List ℕ
 fabric_line (Ok value) = []
 fabric_line (Err fault) = refusal_line (fabric_fault_name fault)
@@ -59,7 +59,8 @@ in_fabric w outcome = record { now = record w { fabric = outcome.now }; text = o
 abbrev pub after_fabric_call : {R : Type 0} → WorldValue → Called R → Outcome WorldValue
 after_fabric_call w called = in_fabric w (after_fabric called)
 
--- the packets are sent from the port `at`, in their order; the line of each that the fabric refuses is printed
+-- the outcome of sending the packets from the port `at`, in their order. For each packet that the fabric refuses, the
+-- line of the refusal is printed
 abbrev pub after_inject_all : Simulation → NodePort → List Outgoing → Outcome Simulation
 after_inject_all fabric at [] = quiet fabric
 after_inject_all fabric at (out ∷ later) =
@@ -67,7 +68,8 @@ after_inject_all fabric at (out ∷ later) =
 
 -- the managers -------------------------------------------------------------------------------------
 
--- the outcome of `run` for the manager at the index `seat`; if there is no such manager, `w`, and nothing is printed
+-- the outcome of `run` for the manager at the index `seat`; if there is no such manager, `w` is left and nothing is
+-- printed
 abbrev pub at_seat : WorldValue → ℕ → (SeatedValue → Outcome WorldValue) → Outcome WorldValue
 at_seat w seat run = option_map_or run (slice_get w.managers seat) (quiet w)
 
@@ -75,36 +77,36 @@ at_seat w seat run = option_map_or run (slice_get w.managers seat) (quiet w)
 abbrev pub with_manager : WorldValue → ℕ → SeatedValue → Manager → WorldValue
 with_manager w seat s manager = record w { managers = slice_set w.managers seat (record s { manager = manager }) }
 
--- what a call on the manager of a seat leaves and prints. If the call is refused, this is the world `w` and the line of
--- the fault. Otherwise it is what `next` leaves and prints, from the world with `manager` at the seat
+-- what a call on the manager of a seat leaves and prints. If the given fault refuses the call, this is the world `w`
+-- and the line of the fault. Otherwise it is what `next` leaves and prints, from the world with `manager` at the seat
 abbrev pub after_manager_call : (WorldValue → Outcome WorldValue) → WorldValue → ℕ → SeatedValue → Option ManagerFault
     → Manager → Outcome WorldValue
 after_manager_call next w seat s None manager = next (with_manager w seat s manager)
 after_manager_call next w seat s (Some fault) manager = shows (manager_line fault) w
 
--- the manager of a seat is called: if `fault` gives a fault, the call is refused; otherwise it leaves what `after`
--- gives, and `next` follows
+-- what a call on the manager of a seat leaves and prints. If `fault` gives a fault, the call is refused. Otherwise it
+-- leaves the manager that `after` gives, and `next` follows
 abbrev pub after_ask : (WorldValue → Outcome WorldValue) → WorldValue → ℕ → (Manager → Option ManagerFault)
     → (Manager → Manager) → Outcome WorldValue
 after_ask next w seat fault after =
     at_seat w seat (λ s. after_manager_call next w seat s (fault s.manager) (after s.manager))
 
--- the world once all packets that the manager `s` of a seat has queued are sent, and the line of each that the fabric
--- refuses
+-- the world after all packets that the manager of the seat `s` has queued were sent, and the line of each refusal by
+-- the fabric
 abbrev pub after_send_by : WorldValue → ℕ → SeatedValue → Outcome WorldValue
 after_send_by w seat s =
     in_fabric (with_manager w seat s (emptied s.manager)) (after_inject_all w.fabric s.at s.manager.outgoing)
 
--- the world once all packets that the manager of a seat has queued are sent, and the line of each that the fabric
--- refuses; unchanged if there is no such manager
+-- the world after all packets that the manager at the index `seat` has queued were sent, and the line of each refusal
+-- by the fabric; unchanged if there is no such manager
 unfoldable pub after_send : WorldValue → ℕ → Outcome WorldValue
 after_send w seat = at_seat w seat (after_send_by w seat)
 
 -- calls --------------------------------------------------------------------------------------------
 
 -- a call on a world does what `outcome` says: it leaves the world of `outcome`, with as many managers as before, and
--- prints the text of `outcome`. If the call fails, the world may be any with as many managers. Then a beginning of the
--- text was printed, or the output has failed
+-- prints the text of `outcome`. If the call fails, it may leave any world with as many managers; a prefix of the text
+-- was printed, or the output has failed
 pub record Does {W : Type 0} (written : W → Option (List ℕ)) (has_failed : W → Bool) (old new : World)
     (result : Result (Unit {0}) RunFault) (sink sink' : W) (outcome : Outcome WorldValue) : Type 0 where
   pub managers : length new.managers.items ≡ length old.managers.items

@@ -1,4 +1,4 @@
-//! The commands about cables, and about traps that report their changes.
+//! The commands about cables, and about the traps that report changes of cables.
 ghost use Rattle.std.specs.Prelude.{◌≡◌};
 ghost use Rattle.schedule_world.specs.Commands.{after_cut_line, after_plug_line, after_resend, after_resend_line};
 ghost use Rattle.schedule_world.specs.Commands.{after_tell, after_tell_ends, after_traps_line};
@@ -11,7 +11,7 @@ use schedule_lines::{RunFault, refuse_fabric};
 use std::alloc::Global;
 
 impl World<'_> {
-    /// Cuts the cable in `port`, and informs the agents at both ends. If the fabric refuses the cut, prints the
+    /// Cuts the cable in `port`, and informs the agents at both its ends. If the fabric refuses the cut, prints the
     /// refusal.
     #[tactic(auto, unfolding(crate::specs::Commands::after_cut_line))]
     pub(crate) fn cut<W: Sink>(&mut self, port: NodePort, sink: &mut W) -> Result<(), RunFault>
@@ -28,8 +28,8 @@ impl World<'_> {
         }
     }
 
-    /// Plugs a cable into the ports `one` and `other`, and informs the agents at both ends. If the fabric refuses the
-    /// cable, prints the refusal.
+    /// Plugs a cable into the ports `one` and `other`, and informs the agents at both its ends. If the fabric refuses
+    /// the cable, prints the refusal.
     #[tactic(auto, unfolding(crate::specs::Commands::after_plug_line))]
     pub(crate) fn plug<W: Sink>(
         &mut self,
@@ -46,8 +46,8 @@ impl World<'_> {
         }
     }
 
-    /// Informs the agents at both ends of a cable that the state of a port has changed. A node at both ends is informed
-    /// once.
+    /// Informs the agents of the nodes of `one` and `other`, the ends of a cable, that the state of a port has
+    /// changed. A node at both ends is informed once.
     #[tactic(auto, unfolding(crate::specs::Commands::after_tell_ends))]
     fn tell_ends<W: Sink>(
         &mut self,
@@ -92,7 +92,7 @@ impl World<'_> {
         }
     }
 
-    /// Resends each waiting trap, in the order of the nodes. A trap that cannot leave is not sent.
+    /// Resends each waiting trap, in the order of the nodes. Does not send a trap that cannot leave.
     pub(crate) fn resend<W: Sink>(&mut self, sink: &mut W) -> Result<(), RunFault>
         ensures does { Does W.written W.has_failed self.old self.new result sink.old sink.new
             (after_resend_line (value_of self.old)) }

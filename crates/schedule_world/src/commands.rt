@@ -13,15 +13,16 @@ use schedule_lines::{RunFault, show_tables};
 use std::alloc::Global;
 use topo_file::Topology;
 
-/// Runs the commands of `schedule` in the fabric of `topology`, with managers that plan by `planning`, and flushes. The
-/// managers of `schedule` must sit at ports of adapters of `topology`, and its commands must name no other managers.
+/// Runs the commands of `schedule` in the fabric of `topology`, with managers that plan as `planning` says, and
+/// flushes `sink`. The managers of `schedule` must sit at ports of adapters of `topology`, and its commands may name
+/// no other managers.
 ///
 /// If the fabric or a manager refuses a call, prints a line and goes on.
 ///
 /// # Errors
 ///
-/// Returns `Memory` if memory runs out, after a beginning of the text was printed. Returns `Write` if the output
-/// failed.
+/// Returns `Memory` if memory runs out; a prefix of the text has then been printed. Returns `Write` if a write to the
+/// output failed.
 pub fn run_commands<W: Sink>(
     alloc: Global,
     topology: &Topology,
@@ -44,7 +45,7 @@ pub fn run_commands<W: Sink>(
 }
 
 impl World<'_> {
-    /// Runs `command`, whose managers must exist.
+    /// Runs `command`. There must be managers at the indices that it names.
     fn execute<W: Sink>(
         &mut self,
         alloc: Global,

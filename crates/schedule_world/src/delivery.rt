@@ -13,8 +13,9 @@ use schedule_file::{Fate, Which};
 use schedule_lines::{RunFault, refuse_fabric, refuse_manager, show_trap};
 
 impl World<'_> {
-    /// Delivers the packet in flight that `which` names by one step, loses it or copies it, as `fate` says. If no such
-    /// packet is in flight, or the fabric refuses the call, prints the refusal.
+    /// Performs one step of the packet in flight that `which` names, loses the packet, or copies it, as `fate` says.
+    /// Hands a packet that is handed up to its manager. If no such packet is in flight, or the fabric refuses the
+    /// call, prints the refusal.
     #[tactic(auto, unfolding(crate::specs::Commands::after_packet_line))]
     pub(crate) fn handle_packet<W: Sink>(
         &mut self,
@@ -57,8 +58,8 @@ impl World<'_> {
         }
     }
 
-    /// Delivers the packet in flight with the least serial number by one step, at most `most` times. Stops once no
-    /// packet is in flight.
+    /// Performs one step of the packet in flight with the least serial number, again and again, at most `most` times.
+    /// Stops once no packet is in flight.
     pub(crate) fn drain<W: Sink>(&mut self, most: u32, sink: &mut W) -> Result<(), RunFault>
         ensures does { Does W.written W.has_failed self.old self.new result sink.old sink.new
             (after_drain_line (value_of self.old) most) }
@@ -73,7 +74,7 @@ impl World<'_> {
         Ok(())
     }
 
-    /// Delivers the packet in flight with the serial number `serial` by one step. If the packet is handed up to a
+    /// Performs one step of the packet in flight with the serial number `serial`. If the packet is handed up to a
     /// manager, the manager takes it in, and the packets that the manager then has queued are sent. If the fabric
     /// refuses the step, prints the refusal.
     #[tactic(auto, using(schedule_lines::proofs::Printing::prints_then), unfolding(crate::specs::Commands::after_step))]
@@ -107,8 +108,8 @@ impl World<'_> {
         self.send(seat, sink)
     }
 
-    /// Hands `packet` to the manager at index `seat`, which must exist. If the packet is a trap that the manager
-    /// represses, prints the trap. If the manager refuses the packet, prints the refusal.
+    /// Hands `packet` to the manager at index `seat`. There must be a manager at this index. If the packet is a trap
+    /// that the manager represses, prints the trap. If the manager refuses the packet, prints the refusal.
     fn take_in<W: Sink>(
         &mut self,
         seat: usize,
@@ -127,8 +128,8 @@ impl World<'_> {
     }
 }
 
-/// Returns the serial number of the packet that `which` names. Returns `None` if `which` is the last packet and no
-/// packet is in flight. A packet that is named by its serial number need not be in flight.
+/// Returns the serial number of the packet that `which` names. Returns `None` if `which` names the last packet and no
+/// packet is in flight. If `which` names a packet by its serial number, the packet need not be in flight.
 fn serial(fabric: &Fabric, which: Which) -> Option<u64>
     ensures { result ≡ serial_of fabric.now.flights which }
 {

@@ -1,4 +1,4 @@
-//! The command that makes a manager take in what another manager knows.
+//! The command that makes a manager take in the facts of another manager.
 ghost use Rattle.std.specs.Prelude.{◌≡◌, ◌≢◌, ◌<◌, Err, Some, length, slice_get, slice_set, OnErr, OnOk};
 ghost use Rattle.sm_manager.specs.Manager.{after_merge};
 ghost use Rattle.schedule_world.specs.Commands.{after_merge_line};
@@ -10,8 +10,8 @@ use schedule_lines::{RunFault, refuse_manager};
 use sm_manager::ManagerFault;
 
 impl World<'_> {
-    /// Merges all that the manager at index `other` knows into the manager at index `seat`. Both managers must exist.
-    /// Does nothing if `seat` is `other`.
+    /// Merges the facts and the floor of the manager at index `other` into the manager at index `seat`. There must be
+    /// managers at both indices. Does nothing if `seat` is `other`.
     #[tactic(auto, unfolding(crate::specs::Commands::after_merge_line))]
     pub(crate) fn merge<W: Sink>(
         &mut self,
@@ -34,8 +34,9 @@ impl World<'_> {
     }
 }
 
-/// Merges all that the manager at index `other` knows into the manager at index `seat`, which is taken out of the list
-/// meanwhile. Both managers must exist, and differ. Returns an error only if memory runs out.
+/// Merges the facts and the floor of the manager at index `other` into the manager at index `seat`, which is taken
+/// out of the list meanwhile. The indices must differ, and there must be managers at both. Returns an error only if
+/// memory runs out.
 fn merge_at(managers: &mut Vec<Seated>, seat: usize, other: usize) -> Result<(), ManagerFault>
     requires seat { seat < length managers.old.items }
     requires other { other < length managers.old.items }

@@ -35,14 +35,14 @@ pub(crate) struct Seated<'s> {
 #[derive(Drop)]
 pub(crate) struct World<'s> {
     pub(crate) fabric: Fabric,
-    /// The managers, in the order of their seats. Before its line is run, a manager does nothing, and its port is not a
-    /// seat of the fabric.
+    /// The managers, in the order of their seats. Until its line is run, a manager does nothing, and its port is not
+    /// a seat of the fabric.
     pub(crate) managers: Vec<Seated<'s>>,
 }
 
 impl<'s> World<'s> {
-    /// Builds the fabric of `topology`, and for each of `seats` a manager that plans by `planning`. Each seat must be
-    /// at a port of an adapter of `topology`. Returns an error if memory runs out.
+    /// Builds the fabric of `topology`, and creates a manager for each of `seats` that plans as `planning` says. Each
+    /// seat must be at a port of an adapter of `topology`. Returns an error if memory runs out.
     pub(crate) fn of(
         alloc: Global,
         topology: &Topology,
@@ -64,8 +64,8 @@ impl<'s> World<'s> {
         Ok(World { fabric, managers })
     }
 
-    /// Sends all packets that the manager at index `seat`, which must exist, has queued. Prints a line for each packet
-    /// that the fabric refuses.
+    /// Sends all packets that the manager at index `seat` has queued. There must be a manager at this index. Prints a
+    /// line for each packet that the fabric refuses.
     #[tactic(auto, using(crate::proofs::Seats::sits), unfolding(crate::specs::World::after_send))]
     pub(crate) fn send<W: Sink>(&mut self, seat: usize, sink: &mut W) -> Result<(), RunFault>
         requires { seat < length self.old.managers.items }
@@ -130,8 +130,8 @@ fn send_one<W: Sink>(
     }
 }
 
-/// Returns the packet of `outgoing` as it is sent: to its LID or, for a directed route, to the permissive LID. The SLID
-/// is the permissive LID, which the fabric replaces if switches forward the packet by LIDs.
+/// Returns the packet of `outgoing` as it is sent. Its DLID is the LID of `outgoing` or, if there is none, the
+/// permissive LID. Its SLID is the permissive LID, which the fabric replaces if switches forward the packet by LIDs.
 fn packet(outgoing: &Outgoing) -> Packet
     ensures { result ≡ packet_out outgoing.now }
 {

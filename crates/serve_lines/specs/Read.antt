@@ -4,8 +4,8 @@ use Rattle.serve_lines.specs.ServeLine.{line_of}
 use Rattle.serve_lines.specs.declared.line.ServeLine.{ServeLine}
 use Rattle.serve_lines.specs.declared.line.ServeLine.TheVariants.{Floor, Packet}
 
--- what a line says is in range: a floor is from 1 to 2^32 - 1, a packet has 256 bytes, and the LID that it comes from
--- has 16 bits
+-- what a line says is in range: a floor is from 1 to 2^32 - 1, a packet has 256 bytes, and the LID that it came from
+-- fits in 16 bits
 abbrev pub IsRead : ServeLine → Type 0
 IsRead (Floor floor) = (1 ≤ floor) × (floor ≤ 0xFFFFFFFF)
 IsRead (Packet bytes from) = (length bytes ≡ 256) × (from ≤ 0xFFFF)

@@ -1,4 +1,4 @@
--- What a line says to a manager: words as a request, a packet, a timeout, or what to show.
+-- What a line says to a manager: a request, a floor, a packet, a timeout, or what to show.
 use Rattle.std.specs.Prelude.{ℕ, List, [], ◌∷◌, ◌++◌, length, Option, None, Some, codes, nat_lt, ◌==◌, ◌&&◌, map, if◌then◌else◌}
 use Rattle.std.specs.Prelude.{option_map, option_and_then}
 use Rattle.std.specs.Option.{option_map_or}
@@ -14,19 +14,19 @@ use Rattle.serve_lines.specs.declared.line.ServeLine.TheVariants.{Ask, Floor, Pa
 
 -- words ------------------------------------------------------------------------------------------
 
--- the 256 bytes that the word writes, each with two hex digits; None if the word does not write 256 bytes
+-- the 256 bytes that the word gives, each as two hex digits; None if the word is not 512 hex digits
 abbrev pub packet_of : List ℕ → Option (List ℕ)
 packet_of word = result_ok (decode_sized word 256)
 
--- the number that 1 to 16 hex digits write; None if the word does not write one
+-- the number that the word gives in hex digits; None if the word is not 1 to 16 hex digits
 abbrev pub hex_number : List ℕ → Option ℕ
 hex_number word = if nat_lt 16 (length word) then None else number_of 16 word
 
--- the TransactionID that 16 hex digits write; None if the word does not write one
+-- the TransactionID that the word gives in hex digits; None if the word is not 16 hex digits
 abbrev pub transaction_of : List ℕ → Option ℕ
 transaction_of word = if length word == 16 then hex_number word else None
 
--- the line that shows what the word names; None if it names nothing
+-- the meaning of the line that shows what the word asks about a manager; None if the word is not such a command
 abbrev pub show_of : List ℕ → Option ServeLine
 show_of word = option_map Show (shown_by word)
 
@@ -64,11 +64,11 @@ line_in (word ∷ hex ∷ between ∷ []) = None
 line_in (word ∷ hex ∷ between ∷ lid ∷ []) = packet_in word hex between lid
 line_in (word ∷ hex ∷ between ∷ lid ∷ more ∷ rest) = None
 
--- the greatest number of bytes of a line, without its line feed
+-- the greatest number of bytes that a line may have, without its line feed
 abbrev pub most_bytes : ℕ
 most_bytes = 600
 
--- the meaning of a line; `Wrong` if it has more than `most_bytes` bytes, or the grammar has no such line
+-- the meaning of a line; `Wrong` if the line has more than `most_bytes` bytes, or if the grammar has no such line
 unfoldable pub line_of : List ℕ → ServeLine
 line_of line =
     if nat_lt most_bytes (length line) then Wrong else option_map_or (λ said. said) (line_in (words line)) Wrong
@@ -86,6 +86,6 @@ abbrev pub begun_by : List ℕ → List ℕ → List ℕ
 begun_by begun [] = begun
 begun_by begun (b ∷ bytes) = if b == 10 then begun_by [] bytes else begun_by (begun ++ b ∷ []) bytes
 
--- what the lines say that end in `bytes`; the first line begins with the bytes `begun`
+-- the meanings of the lines that end in `bytes`; the first line begins with the bytes `begun`
 abbrev pub lines_told : List ℕ → List ℕ → List ServeLine
 lines_told begun bytes = map line_of (lines_ended begun bytes)

@@ -1,12 +1,12 @@
 use schedule_file::{Ask, Shown};
 use smp_bytes::{Generation, Lid};
 
-/// The meaning of a line to a manager.
+/// The meaning of a line that controls a manager.
 #[derive(Clone, Copy)]
 pub enum ServeLine {
     /// A request is made to the manager, which may refuse it.
     Ask(Ask),
-    /// The manager forgets facts that are older than the generation.
+    /// The manager forgets facts of generations below this one.
     Floor(Generation),
     /// A packet from this LID came to the manager's port.
     Packet([u8; 256], Lid),
@@ -14,7 +14,7 @@ pub enum ServeLine {
     Timeout(u64),
     /// The manager gives up each request that waits for its answer.
     GiveUp,
-    /// What the line names is shown of the manager.
+    /// What the line asks about the manager is shown.
     Show(Shown),
     /// The managers that the last sweep saw are shown.
     Managers,

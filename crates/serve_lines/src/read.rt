@@ -8,10 +8,10 @@ use crate::line::ServeLine;
 use schedule_file::{Ask, asked_by, generation_of, lid_of, shown_by};
 use text_words::{is_word, number, split_word};
 
-/// The greatest number of bytes of a line, without its line feed.
+/// The greatest number of bytes that a line may have, without its line feed.
 pub const MOST_BYTES: usize = 600;
 
-/// Parses `line`, a line without its line feed. Returns `Wrong` if `line` has more than `MOST_BYTES` bytes, or the
+/// Parses `line`, a line without its line feed. Returns `Wrong` if `line` has more than `MOST_BYTES` bytes, or if the
 /// grammar has no such line.
 #[tactic(auto, unfolding(crate::specs::ServeLine::line_of))]
 pub fn read_line(line: &[u8]) -> ServeLine
@@ -42,8 +42,8 @@ fn said_by(line: &[u8]) -> Option<ServeLine>
     behind_three(word, one, other, rest)
 }
 
-/// Parses the line of the words `word`, `one` and `other`, and then the words of `rest`. Returns `None` if the grammar
-/// has no such line.
+/// Parses the line that has the words `word`, `one` and `other`, and then those of `rest`. Returns `None` if the
+/// grammar has no such line.
 fn behind_three(word: &[u8], one: &[u8], other: &[u8], rest: &[u8]) -> Option<ServeLine>
     ensures { result ≡ line_in (word.now ∷ one.now ∷ other.now ∷ words rest.now) }
 {
@@ -54,7 +54,7 @@ fn behind_three(word: &[u8], one: &[u8], other: &[u8], rest: &[u8]) -> Option<Se
     packet_in(word, one, other, last)
 }
 
-/// Parses the line of the one word `word`. Returns `None` if the grammar has no such line.
+/// Parses the line that has the one word `word`. Returns `None` if the grammar has no such line.
 fn bare(word: &[u8]) -> Option<ServeLine>
     ensures { result ≡ bare_of word.now }
 {
@@ -69,7 +69,7 @@ fn bare(word: &[u8]) -> Option<ServeLine>
     }
 }
 
-/// Parses the line of the words `word` and `arg`. Returns `None` if the grammar has no such line.
+/// Parses the line that has the two words `word` and `arg`. Returns `None` if the grammar has no such line.
 fn of_one(word: &[u8], arg: &[u8]) -> Option<ServeLine>
     ensures { result ≡ of_one word.now arg.now }
 {
@@ -84,8 +84,8 @@ fn of_one(word: &[u8], arg: &[u8]) -> Option<ServeLine>
     }
 }
 
-/// Parses a line of four words: `packet`, the packet in hex digits, `from`, and the LID that the packet came from.
-/// Returns `None` if the grammar has no such line.
+/// Parses a line that has four words: `packet`, the packet in hex digits, `from`, and the LID that the packet came
+/// from. Returns `None` if the grammar has no such line.
 fn packet_in(word: &[u8], hex: &[u8], between: &[u8], lid: &[u8]) -> Option<ServeLine>
     ensures { result ≡ packet_in word.now hex.now between.now lid.now }
 {

@@ -10,11 +10,11 @@ pub record ServerValue : Type 0 where
   pub manager : Manager
   pub begun : List ℕ
 
--- `begun` with the byte `b`; `begun` itself, if it is already longer than a line may be
+-- `begun` with the byte `b` appended; `begun` itself if it is already longer than a line may be
 abbrev pub kept_with : List ℕ → ℕ → List ℕ
 kept_with begun b = if nat_le (length begun) most_bytes then begun ++ b ∷ [] else begun
 
--- the outcome `o` of handling a line, after which no line is begun
+-- the outcome `o` of handling a line, as an outcome of the server, which then has begun no line
 abbrev pub after_kept : Outcome Manager → Outcome ServerValue
 after_kept o = record { now = record { manager = o.now; begun = [] }; text = o.text }
 
@@ -24,7 +24,7 @@ after_byte s b =
     if b == 10 then after_kept (served s.manager (line_of s.begun))
     else quiet (record s { begun = kept_with s.begun b })
 
--- the outcome of the bytes, in turn
+-- the outcome of the bytes, one after the other
 abbrev pub after_bytes : ServerValue → List ℕ → Outcome ServerValue
 after_bytes s [] = quiet s
 after_bytes s (b ∷ bytes) = and_then (after_byte s b) (λ now. after_bytes now bytes)

@@ -23,7 +23,7 @@ use Rattle.sm_manager.specs.declared.traps.Trap.{Trap}
 
 -- texts ------------------------------------------------------------------------------------------
 
--- the LID that a packet is sent to; empty if it goes by the path that it carries
+-- ` to ` and the LID that a packet is sent to; empty if there is no LID, since the packet then goes over its own path
 abbrev pub to_text : Option ℕ → List ℕ
 to_text None = []
 to_text (Some lid) = codes " to " ++ decimal lid
@@ -36,7 +36,7 @@ send_line out = codes "send " ++ encode_lower out.packet ++ to_text out.to ++ co
 abbrev pub end_line : List ℕ
 end_line = codes ".\n"
 
--- the word of the state with the number `number`; the number in decimal if no state has it
+-- the word of the state with the number `number`; the number in decimal if no state has this number
 abbrev pub told_state : ℕ → List ℕ
 told_state number = option_map_or state_word (state_of_number number) (decimal number)
 
@@ -54,7 +54,7 @@ told_text info =
 unfoldable pub seen_line : SeenManager → List ℕ
 seen_line s = where_text s ++ told_text s.info
 
--- the line of a refusal, or of the trap that was repressed; empty if there is neither
+-- the line of the given refusal if there is one, or else of the trap that was repressed; empty if there is neither
 abbrev pub heard_text : Option Trap → Option ManagerFault → List ℕ
 heard_text trap None = trap_text None trap
 heard_text trap (Some fault) = manager_line fault
@@ -65,11 +65,12 @@ fault_text fault = heard_text None fault
 
 -- lines ------------------------------------------------------------------------------------------
 
--- the manager that a call leaves, and the line of its refusal, if it is refused
+-- the manager that a call leaves, and the line of the refusal if the call is refused
 abbrev pub after_called : Called → Outcome Manager
 after_called c = record { now = c.manager; text = fault_text c.fault }
 
--- the manager that a packet leaves, and the line of its refusal or of the trap that was repressed, if there is one
+-- the manager after a packet, and the line of the refusal of the packet or of the trap that was repressed, if there
+-- is one
 abbrev pub after_heard : Called → Option Trap → Outcome Manager
 after_heard c trap = record { now = c.manager; text = heard_text trap c.fault }
 
@@ -88,7 +89,7 @@ after_giving_up m [] = quiet m
 after_giving_up m (transaction ∷ later) =
     and_then (after_called (after_timeout m transaction)) (λ now. after_giving_up now later)
 
--- the outcome of a line for the manager `m`, before any packet is given out
+-- the outcome of a line for the manager `m`, before the queued packets are printed
 abbrev pub after_line : Manager → ServeLine → Outcome Manager
 after_line m (Ask what) = after_called (asked m what)
 after_line m (Floor floor) = quiet (after_raise_floor m floor)
@@ -100,7 +101,7 @@ after_line m Managers = shows (flat_map seen_line m.seen) m
 after_line m Empty = quiet m
 after_line m Wrong = shows (codes "syntax\n") m
 
--- the outcome `o`, after which the lines of all queued packets are printed, and none is queued
+-- the outcome `o`, followed by the lines of all queued packets; no packet is then queued
 abbrev pub given_out : Outcome Manager → Outcome Manager
 given_out o = record { now = emptied o.now; text = o.text ++ flat_map send_line o.now.outgoing }
 

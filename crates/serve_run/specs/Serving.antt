@@ -1,4 +1,4 @@
--- How serving a manager by lines ends: at the end of what is read, or with a fault.
+-- How serving a manager that is controlled by lines ends: at the end of the input, or with a fault.
 use Rattle.std.specs.Prelude.{◌≡◌, ◌⊎◌, ◌≤◌, ◌+◌, ◌^◌, ◌-◌, ℕ, Bool, true, false, List, [], length, Option, Result, Ok, Err, IsTrue}
 use Rattle.std.specs.Io.KnownBytes.{Consumes, IsAtEnd}
 use Rattle.byte_io.specs.Source.{SourceState}
@@ -16,7 +16,7 @@ use Rattle.serve_run.specs.Served.{served_by}
 abbrev pub value_of : Server → ServerValue
 value_of s = record { manager = s.manager; begun = s.begun.items }
 
--- the fault of handling a line as a fault of serving
+-- the fault of serving that a fault in handling a line becomes
 abbrev pub fault_of_run : RunFault → ServeFault
 fault_of_run runs.Write = Write
 fault_of_run runs.Memory = Memory
@@ -26,34 +26,35 @@ pub record IsReadToEnd {S : Type 0} (state : S → SourceState) (old new : S) (b
   pub read : Consumes (state old).left (state new).left bytes
   pub at_end : IsAtEnd (state new).left
 
--- all bytes of the source were read, and `prints` holds of what the manager prints for them
+-- all bytes of the source were read, and `prints` holds for the text that the manager `m` prints for them
+-- (`served_by`)
 pub record HasServed {S : Type 0} (state : S → SourceState) (old new : S) (m : Manager)
     (prints : List ℕ → Type 0) : Type 0 where
   pub bytes : List ℕ
   pub read : IsReadToEnd state old new bytes
   pub printed : prints (served_by m bytes)
 
--- some bytes were read, and `prints` holds of what the manager prints for them
+-- some bytes were read, and `prints` holds for the text that the manager `m` prints for them (`served_by`)
 pub record HasServedSome {S : Type 0} (state : S → SourceState) (old new : S) (m : Manager)
     (prints : List ℕ → Type 0) : Type 0 where
   pub bytes : List ℕ
   pub read : Consumes (state old).left (state new).left bytes
   pub printed : prints (served_by m bytes)
 
--- the source has failed, or the number `count` of bytes that were read and the number of interruptions meanwhile add up
--- to 2^64 - 1 or more
+-- the source has failed, or the number `count` of bytes that were read plus the number of interruptions meanwhile is
+-- at least 2^64 - 1
 abbrev pub CannotBeRead : SourceState → SourceState → ℕ → Type 0
 CannotBeRead old new count =
     IsTrue new.has_failed ⊎ (2 ^ 64 - 1 + old.interruptions ≤ count + new.interruptions)
 
--- `prints` holds of what the manager prints for the bytes that were read, and no more can be read
+-- `prints` holds for the text that the manager `m` prints for the bytes that were read, and no more can be read
 pub record FailsToRead {S : Type 0} (state : S → SourceState) (old new : S) (m : Manager)
     (prints : List ℕ → Type 0) : Type 0 where
   pub served : HasServedSome state old new m prints
   pub why : CannotBeRead (state old) (state new) (length served.bytes)
 
--- serving stopped for the given fault: `whole` holds of what was printed if no more can be read, and `some` if memory
--- is refused; or a write failed
+-- serving stopped for the given fault. If no more can be read, `whole` holds for the text that the manager prints for
+-- the bytes that were read. If memory ran out, `some` holds for this text. Otherwise a write failed
 abbrev pub StopsServing : {S : Type 0} → (S → SourceState) → S → S → Manager → (List ℕ → Type 0) → (List ℕ → Type 0)
     → Bool → ServeFault → Type 0
 StopsServing state old new m some whole sink_failed Read = FailsToRead state old new m whole
@@ -66,7 +67,7 @@ stopped fault = Err fault
 
 -- pieces -----------------------------------------------------------------------------------------
 
--- one read gives bytes, or none and is interrupted, and the lines that end in these bytes are handled
+-- one read gives bytes, or is interrupted and gives none, and the lines that end in these bytes are handled
 pub record GoesOn {S W : Type 0} (state : S → SourceState) (written : W → Option (List ℕ)) (has_failed : W → Bool)
     (old new : S) (server server' : ServerValue) (sink sink' : W) : Type 0 where
   pub bytes : List ℕ
@@ -96,8 +97,8 @@ pub record StopsWithin {S W : Type 0} (state : S → SourceState) (written : W �
   pub read : Consumes (state old).left (state new).left bytes
   pub prints : PrintsUnless written has_failed (stopped fault) sink sink' (after_bytes server bytes).text
 
--- what serving the next piece does, by its result: it goes on (true), is over (false), cannot read, or stops as it
--- handles lines
+-- what serving the next piece of input does, given its result: it goes on (true), is over (false), cannot read, or
+-- stops while it handles lines
 abbrev pub ServesPiece : {S W : Type 0} → (S → SourceState) → (W → Option (List ℕ)) → (W → Bool) → S → S → ServerValue
     → ServerValue → W → W → Result Bool ServeFault → Type 0
 ServesPiece state written has_failed old new server server' sink sink' (Ok true) =

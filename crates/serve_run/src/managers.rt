@@ -9,7 +9,7 @@ use byte_io::{Sink, WriteFault, write_guid, write_number, write_port};
 use schedule_lines::RunFault;
 use sm_state::{SeenManager, SmState};
 
-/// Prints a line for each of `managers`, which a sweep saw, in their order.
+/// Prints a line for each of `managers`, which are those that a sweep saw, in their order.
 pub(crate) fn show_managers<W: Sink>(sink: &mut W, managers: &[SeenManager]) -> Result<(), RunFault>
     ensures prints { PrintsUnless W.written W.has_failed result sink.old sink.new
         (flat_map seen_line managers.now) }
@@ -29,7 +29,7 @@ fn write_seen<W: Sink>(sink: &mut W, seen: &SeenManager) -> Result<(), WriteFaul
     write_reported(sink, &seen.info)
 }
 
-/// Writes the port at which the manager `seen` was seen, and the port GUID that it reported.
+/// Writes the port at which the manager `seen` was seen, and the port GUID that the manager reported.
 fn write_where<W: Sink>(sink: &mut W, seen: &SeenManager) -> Result<(), WriteFault>
     ensures writes { Writes W.written W.has_failed result sink.old sink.new (where_text seen.now) }
 {
@@ -52,7 +52,7 @@ fn write_reported<W: Sink>(sink: &mut W, info: &SmInfo) -> Result<(), WriteFault
     sink.write(b"\n")
 }
 
-/// Writes the word of the state with the number `number`, or `number` itself if no state has it.
+/// Writes the word of the state with the number `number`, or `number` in decimal if no state has this number.
 fn write_told_state<W: Sink>(sink: &mut W, number: SmStateNumber) -> Result<(), WriteFault>
     ensures writes { Writes W.written W.has_failed result sink.old sink.new (told_state number) }
 {

@@ -4,11 +4,11 @@ use schedule_lines::RunFault;
 /// Why serving stopped before the end of the lines.
 #[derive(Clone, Copy, Debug, PartialEq, Eq)]
 pub enum ServeFault {
-    /// No more lines can be read, but the lines have not ended.
+    /// No more bytes can be read, although the lines have not ended.
     Read,
     /// A write to the output failed.
     Write,
-    /// Memory was refused.
+    /// Memory ran out.
     Memory,
 }
 

@@ -1,4 +1,4 @@
-//! Handling of one line: the line is answered, the queued packets are written, and the answer ends.
+//! Handling of one line. The line is answered, the queued packets are written, and the answer ends.
 ghost use Rattle.std.specs.Prelude.{OnOk, IsTrue, Some};
 ghost use Rattle.sm_manager.specs.Packets.{after_packet, after_timeout, noted_trap};
 ghost use Rattle.sm_manager.specs.Manager.{outstanding};
@@ -107,8 +107,8 @@ fn take_in<W: Sink>(
     }
 }
 
-/// Informs `manager` that the request with the TransactionID `transaction` timed out. If the manager refuses the
-/// timeout, prints the refusal.
+/// Times out the request of `manager` with the TransactionID `transaction`. If the manager refuses the timeout,
+/// prints the refusal.
 fn time_out<W: Sink>(manager: &mut Manager, transaction: u64, sink: &mut W) -> Result<(), RunFault>
     ensures does { Lives W.written W.has_failed manager.new result sink.old sink.new
         (after_called (after_timeout manager.old transaction)) }

@@ -17,23 +17,25 @@ use std::alloc::{AllocError, Global};
 /// The greatest number of bytes that are read at a time.
 const PIECE: usize = 4096;
 
-/// A manager, and the line that has begun. Of a line the first 601 bytes are kept, one more than a line may have.
+/// A manager, and the bytes of the line that has begun. At most 601 bytes of a line are kept, one more than a line
+/// may have.
 #[derive(Drop)]
 pub(crate) struct Server {
     manager: Manager,
     begun: Vec<u8>,
 }
 
-/// Serves `manager` by `lines` until the lines end. Answers each line, and flushes the answer, before more is read.
+/// Serves `manager`: reads `lines` until they end, and handles each line. Answers each line, and flushes the answer,
+/// before more is read.
 ///
-/// Writes `served_by` of all bytes that were read. Bytes after the last line feed are not a line. At most 601 bytes are
-/// kept of the line that has begun.
+/// Writes what `served_by` gives for all bytes that were read. Bytes after the last line feed are not a line. Keeps
+/// at most 601 bytes of the line that has begun.
 ///
 /// # Errors
 ///
 /// Returns `Read` if no more lines can be read; all earlier lines have then been answered. Returns `Memory` if memory
-/// runs out; a beginning of the answers has then been written. Returns `Write` if a write fails; how much was written
-/// is then unspecified.
+/// runs out; a prefix of the answers has then been written. Returns `Write` if a write fails; how much was written is
+/// then unspecified.
 pub fn serve<S: Source, W: Sink>(
     alloc: Global,
     manager: Manager,
@@ -62,8 +64,9 @@ pub fn serve<S: Source, W: Sink>(
 }
 
 impl Server {
-    /// Reads some bytes, and handles the lines that end in them. Returns whether more bytes may come, or an error if
-    /// reading, writing or memory fails. `sink` must be flushed, so that no output is held back while bytes are read.
+    /// Reads some bytes, and handles the lines that end in them. Returns whether more bytes may come. Returns an
+    /// error if a read or a write fails, or if memory runs out. `sink` must be flushed, so that no output is held
+    /// back while bytes are read.
     fn serve_piece<S: Source, W: Sink>(
         &mut self,
         alloc: Global,
@@ -87,7 +90,7 @@ impl Server {
         }
     }
 
-    /// Handles the lines that end in `bytes`. `sink` must be flushed.
+    /// Handles the lines that end in `bytes`, and flushes `sink`, which must be flushed at first.
     fn serve_bytes<W: Sink>(
         &mut self,
         alloc: Global,

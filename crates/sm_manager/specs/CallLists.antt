@@ -23,8 +23,8 @@ use Rattle.sm_manager.specs.Writing.{after_write_steps}
 
 -- a call that may change a manager. `Packet` brings bytes to its port; `from` is the LID of their sender, if that is
 -- known. `Timeout` ends the wait of the request with the TransactionID `transaction`. `Raise` raises the floor of the
--- facts to `floor`. `Merge` merges the view of `sightings` at `floor`. `Poll` polls at the LID `lid` or, for None, a
--- manager that the last sweep saw
+-- facts to `floor`. `Merge` merges the view of `sightings` at `floor`. `Poll` polls the manager at the LID `lid` or,
+-- if `lid` is None, a manager that the last sweep saw
 pub data Call : Type 0 where
   BeginSweep : Call
   WriteSteps : Call
@@ -36,7 +36,7 @@ pub data Call : Type 0 where
   Poll : (lid : Option ℕ) → Call
   Handover : Call
 
--- the manager `m` after a call; unchanged if the call is refused. A call that is refused memory counts as not made
+-- the manager `m` after a call; unchanged if the call is refused. A call for which memory runs out counts as not made
 abbrev pub after_call : Manager → Call → Manager
 after_call m BeginSweep = if is_none (begin_fault m) then after_begin_sweep m else m
 after_call m WriteSteps = if is_none (writing_fault m) then after_write_steps m else m
@@ -60,13 +60,13 @@ abbrev pub sightings_if : Result Answer SweepFault → Sightings
 sightings_if (Ok answer) = sightings_by answer
 sightings_if (Err why) = []
 
--- the sightings of the reply `bytes` to a sweep; none if no sweep was begun, or the sweep refuses the reply
+-- the sightings of the reply `bytes` to a sweep; none if there is no sweep, or if it refuses the reply
 abbrev pub sightings_of_reply : List ℕ → Option Sweep → Sightings
 sightings_of_reply bytes None = []
 sightings_of_reply bytes (Some s) = sightings_if (judged s bytes)
 
--- the sightings that `bytes` bring in, given their fault as a packet: those of a reply that the sweep accepts, else
--- none
+-- the sightings that `bytes` bring in: those of a reply that the sweep accepts, else none. The given fault is the one
+-- that the bytes have as a packet
 abbrev pub sightings_of_packet : Manager → List ℕ → Option SmpFault → Sightings
 sightings_of_packet m bytes (Some why) = []
 sightings_of_packet m bytes None =
@@ -92,7 +92,7 @@ abbrev pub taken_in : List Call → Manager → Sightings
 taken_in [] m = []
 taken_in (call ∷ calls) m = sightings_of_call m call ++ taken_in calls (after_call m call)
 
--- the floor of a call that raises the floor of the facts, or merges a view; 1 for other calls
+-- the floor in a call that raises the floor of the facts or merges a view; 1 for other calls
 abbrev pub floor_in : Call → ℕ
 floor_in BeginSweep = 1
 floor_in WriteSteps = 1
@@ -116,7 +116,7 @@ KnowsWhatItTookIn = (port_guid port priority : ℕ) (conduct : Conduct) (plannin
     (after_calls calls (new_manager port_guid port priority conduct planning)).store
     ≡ view_at (greatest_floor calls) (taken_in calls (new_manager port_guid port priority conduct planning))
 
--- `one` and `other` have equal facts and equal plans. If there is room for the LIDs, every packet arrives by the plan
+-- `one` and `other` have equal facts and equal plans. If every end port finds a LID, every packet arrives by the plan
 -- of `one` (`EveryPacketArrives`)
 pub record KnowTheSame (one other : Manager) : Type 0 where
   pub facts : one.store ≡ other.store
@@ -126,8 +126,8 @@ pub record KnowTheSame (one other : Manager) : Type 0 where
       → EveryPacketArrives one.planning.rule (cells_of one.store)
       (plan_of one.planning.rule one.planning.lmc (cells_of one.store))
 
--- two managers know the same (`KnowTheSame`) if they took in the same sightings, in any order and number. The greatest
--- floors of their calls are equal. Both plan by the same LMC and rule
+-- let two managers plan by the same LMC and rule, and let the greatest floors of their calls be equal. If they took
+-- in the same sightings, in any order and number, they know the same (`KnowTheSame`)
 abbrev pub SameTakenInSamePlan : Type 0
 SameTakenInSamePlan =
     (guid port priority guid' port' priority' : ℕ) (conduct conduct' : Conduct) (planning : Planning)

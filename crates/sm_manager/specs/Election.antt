@@ -53,7 +53,7 @@ abbrev pub poll_packet : ℕ → Option (List ℕ) → List ℕ
 poll_packet number None = lid_routed get sm_info 0 number (replicate 64 0)
 poll_packet number (Some path) = directed get sm_info 0 number path (replicate 64 0)
 
--- the packet of a poll to be sent, over `path` if there is one, else to the LID `lid`
+-- the packet of a poll, to be sent over `path` if there is one, else to the LID `lid`
 abbrev pub poll_out : ℕ → Option ℕ → Option (List ℕ) → Outgoing
 poll_out number lid path = record { packet = poll_packet number path; to = lid }
 
@@ -66,25 +66,25 @@ control_out s number lid control =
           Some lid;
     }
 
--- the manager once the packet `out` is queued and the request `waits` waits for its answer; this uses up the manager's
--- next number
+-- the manager after the packet `out` was queued and the request `waits` added to those that wait for their answers.
+-- This uses up the manager's next number
 abbrev pub asked : Manager → Pending → Outgoing → Manager
 asked m waits out =
     record m { counter = m.counter + 1; pending = m.pending ++ waits ∷ []; outgoing = m.outgoing ++ out ∷ [] }
 
--- the manager once a control to the LID `lid` is queued, and waits for its answer
+-- the manager after a control to the LID `lid` was queued, which now waits for its answer
 abbrev pub control_sent : Manager → ℕ → Control → Manager
 control_sent m lid control =
     asked m (info_pending m.counter purpose.Control (modifier_of_control control))
     (control_out m.standing m.counter lid control)
 
--- how many requests a message takes: 1 if there are a message and a LID to send it to, else 0
+-- the number of requests that a message takes: 1 if there is a message and there is a LID to send it to, else 0
 abbrev pub message_count : Option ℕ → Option Message → ℕ
 message_count None message = 0
 message_count (Some lid) None = 0
 message_count (Some lid) (Some message) = 1
 
--- the request of a message, which waits for its answer; none if there is no message or no LID
+-- the request that waits for the answer to a message; none if there is no message or no LID
 abbrev pub message_pending : ℕ → Option ℕ → Option Message → List Pending
 message_pending counter None message = []
 message_pending counter (Some lid) None = []
@@ -97,7 +97,7 @@ message_out s counter None message = []
 message_out s counter (Some lid) None = []
 message_out s counter (Some lid) (Some message) = control_out s counter lid (control_of_message message) ∷ []
 
--- the manager once a message is queued as a control; unchanged if there is no message or no LID
+-- the manager after a message was queued as a control; unchanged if there is no message or no LID
 abbrev pub after_message : Manager → Option ℕ → Option Message → Manager
 after_message m None message = m
 after_message m (Some lid) None = m
@@ -115,22 +115,24 @@ abbrev pub if_way_out : ℕ → Option (List ℕ) → Option (List ℕ)
 if_way_out port None = None
 if_way_out port (Some path) = if is_way_out port path then Some path else None
 
--- the path by which the last sweep first reached the port where the manager `s` was seen; None if no sweep was begun,
--- or the sweep did not reach that port
+-- the path by which the last sweep first reached the port where the manager `s` was seen; None if there is no sweep,
+-- or if it did not reach that port
 abbrev pub path_seen : Option Sweep → SeenManager → Option (List ℕ)
 path_seen None s = None
 path_seen (Some sweep) s = path_to sweep s.guid s.port
 
--- the manager to which a poll without a LID goes, among those that the last sweep saw; None if there is none to poll
+-- the manager to which a poll without a LID goes, one of those that the last sweep saw; None if there is no manager
+-- to poll
 abbrev pub polled : Manager → Option SeenManager
 polled m = polled_of (info_of m.standing) m.seen
 
--- the path of a poll without a LID: that by which the last sweep first reached the manager to poll. None if there is no
--- manager to poll, or its path is not known, or does not leave by the own port within 63 hops
+-- the path of a poll without a LID: the path by which the last sweep first reached the manager to poll. None if there
+-- is no manager to poll, if there is no such path, or if the path does not leave by the own port or has more than 63
+-- hops
 abbrev pub polled_path : Manager → Option (List ℕ)
 polled_path m = if_way_out m.port (option_and_then (path_seen m.sweep) (polled m))
 
--- the path of a poll; None if the poll goes to a LID, or has neither a LID nor a path
+-- the path of a poll; None if the poll goes to a LID, or if there is neither a LID nor a path
 abbrev pub poll_path : Manager → Option ℕ → Option (List ℕ)
 poll_path m (Some lid) = None
 poll_path m None = polled_path m
@@ -148,7 +150,7 @@ poll_fault m lid =
     if is_in Standby m.standing then or_else (unless_way lid (polled_path m)) (number_fault (m.counter + 1))
     else Some fault.NotStandby
 
--- the manager once a poll is queued: to the LID `lid` or, if that is None, over the path to a manager that the last
+-- the manager after a poll was queued: to the LID `lid` or, if that is None, over the path to a manager that the last
 -- sweep saw
 abbrev pub after_poll : Manager → Option ℕ → Manager
 after_poll m lid =
@@ -156,11 +158,12 @@ after_poll m lid =
 
 -- handing over ----------------------------------------------------------------------------------
 
--- how the state of manager `m` moves if another manager is to be master
+-- the move of the manager `m` when another manager is to become master
 abbrev pub handover_move : Manager → Transition
 handover_move m = stepped m.standing.conduct m.standing.state HandoverWanted
 
--- the successor, the manager that is to take over, among those that the last sweep saw; None if none of them may
+-- the successor, which is the manager that is to take over, one of those that the last sweep saw; None if none of
+-- them may take over
 abbrev pub successor : Manager → Option SeenManager
 successor m = successor_of (info_of m.standing) m.seen
 
@@ -181,26 +184,26 @@ abbrev pub unless_lid : Option ℕ → Option ManagerFault
 unless_lid None = Some fault.Nobody
 unless_lid (Some lid) = None
 
--- why a master does not hand over, except for lack of memory: there is no successor, the plan has no room, it gives the
--- successor's port no LID, or no number is left; None if the master may hand over
+-- why a master does not hand over, except for lack of memory: there is no successor, some end port finds no LID in
+-- the plan, the plan gives the successor's port no LID, or no number is left; None if the master may hand over
 abbrev pub successor_fault : Manager → Option ManagerFault
 successor_fault m =
     if is_none (successor m) then Some fault.Nobody
     else or_else (plan_fault m.planning.lmc (cells_of m.store))
     (or_else (unless_lid (successor_lid m)) (number_fault (m.counter + 1)))
 
--- why a manager does not hand over, except for lack of memory: it is not master, or has a fault by `successor_fault`;
+-- why a manager does not hand over, except for lack of memory: it is not master, or `successor_fault` gives a fault;
 -- None if it may hand over
 abbrev pub handover_fault : Manager → Option ManagerFault
 handover_fault m = if is_none (handover_move m).message then Some fault.NotMaster else successor_fault m
 
--- the manager once its state has moved by `handover_move`, and the message of that move is queued as a control to the
--- LID `lid`; nothing is queued if there is no LID or no message
+-- the manager after its state has moved by `handover_move` and the message of this move was queued as a control to
+-- the LID `lid`; nothing is queued if there is no LID or no message
 abbrev pub handed_to : Manager → Option ℕ → Manager
 handed_to m lid =
     after_message (record m { standing = moved_to (handover_move m).state m.standing }) lid (handover_move m).message
 
--- the manager once HANDOVER to its successor's LID is queued, and its state has moved
+-- the manager after its state has moved by `handover_move` and a HANDOVER to its successor's LID was queued
 abbrev pub after_handover : Manager → Manager
 after_handover m = handed_to m (successor_lid m)
 
@@ -208,12 +211,13 @@ after_handover m = handed_to m (successor_lid m)
 abbrev pub is_handover : Pending → Bool
 is_handover p = p.modifier == modifier_of_control control.Handover
 
--- whether `answer`, the status of the answer to the request `p` or None, relieves the manager `s`: its conduct is live,
--- `p` is a HANDOVER, and the status is 0
+-- whether the manager `s` moves as ACKNOWLEDGE would move it when the request `p` ends: its conduct is live, `p` has
+-- the modifier of a HANDOVER, and `answer`, the status of the answer or None, is 0
 abbrev pub is_relieved : Standing → Pending → Option ℕ → Bool
 is_relieved s p answer = is_live s.conduct && (is_handover p && is_done_by answer)
 
--- the standing `s` after a control was answered or timed out: it moves as by ACKNOWLEDGE if `is_relieved`, else not
+-- the standing `s` after a control was answered or timed out: it moves as ACKNOWLEDGE would move it if `is_relieved`,
+-- and is else unchanged
 abbrev pub after_control_end : Bool → Standing → Standing
 after_control_end is_relieved s =
     if is_relieved then moved_by (event.Control (modifier_of_control control.Acknowledge)) s else s

@@ -6,7 +6,7 @@ use Rattle.sweep.specs.Fault.{sweep_fault_name}
 use Rattle.sm_manager.specs.declared.fault.ManagerFault.{ManagerFault}
 use Rattle.sm_manager.specs.declared.fault.ManagerFault.TheVariants as manager
 
--- the name of a manager's fault; for a fault of the sweep, the name that the sweep gives this fault
+-- the name of a manager's fault; for `Sweep`, the name of the sweep's fault
 abbrev pub manager_fault_name : ManagerFault → List ℕ
 manager_fault_name manager.GenerationsSpent = codes "GenerationsSpent"
 manager_fault_name manager.SweepRunning = codes "SweepRunning"

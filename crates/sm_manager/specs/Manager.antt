@@ -21,8 +21,8 @@ use Rattle.sm_state.specs.Conducts.{is_live}
 use Rattle.sm_state.specs.Election.{sweep_verdict}
 use Rattle.sm_state.specs.Standing.{active_once_more, info_of, moved_by, new_standing}
 
--- a writing of a plan, running or over. `later` has the phases that are still to be sent, in their order. `has_failed`
--- is true if a step that counts timed out, or was answered with a status other than 0
+-- a writing of a plan, whether it still runs or is over. `later` has the phases that are still to be sent, in their
+-- order. `has_failed` is true if a step that counts (`counts`) timed out, or was answered with a status other than 0
 pub record Writing : Type 0 where
   pub later : List Phase
   pub has_failed : Bool
@@ -45,7 +45,8 @@ pub record Manager : Type 0 where
   pub pending : List Pending
   pub outgoing : List Outgoing
 
--- a manager before any call, at the port `port` with the GUID `port_guid`: it has no facts, sweep, requests or packets
+-- a manager before any call, at the port with the number `port` and the GUID `port_guid`: it has no facts, sweep,
+-- requests or packets
 abbrev pub new_manager : ℕ → ℕ → ℕ → Conduct → Planning → Manager
 new_manager port_guid port priority conduct planning =
     record {
@@ -67,11 +68,12 @@ new_manager port_guid port priority conduct planning =
 abbrev pub requests_out : ℕ → List Request → List Outgoing
 requests_out generation requests = map (λ r. record { packet = packet_of generation r; to = None }) requests
 
--- the sweep `s` once all its queued requests wait for their replies
+-- the sweep `s` after all its queued requests were sent, which now wait for their replies
 abbrev pub with_all_sent : Sweep → Sweep
 with_all_sent s = record s { queued = []; outstanding = s.outstanding ++ s.queued }
 
--- the manager `m` once `s` is its sweep: all queued requests of `s` are queued as packets, and wait for their replies
+-- the manager `m` with the sweep `s`: all queued requests of `s` are queued as packets of the manager, and wait for
+-- their replies
 abbrev pub with_sweep : Manager → Sweep → Manager
 with_sweep m s =
     record m {
@@ -86,21 +88,22 @@ IsSentWhole (Some s) = s.queued ≡ []
 
 -- beginning a sweep ------------------------------------------------------------------------------
 
--- whether a sweep was begun and is not done
+-- whether there is a sweep, and it is not done
 abbrev pub is_running : Option Sweep → Bool
 is_running None = false
 is_running (Some s) = not (is_done s)
 
--- whether a sweep was begun and is done
+-- whether there is a sweep, and it is done
 abbrev pub is_over : Option Sweep → Bool
 is_over None = false
 is_over (Some s) = is_done s
 
--- the standing `s` at the end of a sweep that saw the managers `seen`
+-- the standing `s` after the end of a sweep that saw the managers `seen`
 abbrev pub after_verdict : List SeenManager → Standing → Standing
 after_verdict seen s = moved_by (sweep_verdict (info_of s) seen) s
 
--- the manager after a change of its sweep: if the sweep is now done, the manager's state moves by what the sweep saw
+-- the manager after a change of its sweep: if the sweep is now done, the manager's state moves according to the
+-- managers that the sweep saw
 abbrev pub after_sweep : Manager → Manager
 after_sweep m = record m { standing = if is_over m.sweep then after_verdict m.seen m.standing else m.standing }
 
@@ -112,13 +115,13 @@ newest_held facts = newest_of (map (λ e. e.1) (cells_of facts))
 abbrev pub next_generation : Facts → ℕ
 next_generation facts = max (newest_held facts + 1) facts.floor
 
--- why no sweep begins, except for lack of memory: one runs, or the facts have the greatest possible generation,
+-- why no sweep begins, except for lack of memory: a sweep runs, or the facts have the greatest possible generation,
 -- 2^32 - 1; None if a sweep may begin
 abbrev pub begin_fault : Manager → Option ManagerFault
 begin_fault m = if is_running m.sweep then Some SweepRunning else
     (if newest_held m.store == 2 ^ 32 - 1 then Some GenerationsSpent else None)
 
--- the manager once a sweep of the next generation has begun at its own port, which counts as activity; the sweep has
+-- the manager after a sweep of the next generation has begun at its own port. This counts as activity. The sweep has
 -- seen no manager yet, and keeps images if the manager's conduct is live
 abbrev pub after_begin_sweep : Manager → Manager
 after_begin_sweep m =
@@ -130,7 +133,7 @@ after_begin_sweep m =
 
 -- other calls ------------------------------------------------------------------------------------
 
--- the manager once `facts` are merged with its own
+-- the manager after `facts` were merged with its own facts
 abbrev pub after_merge : Manager → Facts → Manager
 after_merge m facts = record m { store = merge m.store facts }
 
@@ -139,7 +142,7 @@ abbrev pub after_raise_floor : Manager → ℕ → Manager
 after_raise_floor m floor = record m { store = raised m.store floor }
 
 -- the outcome of taking a manager's first queued packet: `manager` is the manager without the packet, and `packet` is
--- the packet; None, with the manager unchanged, if none was queued
+-- the packet. If no packet was queued, `manager` is unchanged and `packet` is None
 pub record Taken : Type 0 where
   pub manager : Manager
   pub packet : Option Outgoing
@@ -153,7 +156,7 @@ taken_of m (packet ∷ later) = record { manager = record m { outgoing = later }
 abbrev pub after_take_outgoing : Manager → Taken
 after_take_outgoing m = taken_of m m.outgoing
 
--- the TransactionIDs of the waiting requests of a sweep, rising; none without a sweep
+-- the TransactionIDs of the waiting requests of a sweep, rising; none if there is no sweep
 abbrev pub transactions_of : Option Sweep → List ℕ
 transactions_of None = []
 transactions_of (Some s) = map (λ r. transaction_of s.generation r.number) s.outstanding
@@ -163,13 +166,14 @@ transactions_of (Some s) = map (λ r. transaction_of s.generation r.number) s.ou
 abbrev pub outstanding : Manager → List ℕ
 outstanding m = map (λ p. p.number) m.pending ++ transactions_of m.sweep
 
--- how many of a sweep's requests for SMInfo timed out; None if no sweep was begun
+-- how many of a sweep's requests for SMInfo timed out; None if there is no sweep
 abbrev pub silent_in : Option Sweep → Option ℕ
 silent_in None = None
 silent_in (Some s) = Some s.silent_managers
 
--- how far the last sweep is: never begun, running, or done. If one was begun, also how many of its requests timed out,
--- and how many ports would need a path of more than 63 ports
+-- how far the last sweep has come: never begun, running, or done. If there is a sweep, also the number of its
+-- requests that timed out, and the number of ports by which it did not go on because the path would have had more
+-- than 63 ports
 abbrev pub progress_of : Option Sweep → Progress
 progress_of None = Never
 progress_of (Some s) = if is_done s then Done s.unanswered s.too_far else Running s.unanswered s.too_far

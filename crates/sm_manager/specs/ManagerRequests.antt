@@ -6,13 +6,13 @@ use Rattle.sm_manager.specs.declared.pending.Purpose.{Purpose}
 use Rattle.sm_manager.specs.declared.pending.Purpose.TheVariants as purpose
 
 -- the requests outside sweeps: `counter` is the number of the next one, `pending` has those that wait for their
--- answers, and `room` is for how many more there is memory
+-- answers, and `room` is the number of further requests for which there is memory
 pub record ManagerRequests : Type 0 where
   pub counter : ℕ
   pub pending : List Pending
   pub room : ℕ
 
--- the numbers of the requests `pending` fit 32 bits, rise, and are below `counter`
+-- the numbers of the requests `pending` rise, fit in 32 bits, and are below `counter`
 abbrev pub AreNumbered : ℕ → List Pending → Type 0
 AreNumbered counter pending = numbers.AreNumbered (λ (p : Pending). p.number) pending counter
 
@@ -36,13 +36,13 @@ is_for_step (purpose.Step counts) = true
 abbrev pub is_step : Pending → Bool
 is_step p = is_for_step p.purpose
 
--- whether a request for this purpose is a step that counts, and so has to be done for the plan to be written
+-- whether a request for this purpose is a step that counts, and so must be done for the plan to count as written
 abbrev pub counts_as : Purpose → Bool
 counts_as purpose.Poll = false
 counts_as purpose.Control = false
 counts_as (purpose.Step counts) = counts
 
--- whether the request `p` is a step that counts, and so has to be done for the plan to be written
+-- whether the request `p` is a step that counts, and so must be done for the plan to count as written
 abbrev pub counts : Pending → Bool
 counts p = counts_as p.purpose
 
@@ -58,7 +58,8 @@ no_step_waits pending = how_many is_step pending == 0
 abbrev pub none_counts : List Pending → Bool
 none_counts pending = how_many counts pending == 0
 
--- `steps` is how many requests of `pending` are steps of a writing, and `counting` how many are steps that count
+-- `steps` is the number of requests in `pending` that are steps of a writing, and `counting` the number of those that
+-- count (`counts`)
 pub record AreCounted (pending : List Pending) (steps counting : ℕ) : Type 0 where
   pub steps_are : steps ≡ how_many is_step pending
   pub counting_are : counting ≡ how_many counts pending

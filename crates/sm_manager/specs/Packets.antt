@@ -38,7 +38,7 @@ pub record Called : Type 0 where
   pub manager : Manager
   pub fault : Option ManagerFault
 
--- the outcome of a call that is refused for `why` and changes nothing
+-- the outcome of a call on the manager `m` that is refused for `why`, and changes nothing
 abbrev pub refused : Manager → ManagerFault → Called
 refused m why = record { manager = m; fault = Some why }
 
@@ -48,8 +48,8 @@ done m = record { manager = m; fault = None }
 
 -- packets -------------------------------------------------------------------------------------
 
--- the manager once its sweep `s` took the reply `packet`. The facts in `answer` are merged, a manager in it is added to
--- those seen, and the requests that follow are queued. If the sweep is then done, the manager's state moves
+-- the manager after its sweep `s` took the reply `packet`. The facts in `answer` are merged, a manager in `answer` is
+-- added to those seen, and the requests that follow are queued. If the sweep is then done, the manager's state moves
 abbrev pub with_answer : Manager → Sweep → List ℕ → Answer → Manager
 with_answer m s packet answer =
     after_sweep (with_sweep (record m {
@@ -63,13 +63,13 @@ abbrev pub answered_by : Manager → Sweep → List ℕ → Result Answer SweepF
 answered_by m s packet (Ok answer) = done (with_answer m s packet answer)
 answered_by m s packet (Err why) = refused m (fault.Sweep why)
 
--- the outcome of a reply to a sweep; `Unasked` if no sweep was begun
+-- the outcome of the reply `packet` to the given sweep; `Unasked` if there is no sweep
 abbrev pub sweep_answered : Manager → List ℕ → Option Sweep → Called
 sweep_answered m packet None = refused m fault.Unasked
 sweep_answered m packet (Some s) = answered_by m s packet (judged s packet)
 
--- whether `packet` is a GetResp over a directed route with a TransactionID of 2^32 or more, as the requests of sweeps
--- have
+-- whether `packet` is a GetResp over a directed route, and its TransactionID is 2^32 or more, as for the requests of
+-- sweeps
 abbrev pub is_for_sweep : List ℕ → Bool
 is_for_sweep packet =
     number_in method packet == get_resp && (is_directed packet && nat_le (2 ^ 32) (number_in transaction_id packet))
@@ -82,8 +82,8 @@ answers packet p = number_in method packet == get_resp && smp.answers packet p.n
 abbrev pub pending_for : Manager → List ℕ → Option Pending
 pending_for m packet = find (answers packet) m.pending
 
--- the outcome of a call that leaves the manager `after`; if `after` has used a number over 32 bits, the call is refused
--- with `SequenceSpent` and leaves `m`
+-- the outcome of a call on the manager `m` that would leave the manager `after`. If `after` has used a number that
+-- does not fit in 32 bits, the call is refused with `SequenceSpent`, and leaves `m`
 abbrev pub unless_spent : Manager → Manager → Called
 unless_spent m after = if is_spent after then refused m fault.SequenceSpent else done after
 
@@ -92,19 +92,20 @@ abbrev pub after_poll_end : Bool → Standing → Standing
 after_poll_end true s = poll_answered s
 after_poll_end false s = poll_lost s
 
--- the number of the given status; None without a status
+-- the number of the given status; None if there is none
 abbrev pub status_number : Option Status → Option ℕ
 status_number status = option_map (λ s. s.0) status
 
 -- the outcome of the end of the request `p`; `answer` is the status of its answer, or None if it timed out. After a
--- step, the next phase is queued if no other step waits; `SequenceSpent` if this takes numbers over 32 bits
+-- step, the next phase is queued if no other step waits; the outcome is `SequenceSpent` if this takes numbers that do
+-- not fit in 32 bits
 abbrev pub after_request : Manager → Pending → Option ℕ → Purpose → Called
 after_request m p answer Poll = done (record (without m p) { standing = after_poll_end (is_some answer) m.standing })
 after_request m p answer Control =
     done (record (without m p) { standing = after_control_end (is_relieved m.standing p answer) m.standing })
 after_request m p answer (Step counts) = unless_spent m (after_step m p (is_done_by answer))
 
--- the outcome of an answer to the given request outside sweeps; `Unasked` if the packet answers no request
+-- the outcome of an answer to the given request outside sweeps; `Unasked` if there is no request
 abbrev pub request_answered : Manager → List ℕ → Option Pending → Called
 request_answered m packet None = refused m fault.Unasked
 request_answered m packet (Some p) = after_request m p (Some (status packet)) p.purpose
@@ -115,13 +116,14 @@ request_answered m packet (Some p) = after_request m p (Some (status packet)) p.
 abbrev pub HasSender : List ℕ → Option ℕ → Type 0
 HasSender packet from = fault_of packet ≡ None → is_lid_routed packet ≡ true → IsSome from
 
--- whether `packet` has the attribute SMInfo and is no response
+-- whether `packet` has the attribute SMInfo and is not a response
 abbrev pub is_info_request : List ℕ → Bool
 is_info_request packet = not (is_response packet) && number_in attribute_id packet == sm_info
 
--- the outcome of bytes that reach the manager's port, given their fault as a packet; bytes with a fault are refused. A
--- request for SMInfo is served, a Trap repressed, and a reply to a sweep left to the sweep. Any other packet is refused
--- as `Unasked` if it answers no waiting request
+-- the outcome of the bytes `packet`, which reach the manager's port. The given fault is the one that they have as a
+-- packet; bytes with a fault are refused. A request for SMInfo is served, a trap is repressed if `represses` holds,
+-- and a reply to a sweep is left to the sweep. Any other packet is refused as `Unasked` if it answers no waiting
+-- request
 abbrev pub packet_taken : Manager → List ℕ → Option ℕ → Option SmpFault → Called
 packet_taken m packet from (Some why) = refused m (fault.Sweep (Bad (Smp why)))
 packet_taken m packet from None =
@@ -140,14 +142,15 @@ noted_trap m packet = if not (is_info_request packet) && represses m packet then
 
 -- timeouts --------------------------------------------------------------------------------------
 
--- the outcome of the timeout of a request of the sweep `s`; `Unasked` if the request does not wait
+-- the outcome of the timeout of a request of the sweep `s`, given the fault that the sweep finds; `Unasked` if there
+-- is one
 abbrev pub sweep_timed_out : Manager → Sweep → ℕ → Option SweepFault → Called
 sweep_timed_out m s transaction (Some why) = refused m fault.Unasked
 sweep_timed_out m s transaction None =
     done (after_sweep (record m { sweep = Some (sweep_after_timeout s transaction) }))
 
--- the outcome of the timeout of a request of the last sweep; `Unasked` if no sweep was begun, or the request does not
--- wait
+-- the outcome of the timeout of a request of the last sweep; `Unasked` if there is no sweep, or if no such request
+-- waits
 abbrev pub sweep_gave_up : Manager → ℕ → Option Sweep → Called
 sweep_gave_up m transaction None = refused m fault.Unasked
 sweep_gave_up m transaction (Some s) = sweep_timed_out m s transaction (timeout_fault s transaction)
@@ -157,14 +160,15 @@ abbrev pub request_gave_up : Manager → Option Pending → Called
 request_gave_up m None = refused m fault.Unasked
 request_gave_up m (Some p) = after_request m p None p.purpose
 
--- the outcome of the timeout of a request by its TransactionID, which is 2^32 or more for a request of a sweep
+-- the outcome of the timeout of the request with the TransactionID `transaction`, which is 2^32 or more for a request
+-- of a sweep
 abbrev pub after_timeout : Manager → ℕ → Called
 after_timeout m transaction =
     if nat_le (2 ^ 32) transaction then sweep_gave_up m transaction m.sweep
     else request_gave_up m (with_number transaction m.pending)
 
--- `given` is the fault of a reply to the sweep if there is no memory for what it may cause: `Memory` if the sweep
--- accepts the reply, else the sweep's refusal
+-- `given` is the fault for a reply to the sweep when there is no memory for the requests that may follow: `Memory` if
+-- the sweep accepts the reply, else the sweep's refusal
 abbrev pub IsFaultWithoutRoom : Result Answer SweepFault → ManagerFault → Type 0
 IsFaultWithoutRoom (Ok answer) given = given ≡ fault.Memory
 IsFaultWithoutRoom (Err why) given = given ≡ fault.Sweep why

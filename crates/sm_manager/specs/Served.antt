@@ -22,8 +22,8 @@ use Rattle.sm_state.specs.Standing.{after_request_heard, info_of, moved_to}
 abbrev pub answer_data : Standing → List ℕ → ℕ → List ℕ
 answer_data s packet status = if status == done then sm_info_bytes (info_of s) else bytes_in attribute_data packet
 
--- an answer to be sent: back over the request's path if the request `packet` is directed, else to the sender's LID
--- `from`
+-- the answer to the request `packet`, to be sent back over the path of the request if this is directed, else to
+-- `from`, the LID of its sender
 abbrev pub answer_out : Standing → List ℕ → Option ℕ → ℕ → Outgoing
 answer_out s packet from status =
     record {
@@ -36,13 +36,14 @@ answer_out s packet from status =
 abbrev pub answering : Manager → List ℕ → Option ℕ → ℕ → Manager
 answering m packet from status = record m { outgoing = m.outgoing ++ answer_out m.standing packet from status ∷ [] }
 
--- the manager once a request for SMInfo is counted as activity, before it is answered; only the live conduct counts it
+-- the manager after it counted a request for SMInfo as activity, before it answers the request; unchanged unless its
+-- conduct is live
 abbrev pub request_counted : Manager → Manager
 request_counted m = record m { standing = after_request_heard m.standing }
 
 -- controls ----------------------------------------------------------------------------------------
 
--- whether `packet`, a request for SMInfo, may be a control: it is a Set by LIDs or, by the live conduct, any Set
+-- whether `packet`, a request for SMInfo, may be a control: it is a Set, and it came by LIDs or the conduct is live
 abbrev pub is_control : Standing → List ℕ → Bool
 is_control s packet = number_in method packet == set && (is_live s.conduct || not (is_directed packet))
 
@@ -51,14 +52,14 @@ is_control s packet = number_in method packet == set && (is_live s.conduct || no
 abbrev pub acknowledged_at : List ℕ → Option ℕ → Option ℕ
 acknowledged_at packet from = if is_directed packet then None else from
 
--- the manager once its state has moved by `move` and the answer is queued. The message of `move` is queued after the
--- answer, if `move` has one and the packet came by LIDs
+-- the manager after its state has moved by `move` and the answer was queued. The message of `move` is queued after
+-- the answer, if `move` has one and the packet came by LIDs
 abbrev pub moved_on : Manager → List ℕ → Option ℕ → Transition → Manager
 moved_on m packet from move =
     after_message (answering (record m { standing = moved_to move.state m.standing }) packet from (status_of move))
     (acknowledged_at packet from) move.message
 
--- the manager once its state has moved by the control in `packet`, and the control is answered
+-- the manager after the control in `packet` has moved its state and was answered
 abbrev pub controlled : Manager → List ℕ → Option ℕ → Manager
 controlled m packet from =
     moved_on (request_counted m) packet from
@@ -66,19 +67,19 @@ controlled m packet from =
 
 -- any request for SMInfo --------------------------------------------------------------------------
 
--- the status of the answer to a request for SMInfo that is no control: 0 for a Get, an invalid field for a Set, else a
--- method that is not supported
+-- the status of the answer to a request for SMInfo that is not a control: 0 for a Get, the one for an invalid field
+-- for a Set, and else the one for a method that is not supported
 abbrev pub status_for : List ℕ → ℕ
 status_for packet =
     if number_in method packet == get then done
     else if number_in method packet == set then invalid_field
     else method_not_supported
 
--- the manager once a request for SMInfo that is no control is answered
+-- the manager once a request for SMInfo that is not a control is answered
 abbrev pub replying : Manager → List ℕ → Option ℕ → Manager
 replying m packet from = answering (request_counted m) packet from (status_for packet)
 
--- the manager once a request for SMInfo is answered and, if it is a control, obeyed or refused
+-- the manager after it answered a request for SMInfo and, if the request is a control, obeyed or refused it
 abbrev pub served : Manager → List ℕ → Option ℕ → Manager
 served m packet from =
     if is_control m.standing packet then controlled m packet from else replying m packet from

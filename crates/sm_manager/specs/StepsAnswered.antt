@@ -1,4 +1,5 @@
--- Which steps of a writing were answered with status 0, call by call; a plan is written if all that count were.
+-- Which steps of a writing were answered with status 0, call by call. A plan is written when all steps that count
+-- were.
 use Rattle.std.specs.Prelude.{◌≡◌, ◌≢◌, ◌↔◌, ℕ, ◌+◌, Bool, true, false, ◌&&◌, List, [], ◌∷◌, length, ◌==◌, if◌then◌else◌, Option, Some, None, is_none}
 use Rattle.smp_bytes.specs.Header.{done}
 use Rattle.smp_bytes.specs.Packet.{fault_of, status}
@@ -15,14 +16,15 @@ use Rattle.sm_manager.specs.ManagerRequests.{counts}
 use Rattle.sm_manager.specs.Traps.{represses}
 use Rattle.sm_manager.specs.Writing.{is_written, phases_by, after_write_steps}
 
--- whether `packet`, as the answer to the given request, completes a step that counts: the request is a step that
--- counts, the status is 0, and the manager accepts the packet; false if there is no request
+-- whether `packet`, as the answer to the given request, completes a step that counts: the request is such a step
+-- (`counts`), the status of the packet is 0, and the manager accepts it; false if there is no request
 abbrev pub does_request : Manager → List ℕ → Option Pending → Bool
 does_request m packet None = false
 does_request m packet (Some p) =
     counts p && (status packet == done && is_none (request_answered m packet (Some p)).fault)
 
--- whether the bytes `packet` complete a step that counts, given their fault as a packet; false if they have a fault
+-- whether the bytes `packet` complete a step that counts (`counts`). The given fault is the one that they have as a
+-- packet; false if there is one
 abbrev pub does_by_packet : Manager → List ℕ → Option SmpFault → Bool
 does_by_packet m packet (Some why) = false
 does_by_packet m packet None =
@@ -43,7 +45,7 @@ does_step m (Merge floor sightings) = false
 does_step m (Poll lid) = false
 does_step m Handover = false
 
--- 1 if the flag is set, else 0
+-- 1 if the given flag is true, else 0
 abbrev pub one_if : Bool → ℕ
 one_if true = 1
 one_if false = 0
@@ -68,8 +70,8 @@ abbrev pub counting_in : List Phase → ℕ
 counting_in [] = 0
 counting_in (p ∷ phases) = (if p.counts then length p.steps else 0) + counting_in phases
 
--- the plan of a writing is written exactly if as many steps that count were completed as the writing has. The writing
--- begins after any calls on a new manager. No other writing begins after it
+-- let a writing begin after any calls on a new manager, and let no other writing begin after it. Its plan is written
+-- exactly when the later calls completed as many steps that count as the writing has
 abbrev pub WrittenIsEachStepDone : Type 0
 WrittenIsEachStepDone =
     (port_guid port priority : ℕ) (conduct : Conduct) (planning : Planning) (before after : List Call)

@@ -1,4 +1,4 @@
--- Traps, and how a manager by the live conduct represses them: once the manager's answer has arrived, the agent does
+-- Traps, and how a manager of the live conduct represses them: once the manager's answer has arrived, the agent does
 -- not repeat the trap. InfiniBand Architecture Specification, Volume 1: subnet management, traps; management methods
 -- (TrapRepress).
 use Rattle.std.specs.Prelude.{ℕ, Bool, ◌&&◌, not, List, [], ◌∷◌, ◌++◌, ◌==◌, Option}
@@ -22,8 +22,8 @@ trap_repress = 0x07
 abbrev pub represses : Manager → List ℕ → Bool
 represses m packet = is_live m.standing.conduct && (number_in method packet == trap && not (is_directed packet))
 
--- the TrapRepress for the trap `packet`, with its attribute, modifier, TransactionID and data, to be sent to the LID
--- `from` of its sender
+-- the TrapRepress for the trap `packet`, to be sent to `from`, the LID of the sender. It has the attribute, modifier,
+-- TransactionID and data of the trap
 abbrev pub repress_out : List ℕ → Option ℕ → Outgoing
 repress_out packet from =
     record {
@@ -32,7 +32,7 @@ repress_out packet from =
       to = from;
     }
 
--- the LID of a notice's issuer, as a field of a trap's packet
+-- the field of a trap's packet that has the LID of the notice's issuer
 abbrev pub issuer_lid : Field
 issuer_lid = record { at = 70; len = 2 }
 

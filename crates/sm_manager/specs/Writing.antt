@@ -1,4 +1,4 @@
--- Writing a plan: its steps are sent phase by phase, each phase once no step of the one before waits. InfiniBand
+-- Writing a plan: its steps are sent phase by phase, each phase once no step of the previous phase waits. InfiniBand
 -- Architecture Specification, Volume 1: subnet initialization; linear forwarding tables; port states.
 use Rattle.std.specs.Prelude.{ℕ, suc, ◌+◌, ◌^◌, Bool, false, ◌&&◌, ◌||◌, not, List, [], ◌∷◌, ◌++◌, length, drop, nat_lt, ◌==◌, if◌then◌else◌, Option, Some, None}
 use Rattle.std.specs.List.{list_any}
@@ -38,12 +38,12 @@ abbrev pub numbered : Bool → ℕ → List Step → List Pending
 numbered counts number [] = []
 numbered counts number (s ∷ steps) = pending_step number counts s ∷ numbered counts (suc number) steps
 
--- the packets of steps to be sent, over their paths, with numbers that rise from `number`
+-- the packets of `steps`, to be sent over the paths of the steps, with numbers that rise from `number`
 abbrev pub steps_out : ℕ → List Step → List Outgoing
 steps_out number [] = []
 steps_out number (s ∷ steps) = record { packet = set_packet number s; to = None } ∷ steps_out (suc number) steps
 
--- the phases from the first one that has steps on
+-- the phases without the empty ones at the front
 abbrev pub without_empty_phases : List Phase → List Phase
 without_empty_phases [] = []
 without_empty_phases (p ∷ phases) = if length p.steps == 0 then without_empty_phases phases else p ∷ phases
@@ -57,7 +57,7 @@ next_phase (p ∷ phases) = p
 abbrev pub next_pending : ℕ → List Phase → List Pending
 next_pending number phases = numbered (next_phase phases).counts number (next_phase phases).steps
 
--- the manager once the steps of the next phase of `w` are all queued, and wait
+-- the manager after all steps of the next phase of its writing `w` were queued, which now wait for their answers
 abbrev pub phase_sent : Manager → Writing → Manager
 phase_sent m w =
     record m {
@@ -67,23 +67,24 @@ phase_sent m w =
       outgoing = m.outgoing ++ steps_out m.counter (next_phase w.later).steps;
     }
 
--- the manager once the next phase of the given writing is queued; unchanged if there is no writing, or a step waits
+-- the manager after the next phase of the given writing was queued; unchanged if the writing is None, or if a step
+-- waits
 abbrev pub went_on_with : Manager → Option Writing → Manager
 went_on_with m None = m
 went_on_with m (Some w) = if no_step_waits m.pending then phase_sent m w else m
 
--- the manager once the next phase of its writing is queued; unchanged if there is no writing, or a step waits
+-- the manager after the next phase of its writing was queued; unchanged if it has no writing, or if a step waits
 abbrev pub went_on : Manager → Manager
 went_on m = went_on_with m m.writing
 
--- whether the manager has used a number that does not fit 32 bits
+-- whether `counter` is above 2^32, so that a number that does not fit in 32 bits was used
 abbrev pub is_spent : Manager → Bool
 is_spent m = nat_lt (2 ^ 32) m.counter
 
 -- beginning a writing -----------------------------------------------------------------------------
 
--- why the manager does not write, given its last sweep: it is not master, the sweep runs, or a step of a writing waits;
--- `NotMaster` without a sweep; None if it may write
+-- why the manager does not write, given its last sweep: it is not master, the sweep runs, or a step of a writing
+-- waits; `NotMaster` if there is no sweep; None if the manager may write
 abbrev pub write_fault_with : Manager → Option Sweep → Option ManagerFault
 write_fault_with m None = Some NotMaster
 write_fault_with m (Some s) =
@@ -92,35 +93,35 @@ write_fault_with m (Some s) =
     else if not (no_step_waits m.pending) then Some WritingRunning
     else None
 
--- why the manager does not write: it is not master, its sweep runs, or a step of a writing waits; `NotMaster` without a
--- sweep; None if it may write
+-- why the manager does not write: it is not master, its sweep runs, or a step of a writing waits; `NotMaster` if it
+-- has begun no sweep; None if it may write
 abbrev pub write_fault : Manager → Option ManagerFault
 write_fault m = write_fault_with m m.sweep
 
--- the phases of the plan of the manager's facts, over the paths of its last sweep; none without a sweep
+-- the phases of the plan of the manager's facts, over the paths of the given sweep; none if there is no sweep
 abbrev pub phases_by : Manager → Option Sweep → List Phase
 phases_by m None = []
 phases_by m (Some s) =
     phases_of (plan_of m.planning.rule m.planning.lmc (cells_of m.store)) (cells_of m.store) s m.standing.guid m.port
 
--- the manager once a writing of these phases has begun, and the first phase with steps, if there is one, is queued
+-- the manager after a writing of these phases has begun; the first phase with steps, if there is one, is queued
 abbrev pub begun_with : Manager → List Phase → Manager
 begun_with m phases = phase_sent m (record { later = without_empty_phases phases; has_failed = false })
 
--- the manager once a writing of its plan has begun, and the first phase with steps, if there is one, is queued
+-- the manager after a writing of its plan has begun; the first phase with steps, if there is one, is queued
 abbrev pub after_write_steps : Manager → Manager
 after_write_steps m = begun_with m (phases_by m m.sweep)
 
 -- a plan is written ----------------------------------------------------------------------------------
 
--- whether a writing was begun, and none of its steps that count failed, waits or is still to be sent
+-- whether there is a writing, and none of its steps that count (`counts`) has failed, waits or is still to be sent
 abbrev pub is_written_by : List Pending → Option Writing → Bool
 is_written_by pending None = false
 is_written_by pending (Some w) =
     not w.has_failed && (not (list_any (λ p. p.counts) w.later) && none_counts pending)
 
--- whether the plan of the last writing is written: a writing was begun, and each of its steps that count was answered
--- with status 0
+-- whether the plan of the last writing is written: a writing has begun, and each of its steps that count (`counts`)
+-- was answered with status 0
 abbrev pub is_written : Manager → Bool
 is_written m = is_written_by m.pending m.writing
 
@@ -131,7 +132,7 @@ abbrev pub noted : Bool → Bool → Option Writing → Option Writing
 noted counts was_done None = None
 noted counts was_done (Some w) = Some (record w { has_failed = w.has_failed || (counts && not was_done) })
 
--- the manager once the request `p` no longer waits
+-- the manager after the request `p` was removed from those that wait
 abbrev pub without : Manager → Pending → Manager
 without m p = record m { pending = without_number p.number m.pending }
 
@@ -140,13 +141,14 @@ abbrev pub is_done_by : Option ℕ → Bool
 is_done_by None = false
 is_done_by (Some status) = status == done
 
--- the manager once the step `p` no longer waits; if no other step waits, the next phase is queued
+-- the manager after the step `p` has ended, done or not as `was_done` says. If no other step waits, the next phase is
+-- queued
 abbrev pub after_step : Manager → Pending → Bool → Manager
 after_step m p was_done =
     went_on (record m { pending = without_number p.number m.pending; writing = noted (counts p) was_done m.writing })
 
--- how many steps are sent when a waiting step ends: those of the next phase if no other step waits; 0 if one does, or
--- there is no writing
+-- how many steps are sent when a waiting step ends: the steps of the next phase if no other step waits; 0 if another
+-- step waits, or if there is no writing
 abbrev pub count_with : List Pending → Option Writing → ℕ
 count_with pending None = 0
 count_with pending (Some w) = if nat_lt 1 (how_many is_step pending) then 0 else length (next_phase w.later).steps

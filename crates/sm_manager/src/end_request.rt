@@ -32,8 +32,8 @@ impl Manager {
         }
     }
 
-    /// Ends the request at `index`, which must wait. `answer` is the status of its answer, or `None` if it timed out.
-    /// Returns `SequenceSpent` or `Memory` if the next phase of a writing is due and cannot be sent.
+    /// Ends the waiting request at `index`. There must be one. `answer` is the status of its answer, or `None` if it
+    /// timed out. Returns `SequenceSpent` or `Memory` if the next phase of a writing is due and cannot be sent.
     pub(crate) fn end_request(
         &mut self,
         index: usize,
@@ -65,7 +65,7 @@ impl Manager {
     }
 }
 
-/// Returns whether a step with the answer `answer` is done: whether `answer` is status 0. `None` stands for a timeout.
+/// Returns whether a step that ends with `answer` is done: whether `answer` is status 0. `None` stands for a timeout.
 fn is_done_by(answer: Option<Status>) -> bool
     ensures { result ≡ is_done_by (status_number answer) }
 {
@@ -86,15 +86,15 @@ fn end_poll(standing: &mut Standing, was_answered: bool)
     }
 }
 
-/// Returns whether the end of the control `ended` relieves the manager: the conduct is live, the control is a HANDOVER,
-/// and `answer` is status 0. `None` stands for a timeout.
+/// Returns whether the manager moves as ACKNOWLEDGE would move it when the control `ended` ends: its conduct is live,
+/// the control is a HANDOVER, and `answer` is status 0. `None` stands for a timeout.
 fn is_relieved(standing: &Standing, ended: &Pending, answer: Option<Status>) -> bool
     ensures { result ≡ is_relieved standing.now ended.now (status_number answer) }
 {
     standing.conduct.is_live() && is_handover(ended) && is_done_by(answer)
 }
 
-/// Returns whether `ended` has the modifier of a HANDOVER. The purpose of `ended` is not looked at.
+/// Returns whether `ended` has the modifier of a HANDOVER. Ignores the purpose of `ended`.
 fn is_handover(ended: &Pending) -> bool
     ensures { result ≡ is_handover ended.now }
 {

@@ -11,7 +11,7 @@ pub enum ManagerFault {
     /// The newest generation in the store is the greatest possible one.
     #[error("GenerationsSpent")]
     GenerationsSpent,
-    /// A sweep was begun and is not done.
+    /// A sweep has begun and is not done.
     #[error("SweepRunning")]
     SweepRunning,
     /// The manager is not in the state Master, or has begun no sweep.
@@ -27,19 +27,19 @@ pub enum ManagerFault {
     /// has no LID for the port where the successor was seen.
     #[error("Nobody")]
     Nobody,
-    /// A request needs, or could need, a number of more than 32 bits.
+    /// A request needs, or could need, a number that does not fit in 32 bits.
     #[error("SequenceSpent")]
     SequenceSpent,
-    /// There is no room for the LIDs of the plan.
+    /// Some end port finds no LID in the plan.
     #[error("NoRoom")]
     NoRoom(NoRoom),
     /// The bytes are not a packet, or the sweep refuses the reply for a reason other than lack of memory.
     #[error("{0}")]
     Sweep(SweepFault),
-    /// The packet answers no request that waits, or the request that timed out does not wait.
+    /// The packet answers no waiting request, or no waiting request has the TransactionID that timed out.
     #[error("Unasked")]
     Unasked,
-    /// The memory that the call needs was refused.
+    /// Memory ran out.
     #[error("Memory")]
     Memory,
 }

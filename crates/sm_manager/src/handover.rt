@@ -42,15 +42,16 @@ pub(crate) fn end_sweep(standing: &mut Standing, seen: &[SeenManager])
 }
 
 impl Manager {
-    /// Queues a poll to the manager at `lid` or, if `lid` is `None`, to a manager that the last sweep saw. That is the
-    /// first master that this manager hears. If this manager hears no master, it is the greatest manager that outranks
-    /// this one; ties go to the first. A poll without `lid` goes over the path by which the sweep asked that manager
-    /// for SMInfo. The poll counts as answered or lost once its answer or its timeout comes.
+    /// Queues a poll to the manager at `lid` or, if `lid` is `None`, to a manager that the last sweep saw. In the
+    /// second case, the poll goes to the first master that this manager hears or, if there is no such master, to the
+    /// greatest manager that outranks this one. Ties go to the first. A poll without `lid` goes over the path by
+    /// which the sweep reached the port of the polled manager. The poll counts as answered or lost once its answer or
+    /// its timeout comes.
     ///
     /// # Errors
     ///
-    /// Returns the first of these that applies: `NotStandby`; `Nobody` if `lid` is `None` and the sweep saw no manager
-    /// to poll, or has no path to that manager; `SequenceSpent`; `Memory`.
+    /// Returns the first of these that applies: `NotStandby`; `Nobody` if `lid` is `None` and the sweep saw no
+    /// manager to poll, or has no usable path to it; `SequenceSpent`; `Memory`.
     pub fn poll(&mut self, lid: Option<Lid>) -> Result<(), ManagerFault>
         ensures judged { JudgesButFor is_memory result (poll_fault self.old lid) }
         ensures ok { OnOk result (self.new ≡ after_poll self.old lid) }
@@ -65,8 +66,8 @@ impl Manager {
         Ok(())
     }
 
-    /// Returns the path of a poll, or `None` if the poll is sent to `lid`. Returns `Nobody` if `lid` is `None` and
-    /// there is no path to a manager to poll.
+    /// Returns the path over which a poll is sent, or `None` if `lid` is not `None`, so that the poll is sent to this
+    /// LID. Returns `Nobody` if `lid` is `None` and there is no path to a manager to poll.
     fn poll_path(&self, lid: &Option<Lid>) -> Result<Option<Path<63>>, ManagerFault>
         ensures judged { Judges result (unless_way lid.now (polled_path self.now)) }
         ensures path { IfOk result (λ path. path ≡ poll_path self.now lid.now) }
@@ -80,8 +81,8 @@ impl Manager {
         }
     }
 
-    /// Returns the path of a poll without a LID. Returns `None` if the last sweep saw no manager to poll, or has no
-    /// path to that manager that leaves by this manager's port and has at most 63 hops.
+    /// Returns the path over which a poll without a LID is sent. Returns `None` if the last sweep saw no manager to
+    /// poll, or has no path to that manager that leaves by this manager's port and has at most 63 hops.
     fn polled_path(&self) -> Option<&Path<63>>
         ensures { option_copied result ≡ polled_path self.now }
     {
@@ -105,15 +106,17 @@ impl Manager {
         }
     }
 
-    /// Asks the successor to take over. The successor is the greatest manager that this one hears, that the last sweep
-    /// saw in Standby or Master, and that wins over this one. Of equals it is the first. Queues a HANDOVER to the LID
-    /// that the plan gives to the port where the successor was seen. This manager stays Master until the successor
-    /// acknowledges or, by the live conduct, answers with status 0. Plans the LIDs anew.
+    /// Asks the successor to take over. The successor is the greatest manager that this one hears, that the last
+    /// sweep saw in Standby or Master, and that wins over this one. If several are equal, it is the first of them.
+    /// Queues a HANDOVER to the LID that the plan gives to the port where the successor was seen. This manager stays
+    /// Master until the successor acknowledges or, under the live conduct, answers with status 0. Computes the plan's
+    /// LIDs anew.
     ///
     /// # Errors
     ///
     /// Returns the first of these that applies: `NotMaster`; `Nobody` if there is no successor; `NoRoom`; `Nobody` if
-    /// the successor's port is not known to be an end port and thus has no LID in the plan; `SequenceSpent`; `Memory`.
+    /// the successor's port is not known to be an end port and thus has no LID in the plan; `SequenceSpent`;
+    /// `Memory`.
     pub fn handover(&mut self) -> Result<(), ManagerFault>
         ensures judged { JudgesButFor is_memory result (handover_fault self.old) }
         ensures ok { OnOk result (self.new ≡ after_handover self.old) }
@@ -141,8 +144,8 @@ impl Manager {
     }
 
     /// Returns the LID that the plan gives to the successor's port. Returns the first of these that applies: `Nobody`
-    /// if there is no successor; `NoRoom`; `Nobody` if the successor's port is not a known end port; `SequenceSpent` if
-    /// no number is left for the request; `Memory`.
+    /// if there is no successor; `NoRoom`; `Nobody` if the successor's port is not known to be an end port;
+    /// `SequenceSpent` if no number is left for the request; `Memory`.
     fn successor_lid(&self) -> Result<Lid, ManagerFault>
         ensures judged { JudgesButFor is_memory result (successor_fault self.now) }
         ensures lid { IfOk result (λ lid. successor_lid self.now ≡ Some lid) }
@@ -157,8 +160,8 @@ impl Manager {
         where_numbered(self.planned_lid(port), self.requests.has_numbers(1))
     }
 
-    /// Returns why nothing can be sent to a port that is not a known end port: `NoRoom` if the LIDs of the plan have no
-    /// room, and otherwise `Nobody`. Does not allocate.
+    /// Returns why nothing can be sent to a port that is not known to be an end port: `NoRoom` if some end port finds
+    /// no LID, and otherwise `Nobody`. Does not allocate.
     fn lidless_fault(&self) -> ManagerFault
         ensures { Some result
             ≡ or_else (plan_fault self.now.planning.lmc (cells_of self.now.store)) (Some ManagerFault.Nobody) }
@@ -169,8 +172,8 @@ impl Manager {
         }
     }
 
-    /// Returns the LID that the plan gives to `port`, which must be an end port of the facts. Returns `NoRoom` if the
-    /// LIDs have no room, and otherwise `Memory` if memory runs out.
+    /// Returns the LID that the plan gives to `port`, which must be an end port of the facts. Returns `NoRoom` if
+    /// some end port finds no LID, and otherwise `Memory` if memory runs out.
     fn planned_lid(&self, port: EndPort) -> Result<Lid, ManagerFault>
         requires { is_end_port (cells_of self.now.store) port.node port.port ≡ true }
         ensures judged { JudgesButFor is_memory result (plan_fault self.now.planning.lmc (cells_of self.now.store)) }
@@ -181,7 +184,8 @@ impl Manager {
         Ok(lids.lid_of(port).unwrap())
     }
 
-    /// Returns the LIDs of the plan. Returns `NoRoom` if they have no room, and otherwise `Memory` if memory runs out.
+    /// Returns the LIDs of this manager's plan. Returns `NoRoom` if some end port finds no LID, and otherwise
+    /// `Memory` if memory runs out.
     fn plan_lids(&self) -> Result<LidMap, ManagerFault>
         ensures judged { JudgesButFor is_memory result (plan_fault self.now.planning.lmc (cells_of self.now.store)) }
         ensures lids { IfOk result (λ map. map ≡ lids self.now.planning.lmc (cells_of self.now.store)) }
@@ -194,7 +198,8 @@ impl Manager {
     }
 }
 
-/// Returns the port where the manager `seen` was seen, or `None` if the facts do not say that this port is an end port.
+/// Returns the port where the manager `seen` was seen, or `None` if the facts of `store` do not say that this port is
+/// an end port.
 fn port_seen(store: &Store, seen: &SeenManager) -> Option<EndPort>
     ensures { result ≡ port_seen (cells_of store.now) seen.now }
 {
@@ -217,8 +222,8 @@ fn is_way_out(port: PortNum, path: &Path<63>) -> bool
     }
 }
 
-/// Queues a poll over `path` or, if `path` is `None`, by LIDs. The packet is addressed to `lid`. There must be room and
-/// a number for the poll. Does not allocate.
+/// Queues a poll over `path` or, if `path` is `None`, by LIDs. The packet is addressed to `lid`. `requests` must have
+/// memory and a number for the poll, and `outgoing` memory for its packet. Does not allocate.
 fn send_poll(
     lid: Option<Lid>,
     path: Option<Path<63>>,
@@ -238,8 +243,8 @@ fn send_poll(
     outgoing.push_back_reserved(Outgoing { packet, to: lid });
 }
 
-/// Queues `message` as a control to the LID `to`. Does nothing if `to` or `message` is `None`. Otherwise there must be
-/// room and a number for the control. Does not allocate.
+/// Queues `message` as a control to the LID `to`. Does nothing if `to` or `message` is `None`. Otherwise `requests`
+/// must have memory and a number for the control, and `outgoing` memory for its packet. Does not allocate.
 pub(crate) fn send_message(
     to: &Option<Lid>,
     message: &Option<Message>,
@@ -265,7 +270,8 @@ pub(crate) fn send_message(
     }
 }
 
-/// Queues `control` to the LID `to`. There must be room and a number for the control. Does not allocate.
+/// Queues `control` to the LID `to`, with the SMInfo of `standing`. `requests` must have memory and a number for the
+/// control, and `outgoing` memory for its packet. Does not allocate.
 fn send_control(
     to: Lid,
     control: Control,

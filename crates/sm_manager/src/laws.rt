@@ -4,9 +4,9 @@ ghost use Rattle.sm_manager.specs.StepsAnswered.{WrittenIsEachStepDone};
 ghost use Rattle.sm_manager.specs.CallLists.{KnowsWhatItTookIn, SameTakenInSamePlan};
 ghost use Rattle.sm_manager.specs.PollLaws.{AnswersReachPolls};
 
-/// After any calls in any order, a manager's facts are the view of all sightings that it took in, at the greatest
-/// floor. The sightings are those of the reports that it accepted and of the stores that it merged. The floors are 1,
-/// those that were raised and those of the merged stores.
+/// After any calls in any order, a manager's facts are the view, at its greatest floor, of all the sightings that it
+/// took in. These are the sightings of the reports that it accepted and of the stores that it merged. Its floors are
+/// 1, those that `raise_floor` was given, and those of the merged stores.
 #[tactic(auto, using(crate::proofs::Lives::knows_what_it_took_in))]
 pub fn knows_what_it_took_in()
     ensures { KnowsWhatItTookIn }
@@ -21,16 +21,16 @@ pub fn same_taken_in_same_plan()
     ensures { SameTakenInSamePlan }
 {}
 
-/// If a writing begins after any calls and no other writing follows, the plan is written exactly if as many steps of
-/// its first three phases were answered with status 0 as these phases have. An answer to a step ends the step, so no
-/// step is counted twice.
+/// If a writing begins after any calls and no other writing follows, the plan is written exactly when as many steps
+/// of its first three phases were answered with status 0 as these phases have. An answer to a step ends the step, so
+/// no step is counted twice.
 pub fn written_is_each_step_done()
     ensures { WrittenIsEachStepDone }
 {}
 
-/// Once the sender of a HANDOVER knows how the HANDOVER was answered, one of the two managers is master, if nothing
-/// else moves either of them meanwhile. The sender stays master unless the answer has status 0, and a manager that
-/// answers with status 0 took over.
+/// If nothing else moves the sender or the receiver of a HANDOVER meanwhile, one of the two is master once the sender
+/// knows how the HANDOVER was answered. The sender stays master unless the answer has status 0, and a receiver that
+/// answers with status 0 has taken over.
 pub fn handovers_leave_a_master()
     ensures { HandoversLeaveAMaster }
 {}

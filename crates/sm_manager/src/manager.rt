@@ -25,8 +25,8 @@ use std::collections::VecDeque;
 use std::marker::Model;
 use sweep::Sweep;
 
-/// A subnet manager at an adapter's port: its standing, how it plans, the facts that it holds, its last sweep, its last
-/// writing, the requests that wait outside sweeps, and the packets that it has queued.
+/// A subnet manager at an adapter's port: its standing among other managers, how it plans, its facts, its last sweep,
+/// its last writing, the requests that wait outside sweeps, and the packets that it has queued.
 #[derive(Drop)]
 pub struct Manager {
     pub(crate) alloc: Global,
@@ -68,8 +68,8 @@ impl Model for Manager {
 }
 
 impl Manager {
-    /// Creates a manager without facts at the port `port`, whose GUID is `port_guid`. Its state is Discovering. Does
-    /// not allocate.
+    /// Creates a manager without facts at the port with the number `port` and the GUID `port_guid`. Its state is
+    /// Discovering. Does not allocate.
     pub fn new(
         alloc: Global,
         port_guid: Guid,
@@ -94,10 +94,10 @@ impl Manager {
         }
     }
 
-    /// Begins a sweep, and queues its first request. The sweep's generation is the one after the newest in the store,
-    /// or the floor if that is greater. Forgets the managers that the previous sweep saw. By the live conduct, the
-    /// sweep keeps the first PortInfo of each port and the first SwitchInfo of each switch, which a later writing
-    /// carries. Takes time linear in the number of facts.
+    /// Begins a sweep, and queues its first request. The sweep's generation is the one after the newest generation of
+    /// a fact in the store, or the store's floor if that is greater. Forgets the managers that the previous sweep
+    /// saw. Under the live conduct, the sweep keeps the first PortInfo of each port and the first SwitchInfo of each
+    /// switch, and a later writing carries these. Takes time linear in the number of facts.
     ///
     /// # Errors
     ///
@@ -131,9 +131,10 @@ impl Manager {
         self.outgoing.pop_front()
     }
 
-    /// Forgets the facts of generations below `floor`, and ignores them if they come again. Does nothing if `floor` is
-    /// at most the store's floor. A running sweep goes on: its replies are accepted, but their facts are ignored if its
-    /// generation is below `floor`. The generation of the next sweep is at least `floor`. Does not allocate.
+    /// Forgets the facts of generations below `floor`, and from then on ignores facts of such generations. Does
+    /// nothing if `floor` is at most the store's floor. A running sweep goes on: its replies are accepted, but their
+    /// facts are ignored if its generation is below `floor`. The generation of the next sweep is at least `floor`.
+    /// Does not allocate.
     pub fn raise_floor(&mut self, floor: Generation)
         ensures { self.new ≡ after_raise_floor self.old floor }
     {
@@ -157,11 +158,12 @@ impl Manager {
     }
 
     /// Returns the plan of the manager's facts: the LID of each end port, and the forwarding blocks of each usable
-    /// switch. If the facts describe a part exactly and the part holds the plan, every packet arrives there.
+    /// switch. If the facts describe a part of the subnet exactly and the part holds the plan, every packet between
+    /// its end ports arrives.
     ///
     /// # Errors
     ///
-    /// Returns `NoRoom` if the LIDs have no room. Returns `Memory` only if the LIDs have room, and memory runs out.
+    /// Returns `NoRoom` if some end port finds no LID. Otherwise returns `Memory` if memory runs out.
     pub fn plan(&self) -> Result<Plan, ManagerFault>
         ensures judged { JudgesButFor is_memory result (plan_fault self.now.planning.lmc (cells_of self.now.store)) }
         ensures plan { IfOk result (λ plan.
@@ -176,8 +178,8 @@ impl Manager {
         }
     }
 
-    /// Returns the `i`-th of the TransactionIDs of the requests that wait, in ascending order and counted from 0.
-    /// Returns `None` if fewer requests wait.
+    /// Returns the TransactionID at index `i` among those of the waiting requests, in ascending order. Returns `None`
+    /// if no more than `i` requests wait.
     pub fn outstanding(&self, i: usize) -> Option<u64>
         ensures { result ≡ slice_get (outstanding self.now) i }
     {
@@ -193,7 +195,7 @@ impl Manager {
         }
     }
 
-    /// Returns the facts that the manager holds.
+    /// Returns the store of the manager's facts.
     pub fn store(&self) -> &Store
         ensures { result.now ≡ self.now.store }
     {
@@ -207,8 +209,8 @@ impl Manager {
         self.standing.state
     }
 
-    /// Returns how far the last sweep is: whether it was begun and is done, how many of its requests timed out, and by
-    /// how many ports it did not go on because of the length of the path.
+    /// Returns how far the last sweep has come: whether there is one and it is done, how many of its requests timed
+    /// out, and by how many ports it did not go on because the path would have become too long.
     pub fn progress(&self) -> Progress
         ensures { result ≡ progress_of self.now.sweep }
     {
@@ -233,7 +235,7 @@ impl Manager {
     }
 
     /// Returns how many of the last sweep's requests for SMInfo timed out. Each was sent to a port that reports a
-    /// manager. Returns `None` if no sweep was begun.
+    /// manager. Returns `None` if no sweep has begun.
     pub fn silent_managers(&self) -> Option<u64>
         ensures { result ≡ silent_in self.now.sweep }
     {
@@ -250,7 +252,7 @@ impl Manager {
         &self.seen
     }
 
-    /// Returns whether a sweep was begun and is not done.
+    /// Returns whether there is a sweep that is not done.
     pub(crate) fn is_running(&self) -> bool
         ensures { result ≡ is_running self.now.sweep }
     {

@@ -32,7 +32,7 @@ pub(crate) struct ManagerRequests {
     table: RequestTable<Pending>,
     /// The number of waiting requests that are steps of the last writing.
     steps: usize,
-    /// The number of waiting steps that have to be done for the plan to be written.
+    /// The number of waiting steps that must be done for the plan to count as written.
     counting: usize,
 }
 
@@ -80,7 +80,7 @@ impl ManagerRequests {
         self.steps == 0
     }
 
-    /// Returns whether `count` more requests can have numbers that fit 32 bits.
+    /// Returns whether `count` more requests can have numbers that fit in 32 bits.
     pub(crate) fn has_numbers(&self, count: usize) -> bool
         ensures enough { result ≡ nat_le (self.now.counter + count) (2 ^ 32) }
         ensures numbered { AreNumbered self.now.counter self.now.pending }
@@ -97,8 +97,9 @@ impl ManagerRequests {
         self.table.reserve(count)
     }
 
-    /// Adds a request for `step` under the next number, and returns its packet. If `counts`, the plan is written only
-    /// if the step is done. There must be room and a number for the request. Does not allocate.
+    /// Adds a request for `step` under the next number, and returns its packet. If `counts`, the plan counts as
+    /// written only if the step is done. There must be memory for the request, and the next number must fit in 32
+    /// bits. Does not allocate.
     pub(crate) fn send(&mut self, counts: bool, step: Step) -> Smp
         requires room { 0 < self.old.room }
         requires number { self.old.counter < 2 ^ 32 }
@@ -124,8 +125,8 @@ impl ManagerRequests {
         packet
     }
 
-    /// Adds a request for SMInfo by LIDs under the next number, and returns its packet. `purpose` must not be a step,
-    /// and there must be room and a number for the request. Does not allocate.
+    /// Adds a request for SMInfo by LIDs under the next number, and returns its packet. `purpose` must not be a step.
+    /// There must be memory for the request, and the next number must fit in 32 bits. Does not allocate.
     pub(crate) fn send_info(
         &mut self,
         purpose: Purpose,
@@ -153,8 +154,8 @@ impl ManagerRequests {
         Smp::lid_routed(method, AttributeId::SM_INFO, modifier, number, payload)
     }
 
-    /// Adds a poll under the next number, and returns its packet. The poll goes over `path` or, if `path` is `None`, by
-    /// LIDs. There must be room and a number for the poll. Does not allocate.
+    /// Adds a poll under the next number, and returns its packet. The poll goes over `path` or, if `path` is `None`,
+    /// by LIDs. There must be memory for the poll, and the next number must fit in 32 bits. Does not allocate.
     pub(crate) fn send_poll(&mut self, path: Option<Path<63>>) -> Smp
         requires room { 0 < self.old.room }
         requires number { self.old.counter < 2 ^ 32 }
@@ -175,14 +176,15 @@ impl ManagerRequests {
         packet
     }
 
-    /// Returns the request at `index`, in ascending order of number, or `None` if no more than `index` requests wait.
+    /// Returns the waiting request at `index`, in ascending order of number, or `None` if no more than `index`
+    /// requests wait.
     pub(crate) fn get(&self, index: usize) -> Option<&Pending>
         ensures { option_copied result ≡ slice_get self.now.pending index }
     {
         self.table.get(index)
     }
 
-    /// Returns the purpose of the request at `index`, which must wait.
+    /// Returns the purpose of the waiting request at `index`. There must be one.
     pub(crate) fn purpose(&self, index: usize) -> Purpose
         requires { index < length self.now.pending }
         ensures { Some result
@@ -220,7 +222,7 @@ impl ManagerRequests {
         }
     }
 
-    /// Removes the request at `index`, which must wait, and returns it.
+    /// Removes the waiting request at `index` and returns it. There must be one.
     pub(crate) fn end(&mut self, index: usize) -> Pending
         requires { index < length self.old.pending }
         ensures request { Some result ≡ slice_get self.old.pending index }
@@ -239,8 +241,8 @@ impl ManagerRequests {
     }
 }
 
-/// Returns the packet of the poll `number`, which must fit 32 bits. The poll goes over `path` or, if `path` is `None`,
-/// by LIDs.
+/// Returns the packet of the poll with the number `number`, which must fit in 32 bits. The poll goes over `path` or,
+/// if `path` is `None`, by LIDs.
 fn poll_packet(number: u64, path: &Option<Path<63>>) -> Smp
     requires { number < 2 ^ 32 }
     ensures { result ≡ poll_packet number path.now }

@@ -16,22 +16,22 @@ use smp_bytes::{AttributeId, Lid, Method, Smp, SmpClass};
 use sweep::{REQUESTS_PER_REPLY, Sweep, SweepFault};
 
 impl Manager {
-    /// Handles a packet that came to the manager's port. `from` is the LID of the sender, which must be given for a
-    /// packet that came by LIDs.
+    /// Handles a packet that came to the manager's port. `from` is the LID of the sender. It must not be `None` if
+    /// the packet came by LIDs.
     ///
-    /// A reply to the sweep adds its facts, or notes another manager, and queues the next requests. If that ends the
-    /// sweep, the state changes by what the sweep saw. An answer to a poll, a control or a step of a writing ends that
-    /// request. If no other step of the phase waits, the next phase is queued. A request for SMInfo is answered, and a
-    /// control is obeyed if the table of states has a move for it. By the live conduct, a trap by LIDs is repressed,
-    /// and its content is returned.
+    /// For a reply to the sweep, its facts are added, or the manager that it shows is noted, and the next requests
+    /// are queued. If that ends the sweep, the state changes according to the managers that the sweep saw. An answer
+    /// to a poll, a control or a step of a writing ends that request. After the last step of a phase, the next phase
+    /// is queued. A request for SMInfo is answered, and a control is obeyed if the table of states has a move for it.
+    /// Under the live conduct, a trap by LIDs is repressed, and its content is returned.
     ///
     /// # Errors
     ///
-    /// Returns `Sweep` with the fault of the bytes if they are not a packet, and `Sweep` with the sweep's fault if the
-    /// sweep refuses the reply. Returns `Unasked` if the packet looks like a reply to a sweep and no sweep was begun.
-    /// Also returns `Unasked` if the packet is no such reply, no request for SMInfo and no trap that is repressed, and
-    /// answers no request that waits. Returns `SequenceSpent` if no numbers are left for what is to be sent, and
-    /// `Memory` if memory runs out.
+    /// Returns `Sweep` with the fault of the bytes if they are not a packet, and `Sweep` with the sweep's fault if
+    /// the sweep refuses the reply. Returns `Unasked` if the packet looks like a reply to a sweep and no sweep has
+    /// begun. Also returns `Unasked` if the packet is not such a reply, a request for SMInfo, a trap that is
+    /// repressed, or the answer to a waiting request. Returns `SequenceSpent` if no numbers are left for what is to
+    /// be sent, and `Memory` if memory runs out.
     pub fn on_packet(
         &mut self,
         bytes: &[u8; 256],
@@ -86,7 +86,7 @@ impl Manager {
     }
 
     /// Takes the reply `smp` to the sweep: adds its facts, or notes the manager that it shows, and queues the next
-    /// requests. Returns `Unasked` if no sweep was begun, `Sweep` if the sweep refuses the reply, and `Memory` if
+    /// requests. Returns `Unasked` if no sweep has begun, `Sweep` if the sweep refuses the reply, and `Memory` if
     /// memory runs out.
     fn take_reply(&mut self, smp: &Smp) -> Result<(), ManagerFault>
         ensures judged { JudgesButFor is_memory result
@@ -127,8 +127,8 @@ fn refusal_of(fault: SweepFault) -> ManagerFault
     }
 }
 
-/// Returns the fault if there is no memory for what a reply may queue: the sweep's refusal, or `Memory` if the sweep
-/// accepts the reply.
+/// Returns the fault for the reply `smp` when there is no memory for the requests that may follow: `Sweep` with the
+/// sweep's fault if the sweep refuses the reply, and otherwise `Memory`.
 fn fault_without_room(sweep: &Sweep, smp: &Smp) -> ManagerFault
     ensures { IsFaultWithoutRoom (judged sweep.now smp.now) result }
 {
@@ -145,8 +145,8 @@ fn is_info_request(smp: &Smp) -> bool
     !smp.is_response() && smp.attribute_id() == AttributeId::SM_INFO
 }
 
-/// Returns whether `smp` is a GetResp over a directed route, and the high half of its TransactionID is not 0. Answers
-/// to the requests of a sweep are such packets.
+/// Returns whether `smp` is a GetResp over a directed route, and the high half of its TransactionID is not 0. The
+/// answers to the requests of a sweep are such packets.
 fn is_for_sweep(smp: &Smp) -> bool
     ensures { result ≡ is_for_sweep smp.now }
 {

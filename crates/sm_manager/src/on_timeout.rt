@@ -9,14 +9,15 @@ use crate::handover::end_sweep;
 use crate::manager::Manager;
 
 impl Manager {
-    /// Handles the timeout of the request with the TransactionID `transaction`. The request no longer waits. The third
-    /// lost poll in a row moves a standby to Discovering. If the timeout ends the sweep, the state changes by what the
-    /// sweep saw. If the timeout ends a phase of a writing, the next phase is queued.
+    /// Handles the timeout of the request with the TransactionID `transaction`, which then no longer waits. If three
+    /// or more polls in a row were lost, a standby moves to Discovering. If the timeout ends the sweep, the state
+    /// changes according to the managers that the sweep saw. If the timeout ends a phase of a writing, the next phase
+    /// is queued.
     ///
     /// # Errors
     ///
-    /// Returns `Unasked` if no request with the TransactionID `transaction` waits. Returns `SequenceSpent` or `Memory`
-    /// only if the next phase of a writing is due and cannot be sent.
+    /// Returns `Unasked` if no request with the TransactionID `transaction` waits. Returns `SequenceSpent` or
+    /// `Memory` only if the next phase of a writing is due and cannot be sent.
     pub fn on_timeout(&mut self, transaction: u64) -> Result<(), ManagerFault>
         ensures judged { JudgesButFor is_memory result (after_timeout self.old transaction).fault }
         ensures ok { OnOk result (self.new ≡ (after_timeout self.old transaction).manager) }
@@ -31,8 +32,8 @@ impl Manager {
         }
     }
 
-    /// Handles the timeout of a request of the sweep. Returns `Unasked` if no such request waits, or no sweep was
-    /// begun.
+    /// Handles the timeout of the request of the last sweep with the TransactionID `transaction`. Returns `Unasked`
+    /// if no such request waits, or if no sweep has begun.
     fn give_up(&mut self, transaction: u64) -> Result<(), ManagerFault>
         ensures judged { JudgesButFor is_memory result
             (sweep_gave_up self.old transaction self.old.sweep).fault }

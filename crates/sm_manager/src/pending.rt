@@ -6,7 +6,7 @@ use smp_bytes::{AttributeId, Method, Path, Smp};
 /// The purpose of a request outside sweeps.
 #[derive(Clone, Copy, Debug, PartialEq, Eq)]
 pub enum Purpose {
-    /// A poll, which asks whether the master is still there.
+    /// A poll, which asks whether another manager is still there.
     Poll,
     /// A control: HANDOVER, which asks another manager to take over, or ACKNOWLEDGE, which says that this manager has
     /// taken over.
@@ -27,7 +27,7 @@ pub struct Pending {
     /// The number of the attribute.
     pub attribute: u16,
     pub modifier: u32,
-    /// The ports that lead to the agent, or `None` if the request was sent by LIDs.
+    /// The ports that lead to the receiver, or `None` if the request was sent by LIDs.
     pub path: Option<Path<63>>,
 }
 
@@ -53,7 +53,7 @@ impl Pending {
         }
     }
 
-    /// Returns whether the request is a step that has to be done for the plan to be written.
+    /// Returns whether the request is a step that must be done for the plan to count as written.
     pub(crate) fn counts(&self) -> bool
         ensures { result ≡ counts self.now }
     {

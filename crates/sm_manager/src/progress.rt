@@ -1,13 +1,12 @@
-/// How far the last sweep is.
+/// How far the last sweep has come.
 #[derive(Clone, Copy, Debug, PartialEq, Eq)]
 pub enum Progress {
-    /// No sweep was begun.
+    /// No sweep has begun.
     Never,
     Running {
         /// The number of requests that timed out.
         unanswered: u64,
-        /// The number of ports through which the sweep did not go on, because the path would have had more than 63
-        /// hops.
+        /// The number of ports by which the sweep did not go on because the path would have had more than 63 hops.
         too_far: u64,
     },
     Done {

@@ -22,10 +22,11 @@ use std::alloc::AllocError;
 use std::collections::VecDeque;
 
 impl Manager {
-    /// Answers the request `smp` for SMInfo. A control by LIDs or, by the live conduct, any control is also obeyed if
-    /// the table of states has a move for it. The answer is sent back over the path of `smp` if `smp` came over a
-    /// directed route, and otherwise to `from`, the LID of the sender. Returns `SequenceSpent` if ACKNOWLEDGE is due
-    /// and no number is left for it, and `Memory` if memory runs out.
+    /// Answers the request `smp` for SMInfo. Also obeys a control if the table of states has a move for it. Only a
+    /// control by LIDs is obeyed, or any control under the live conduct. The answer is sent back over the path of
+    /// `smp` if `smp` came over a directed route, and otherwise to `from`, the LID of the sender. Returns
+    /// `SequenceSpent` if an ACKNOWLEDGE is due and no number is left for it. Otherwise returns `Memory` if memory
+    /// runs out.
     pub(crate) fn serve(&mut self, smp: &Smp, from: Option<Lid>) -> Result<(), ManagerFault>
         ensures judged { JudgesButFor is_memory result
             (unless_spent self.old (served self.old smp.now from)).fault }
@@ -40,7 +41,8 @@ impl Manager {
         }
     }
 
-    /// Queues the answer to the request `smp`, which is not taken as a control.
+    /// Queues the answer to the request `smp` for SMInfo, without taking it as a control. Returns `Memory` if memory
+    /// runs out.
     fn reply(&mut self, smp: &Smp, from: Option<Lid>) -> Result<(), ManagerFault>
         ensures judged { JudgesButFor is_memory result
             (unless_spent self.old (replying self.old smp.now from)).fault }
@@ -56,8 +58,8 @@ impl Manager {
     }
 
     /// Moves the state by the table of states, and queues the answer to the control `smp`. If the transition has a
-    /// message and the control came by LIDs, also queues the message to `from`. Returns `SequenceSpent` if no number is
-    /// left for the message.
+    /// message and the control came by LIDs, also queues the message to `from`. Returns `SequenceSpent` if no number
+    /// is left for the message. Otherwise returns `Memory` if memory runs out.
     fn answer_control(&mut self, smp: &Smp, from: Option<Lid>) -> Result<(), ManagerFault>
         ensures judged { JudgesButFor is_memory result
             (unless_spent self.old (controlled self.old smp.now from)).fault }
@@ -88,8 +90,8 @@ impl Manager {
     }
 }
 
-/// Moves `standing` by `transition`, and returns the answer to the control `smp`. If its status is 0, the answer has
-/// the new state.
+/// Moves `standing` by `transition`, and returns the answer to the control `smp`. If the status of the answer is 0,
+/// the answer has the new state.
 fn move_on(
     transition: &Transition,
     smp: &Smp,
@@ -139,7 +141,7 @@ fn answer_data(smp: &Smp, status: Status, standing: &Standing) -> [u8; 64]
     }
 }
 
-/// Returns whether `smp` is taken as a control: a Set by LIDs or, by the live conduct, any Set.
+/// Returns whether `smp` is taken as a control: it is a Set, and it came by LIDs or the conduct is live.
 fn is_control(standing: &Standing, smp: &Smp) -> bool
     ensures { result ≡ is_control standing.now smp.now }
 {
@@ -163,8 +165,8 @@ fn status_for(smp: &Smp) -> Status
     }
 }
 
-/// Returns the number of requests that are sent for `message`: 1 if neither `message` nor the LID `to` is `None`, and
-/// otherwise 0.
+/// Returns the number of requests that are sent for `message`: 0 if `message` or the LID `to` is `None`, and
+/// otherwise 1.
 fn message_count(to: &Option<Lid>, message: &Option<Message>) -> usize
     ensures { result ≡ message_count to.now message.now }
 {

@@ -25,7 +25,7 @@ pub struct Trap {
 }
 
 impl Trap {
-    /// Reads the content of the trap `smp`. Whether `smp` is a trap is not looked at.
+    /// Reads the content of the trap `smp`. Does not check that `smp` is a trap.
     pub(crate) fn of(smp: &Smp) -> Trap
         ensures { result ≡ trap_in smp.now }
     {
@@ -36,7 +36,7 @@ impl Trap {
 }
 
 impl Manager {
-    /// Returns whether the manager represses `smp`: by the live conduct, a trap that came by LIDs.
+    /// Returns whether the manager represses `smp`: its conduct is live, and `smp` is a trap that came by LIDs.
     pub(crate) fn represses(&self, smp: &Smp) -> bool
         ensures { result ≡ represses self.now smp.now }
     {
@@ -45,8 +45,8 @@ impl Manager {
             && smp.class() == SmpClass::LidRouted
     }
 
-    /// Queues the answer to the trap `smp` for the sender's LID `from`. The sender does not repeat the trap once the
-    /// sender has that answer. Returns `Memory` if memory runs out.
+    /// Queues the answer to the trap `smp`, addressed to `from`, the LID of the sender. Once the sender has this
+    /// answer, it no longer repeats the trap. Returns `Memory` if memory runs out.
     pub(crate) fn repress(&mut self, smp: &Smp, from: Option<Lid>) -> Result<(), ManagerFault>
         ensures ok { OnOk result (self.new ≡ repressing self.old smp.now from) }
         ensures err { OnErr result (self.new ≡ self.old) }
@@ -58,8 +58,8 @@ impl Manager {
     }
 }
 
-/// Builds the answer to the trap `smp` for the LID `from`. The answer has the attribute, the modifier, the
-/// TransactionID and the data of the trap.
+/// Builds the answer to the trap `smp`, addressed to `from`, the LID of the sender. The answer has the attribute, the
+/// modifier, the TransactionID and the data of the trap.
 fn repress_out(smp: &Smp, from: Option<Lid>) -> Outgoing
     ensures { result ≡ repress_out smp.now from }
 {

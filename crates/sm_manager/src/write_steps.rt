@@ -19,13 +19,14 @@ use sm_state::SmState;
 use sweep::Sweep;
 
 impl Manager {
-    /// Begins to write the plan of the manager's facts, over the paths of the last sweep: the LID of each end port, the
-    /// forwarding blocks of each usable switch and its top, and then the states of ports on wires. Each phase is queued
-    /// as a whole. The next phase follows once each step of the phase was answered or timed out.
+    /// Begins to write the plan of the manager's facts, over the paths of the last sweep. The plan is written in
+    /// phases: the LIDs of end ports, the forwarding blocks of usable switches, their tops, and then the states of
+    /// ports on wires. Each phase is queued as a whole, and the next one once each of its steps was answered or timed
+    /// out.
     ///
     /// # Errors
     ///
-    /// Returns the first of these that applies: `NotMaster`, also if no sweep was begun; `SweepRunning`;
+    /// Returns the first of these that applies: `NotMaster`, also if no sweep has begun; `SweepRunning`;
     /// `WritingRunning`; `NoRoom`; `SequenceSpent` if fewer numbers are left than a phase could need; `Memory`.
     pub fn write_steps(&mut self) -> Result<(), ManagerFault>
         ensures judged { JudgesButFor is_memory result (writing_fault self.old) }
@@ -65,8 +66,8 @@ impl Manager {
     ///
     /// # Errors
     ///
-    /// Returns the first of these that applies: `NotMaster`, also if no sweep was begun; `SweepRunning` if the sweep is
-    /// not done; `WritingRunning` if a step of a writing waits.
+    /// Returns the first of these that applies: `NotMaster`, also if no sweep has begun; `SweepRunning` if the sweep
+    /// is not done; `WritingRunning` if a step of a writing waits.
     fn last_sweep(&self) -> Result<&Sweep, ManagerFault>
         ensures judged { Judges result (write_fault self.now) }
         ensures sweep { IfOk result (λ s. self.now.sweep ≡ Some s.now) }
@@ -86,8 +87,9 @@ impl Manager {
         Ok(sweep)
     }
 
-    /// Ends the step at `index`, which must wait. If no other step waits, queues the next phase. Returns
-    /// `SequenceSpent` or `Memory` if that phase cannot be sent.
+    /// Ends the waiting request at `index`. There must be one, and it must be a step. `was_done` says whether the
+    /// step was done. If no other step waits, queues the next phase. Returns `SequenceSpent` or `Memory` if that
+    /// phase cannot be sent.
     pub(crate) fn end_step(&mut self, index: usize, was_done: bool) -> Result<(), ManagerFault>
         requires within { index < length self.old.pending }
         requires step { (p : Pending) → slice_get self.old.pending index ≡ Some p
@@ -126,8 +128,8 @@ impl Manager {
     }
 }
 
-/// Returns `found`, or `SequenceSpent` if `are_numbers` is false. Faults of `found` other than `Memory` come before
-/// `SequenceSpent`.
+/// Returns `found` if `are_numbers`. Otherwise returns the fault of `found` if it has one other than `Memory`, and
+/// else `SequenceSpent`.
 pub(crate) fn where_numbered<T: Drop>(
     found: Result<T, ManagerFault>,
     are_numbers: bool,

@@ -16,7 +16,7 @@ use std::marker::Model;
 pub(crate) struct Writing {
     /// The phases that have not been sent, in their order. The first of them has steps.
     later: VecDeque<Phase>,
-    /// Whether a step that counts was not done.
+    /// Whether some step that counts (`Phase::counts`) was not done.
     has_failed: bool,
 }
 
@@ -51,7 +51,7 @@ impl Writing {
         }
     }
 
-    /// Notes whether a step was done. If `counts`, the plan is written only if that step is done.
+    /// Notes whether a step was done. If `counts` and not `was_done`, the writing has failed.
     pub(crate) fn note(&mut self, counts: bool, was_done: bool)
         ensures later { self.new.later ≡ self.old.later }
         ensures failed { self.new.has_failed ≡ self.old.has_failed || (counts && not was_done) }
@@ -59,9 +59,9 @@ impl Writing {
         self.has_failed = self.has_failed || (counts && !was_done);
     }
 
-    /// Takes the next phase off the writing and queues its steps, which then wait for their answers. Does nothing if no
-    /// phase is left. `requests` must have room and numbers for these steps, and `outgoing` must have room for them.
-    /// Does not allocate.
+    /// Removes the next phase from the writing and queues its steps, which then wait for their answers. Does nothing
+    /// if no phase is left. `requests` must have memory and numbers for these steps, and `outgoing` must have memory
+    /// for their packets. Does not allocate.
     pub(crate) fn send_next(
         &mut self,
         requests: &mut ManagerRequests,
@@ -113,8 +113,9 @@ fn pass(later: &mut VecDeque<Phase>)
     }
 }
 
-/// Queues `steps`, which then wait for their answers. There must be room and numbers for these steps. Does not
-/// allocate.
+/// Queues `steps`, which then wait for their answers. If `counts`, the plan is written only if they are done.
+/// `requests` must have memory and numbers for these steps, and `outgoing` must have memory for their packets. Does
+/// not allocate.
 fn send_steps(
     counts: bool,
     steps: Vec<Step>,
@@ -137,7 +138,7 @@ fn send_steps(
 }
 
 impl Manager {
-    /// Returns whether a writing was begun, and each step of the last writing that sets a LID, a block or a top was
+    /// Returns whether a writing has begun, and each step of the last writing that sets a LID, a block or a top was
     /// answered with status 0.
     pub fn written(&self) -> bool
         ensures { result ≡ is_written self.now }

@@ -13,7 +13,7 @@ use Rattle.sm_state.specs.Ranks.{wins}
 use Rattle.sm_state.specs.States.{number_of_state}
 use Rattle.sm_state.specs.declared.election.SeenManager.{SeenManager}
 
--- whether `info` reports the state `state`; a reserved number is none of the states
+-- whether `info` reports the state `state`; a reserved number reports none of the states
 abbrev pub says : SmState → SmInfo → Bool
 says state info = info.state == number_of_state state
 
@@ -39,13 +39,13 @@ sweep_verdict own seen = if any_outranks own seen then Outranked else Unrivalled
 abbrev pub is_candidate : SmInfo → SeenManager → Bool
 is_candidate own s = is_heard own s.info && ((says Standby s.info || says Master s.info) && wins s.info own)
 
--- the greater of the best manager so far and `s`: the best so far if they are of equal rank; `s` if there is none so
--- far
+-- `s` if there is no best manager so far, or if `s` wins over it; else the best manager so far
 abbrev pub better : Option SeenManager → SeenManager → SeenManager
 better None s = s
 better (Some best) s = if wins s.info best.info then s else best
 
--- the best manager so far, given one more, `s`, which counts only if it `passes`
+-- the best manager after one more manager, `s`, is considered: the better of the best so far and `s` if `passes`,
+-- else the best so far
 abbrev pub next_best : Bool → Option SeenManager → SeenManager → Option SeenManager
 next_best passes best s = if passes then Some (better best s) else best
 
@@ -76,7 +76,7 @@ abbrev pub IsSuccessorOrNone : List SeenManager → Option SeenManager → Type 
 IsSuccessorOrNone managers None = managers ≡ []
 IsSuccessorOrNone managers (Some successor) = IsFirstGreatest managers successor
 
--- `successor_of` gives the first greatest of the managers that may succeed `own`; None exactly if no manager may
+-- `successor_of` gives the first greatest of the managers that may succeed `own`; None exactly when no manager may
 abbrev pub SuccessorLaw : Type 0
 SuccessorLaw = (own : SmInfo) (seen : List SeenManager)
     → IsSuccessorOrNone (filter (is_candidate own) seen) (successor_of own seen)
@@ -101,6 +101,7 @@ abbrev pub IsPolledOrNone : SmInfo → List SeenManager → Option SeenManager �
 IsPolledOrNone own seen None = any_outranks own seen ≡ false
 IsPolledOrNone own seen (Some polled) = Contains seen polled × (outranks own polled.info ≡ true)
 
--- `polled_of` gives a manager that was seen and outranks `own`; None exactly if no manager that was seen outranks `own`
+-- `polled_of` gives a manager that was seen and outranks `own`; None exactly when no manager that was seen outranks
+-- `own`
 abbrev pub PolledLaw : Type 0
 PolledLaw = (own : SmInfo) (seen : List SeenManager) → IsPolledOrNone own seen (polled_of own seen)

@@ -11,7 +11,7 @@ wins a b = nat_lt b.priority a.priority || (a.priority == b.priority && nat_lt a
 abbrev pub HasSameRank : SmInfo → SmInfo → Type 0
 HasSameRank a b = (a.priority ≡ b.priority) × (a.guid ≡ b.guid)
 
--- `wins` is a strict order, and of two managers that differ in priority or GUID one wins
+-- `wins` is a strict order, and of two managers that differ in priority or GUID, one wins over the other
 pub record WinsIsAnOrder : Type 0 where
   pub not_itself : (a : SmInfo) → wins a a ≡ false
   pub in_turn : (a b c : SmInfo) → wins a b ≡ true → wins b c ≡ true → wins a c ≡ true

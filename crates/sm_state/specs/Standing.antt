@@ -1,5 +1,5 @@
--- A manager among the managers of its subnet: who it is, and how its state moves.
--- InfiniBand Architecture Specification, Volume 1: subnet management, subnet manager (states, priorities); SMInfo.
+-- A manager as seen among the managers of its subnet: who it is, and how its state moves. InfiniBand Architecture
+-- Specification, Volume 1: subnet management, subnet manager (states, priorities); SMInfo.
 use Rattle.std.specs.Prelude.{ℕ, ◌+◌, ◌-◌, ◌^◌, Bool, ◌&&◌, min, nat_le, ◌==◌, if◌then◌else◌}
 use Rattle.attr_codec.specs.declared.sm_info.SmInfo.{SmInfo}
 use Rattle.sm_state.specs.declared.conduct.Conduct.{Conduct}
@@ -15,7 +15,7 @@ use Rattle.sm_state.specs.States.{number_of_state}
 use Rattle.sm_state.specs.Transitions.{stepped}
 use Rattle.sm_state.specs.declared.standing.Standing.{Standing}
 
--- a manager at the port with the GUID `guid`, before it did anything: Discovering
+-- a manager at the port with the GUID `guid`, before it has done anything; its state is Discovering
 abbrev pub new_standing : ℕ → ℕ → Conduct → Standing
 new_standing guid priority conduct =
     record {
@@ -42,7 +42,8 @@ info_of s = record {
 abbrev pub is_acknowledge : Control → Bool
 is_acknowledge control = modifier_of_control control == modifier_of_control Acknowledge
 
--- the SMInfo that the manager `s` sends with a control: its own, but by the live conduct an ACKNOWLEDGE reports Standby
+-- the SMInfo that the manager `s` sends with a control: its own, except that under the live conduct the SMInfo with
+-- ACKNOWLEDGE reports Standby
 abbrev pub info_with : Control → Standing → SmInfo
 info_with control s =
     if is_live s.conduct && is_acknowledge control then record (info_of s) { state = number_of_state Standby }
@@ -60,7 +61,7 @@ one_more n = min (n + 1) (2 ^ 32 - 1)
 abbrev pub active_once_more : Standing → Standing
 active_once_more s = record s { act_count = one_more s.act_count }
 
--- the manager `s` after it answered a request for SMInfo, which by the live conduct counts as activity
+-- the manager `s` after it answered a request for SMInfo, which counts as activity under the live conduct
 abbrev pub after_request_heard : Standing → Standing
 after_request_heard s = if is_live s.conduct then active_once_more s else s
 
@@ -70,7 +71,7 @@ after_request_heard s = if is_live s.conduct then active_once_more s else s
 abbrev pub moved_to : SmState → Standing → Standing
 moved_to state s = if is_in state s then s else record s { state = state; polls_lost = 0 }
 
--- the manager `s` after the event `e`, by the table of states
+-- the manager `s` after the event `e`, in the state that the table of states gives
 abbrev pub moved_by : Event → Standing → Standing
 moved_by e s = moved_to (stepped s.conduct s.state e).state s
 
@@ -80,10 +81,11 @@ moved_by e s = moved_to (stepped s.conduct s.state e).state s
 abbrev pub poll_answered : Standing → Standing
 poll_answered s = record s { polls_lost = 0 }
 
--- the manager `s`, which moves by the table of states if three or more polls in a row were lost
+-- the manager `s` after the event `PollsUnanswered` if three or more polls in a row were lost, else unchanged
 abbrev pub three_lost : Standing → Standing
 three_lost s = if nat_le 3 s.polls_lost then moved_by PollsUnanswered s else s
 
--- the manager `s` after one more poll was lost
+-- the manager `s` after one more poll was lost; if three or more in a row are lost, the event `PollsUnanswered`
+-- follows
 abbrev pub poll_lost : Standing → Standing
 poll_lost s = three_lost (record s { polls_lost = one_more s.polls_lost })

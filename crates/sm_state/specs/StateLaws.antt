@@ -17,8 +17,8 @@ use Rattle.sm_state.specs.Transitions.{status_of, stepped}
 abbrev pub Is : Control → Event → Type 0
 Is which e = (modifier : ℕ) × (e ≡ event.Control modifier) × (control_of_modifier modifier ≡ Some which)
 
--- the table of states has a row for the event `e` in this state, other than that of a late ACKNOWLEDGE: `e` moves the
--- manager, or makes it send a message
+-- the table of states has a row for the event `e` in this state, other than the row for a late ACKNOWLEDGE: `e`
+-- changes the state, or makes the manager send a message
 abbrev pub IsNamed : SmState → Event → Type 0
 IsNamed Discovering e = (e ≡ event.Outranked) ⊎ (e ≡ event.Unrivalled)
 IsNamed Standby e =
@@ -27,20 +27,20 @@ IsNamed NotActive e = Is control.Standby e
 IsNamed Master e =
     Is control.Handover e ⊎ (Is control.Acknowledge e ⊎ (Is control.Discover e ⊎ (e ≡ event.HandoverWanted)))
 
--- an event that `IsNamed` does not name changes no state and sends nothing, by either conduct
+-- under either conduct, an event that is not one of `IsNamed` in a state does not change this state and sends nothing
 abbrev pub NothingElseMoves : Type 0
 NothingElseMoves =
     (conduct : Conduct) (state : SmState) (e : Event) → (IsNamed state e → ⊥)
     → ((stepped conduct state e).state ≡ state) × ((stepped conduct state e).message ≡ None)
 
--- a master leaves its state only for Standby by ACKNOWLEDGE, or for Discovering by DISCOVER
+-- a master leaves its state only by ACKNOWLEDGE, for Standby, or by DISCOVER, for Discovering
 abbrev pub MastersStay : Type 0
 MastersStay =
     (conduct : Conduct) (e : Event) → ((stepped conduct Master e).state ≡ Master → ⊥)
     → (Is control.Acknowledge e × ((stepped conduct Master e).state ≡ Standby))
     ⊎ (Is control.Discover e × ((stepped conduct Master e).state ≡ Discovering))
 
--- a manager sends ACKNOWLEDGE only for a HANDOVER, and is then master
+-- a manager sends ACKNOWLEDGE only in response to a HANDOVER, and is then master
 abbrev pub OthersAreTold : Type 0
 OthersAreTold =
     (conduct : Conduct) (state : SmState) (e : Event) → (stepped conduct state e).message ≡ Some message.Acknowledge
@@ -52,6 +52,6 @@ HandoversAreTaken =
     (conduct : Conduct) (state : SmState) (e : Event) → Is control.Handover e → status_of (stepped conduct state e) ≡ done
     → (stepped conduct state e).state ≡ Master
 
--- the number of a state is read as that state
+-- the number of a manager's state is read as that state
 abbrev pub StatesAreNumbered : Type 0
 StatesAreNumbered = (state : SmState) → state_of_number (number_of_state state) ≡ Some state

@@ -19,17 +19,18 @@ use Rattle.sm_state.specs.Controls.{control_of_modifier}
 abbrev pub to : SmState → Option Message → Transition
 to state sends = record { state = state; message = sends; is_refused = false }
 
--- the move of a control that is refused: the state stays
+-- the move for a control that is refused in `state`: the state stays, and nothing is sent
 abbrev pub refused : SmState → Transition
 refused state = record { state = state; message = None; is_refused = true }
 
--- the move of a standby by ACKNOWLEDGE, in which the state stays. The plain conduct refuses it. The live conduct does
--- not, since the answer to a HANDOVER may have made the manager standby already
+-- the move that ACKNOWLEDGE causes in a standby; the state stays. The plain conduct refuses the control. The live
+-- conduct does not, since the answer to the HANDOVER that the manager sent may have made it a standby already
 abbrev pub acknowledged_late : Conduct → Transition
 acknowledged_late Plain = refused Standby
 acknowledged_late (Live key) = to Standby None
 
--- the move of a manager in a state by a control; None stands for a reserved modifier
+-- the move that a control causes in a manager that is in the given state; None stands for a control whose modifier is
+-- reserved
 abbrev pub after_control : Conduct → SmState → Option Control → Transition
 after_control conduct Standby (Some control.Handover) = to Master (Some message.Acknowledge)
 after_control conduct Standby (Some control.Acknowledge) = acknowledged_late conduct
@@ -41,7 +42,7 @@ after_control conduct Master (Some control.Handover) = to Master (Some message.A
 after_control conduct Master (Some control.Discover) = to Discovering None
 after_control conduct state other = refused state
 
--- the move of a manager in a state by an event, by the table of states
+-- the move that an event causes in a manager that is in the given state, as the table of states says
 abbrev pub stepped : Conduct → SmState → Event → Transition
 stepped conduct state (event.Control modifier) = after_control conduct state (control_of_modifier modifier)
 stepped conduct Discovering event.Outranked = to Standby None
@@ -50,6 +51,6 @@ stepped conduct Standby event.PollsUnanswered = to Discovering None
 stepped conduct Master event.HandoverWanted = to Master (Some message.Handover)
 stepped conduct state other = to state None
 
--- the status of the answer to a control: that of an invalid field if the move is refused, else done
+-- the status of the answer to a control: the status for an invalid field if the move is refused, else `done` (0)
 abbrev pub status_of : Transition → ℕ
 status_of move = if move.is_refused then invalid_field else done

@@ -8,8 +8,8 @@ pub enum Conduct {
     /// ACKNOWLEDGE. The SM_Key is 0.
     Plain,
     /// Deals with the managers of a live subnet as OpenSM does. Also obeys controls over directed routes. Becomes
-    /// Standby once its HANDOVER is answered with status 0. Hears only managers of its own SM_Key, unless its own is 0.
-    /// Represses traps, and keeps what its sweeps read. The number is its SM_Key.
+    /// Standby once its HANDOVER is answered with status 0. Hears only managers with the same SM_Key, unless its own
+    /// SM_Key is 0. Represses traps, and keeps what its sweeps read. The number is its SM_Key.
     Live(u64),
 }
 

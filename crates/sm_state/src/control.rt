@@ -4,9 +4,9 @@ ghost use Rattle.sm_state.specs.Controls.{control_of_modifier, modifier_of_contr
 /// A command of one subnet manager to another, sent as a Set(SMInfo) (subnet management, SMInfo: controls).
 #[derive(Clone, Copy, Debug, PartialEq, Eq)]
 pub enum Control {
-    /// The receiver is to be master instead of the sender.
+    /// The receiver is to become master instead of the sender.
     Handover,
-    /// The sender is master instead of the receiver.
+    /// The sender has become master instead of the receiver.
     Acknowledge,
     Disable,
     Standby,
@@ -23,7 +23,7 @@ const CONTROLS: [Control; 5] = [
 ];
 
 impl Control {
-    /// Returns the control of an attribute modifier, or `None` for 0 and for 6 and above.
+    /// Returns the control with the attribute modifier `modifier`, or `None` if `modifier` is 0, or 6 or above.
     pub fn from_modifier(modifier: u32) -> Option<Self>
         ensures { result ≡ control_of_modifier modifier }
     {

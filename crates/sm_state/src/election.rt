@@ -37,8 +37,8 @@ fn any_outranks(own: &SmInfo, seen: &[SeenManager]) -> bool
 }
 
 /// Returns the manager to hand over to: the greatest manager of `seen` that `own` hears, that reports Standby or
-/// Master, and that wins over `own`. Of equals returns the first. Returns `None` if no manager of `seen` is such. Takes
-/// time linear in the length of `seen`.
+/// Master, and that wins over `own`. If several are equal, returns the first. Returns `None` if there is no such
+/// manager. Takes time linear in the length of `seen`.
 pub fn successor(own: &SmInfo, seen: &[SeenManager]) -> Option<SeenManager>
     ensures { result ≡ successor_of own.now seen.now }
 {
@@ -121,8 +121,8 @@ fn is_heard_master(own: &SmInfo, other: &SeenManager) -> bool
     is_heard(own, &other.info) && says(SmState::Master, &other.info)
 }
 
-/// Returns whether the manager whose SMInfo is `own` hears `other`, and `other` is a master, or wins over `own` and is
-/// not Not-active.
+/// Returns whether `other` outranks the manager whose SMInfo is `own`. That manager must hear `other`, and `other`
+/// must be a master, or must win over `own` and not be Not-active.
 fn outranks(own: &SmInfo, other: &SmInfo) -> bool
     ensures { result ≡ outranks own.now other.now }
 {

@@ -12,13 +12,13 @@ pub enum Event {
     Outranked,
     /// A sweep is done, and saw no manager that outranks this one.
     Unrivalled,
-    /// Three polls in a row were not answered.
+    /// Three or more polls in a row were not answered.
     PollsUnanswered,
-    /// Another manager is to be master.
+    /// Another manager is to become master.
     HandoverWanted,
 }
 
-/// The control that a manager sends as it moves.
+/// A control that a manager sends because of an event.
 #[derive(Clone, Copy, Debug, PartialEq, Eq)]
 pub enum Message {
     Handover,

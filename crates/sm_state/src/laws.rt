@@ -10,18 +10,19 @@ pub fn wins_is_an_order()
     ensures { WinsIsAnOrder }
 {}
 
-/// An event for which the table of states has no move from a manager's state does not change the state and sends
-/// nothing.
+/// If the table of states has no move for an event from a manager's state, the event does not change the state, and
+/// the manager sends nothing.
 pub fn nothing_else_moves()
     ensures { NothingElseMoves }
 {}
 
-/// A master stays master unless it receives ACKNOWLEDGE, and then is Standby, or DISCOVER, and then is Discovering.
+/// A master leaves its state only if it receives ACKNOWLEDGE, which makes it Standby, or DISCOVER, which makes it
+/// Discovering.
 pub fn masters_stay()
     ensures { MastersStay }
 {}
 
-/// A manager sends ACKNOWLEDGE only after it received a HANDOVER, and is then master.
+/// A manager sends ACKNOWLEDGE only in response to a HANDOVER, and is then master.
 pub fn others_are_told()
     ensures { OthersAreTold }
 {}
@@ -32,7 +33,7 @@ pub fn handovers_are_taken()
     ensures { HandoversAreTaken }
 {}
 
-/// A state's number is read as that state.
+/// The number of a manager's state (SMInfo: SMState) is read as that state.
 pub fn states_are_numbered()
     ensures { StatesAreNumbered }
 {}
@@ -44,8 +45,8 @@ pub fn successor_is_the_first_of_the_greatest()
     ensures { SuccessorLaw }
 {}
 
-/// The manager to poll was seen, and outranks the manager that polls. There is no manager to poll only if no manager
-/// that was seen outranks the one that polls.
+/// The manager to poll was seen, and outranks the manager that polls. If there is no manager to poll, no manager that
+/// was seen outranks the one that polls.
 #[tactic(auto, using(crate::proofs::WhomToPoll::polled_law))]
 pub fn polled_managers_outrank()
     ensures { PolledLaw }

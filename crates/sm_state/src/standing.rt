@@ -7,7 +7,7 @@ use crate::{Conduct, Control, Event, SmState, step};
 use attr_codec::{Priority, SmInfo};
 use smp_bytes::Guid;
 
-/// A subnet manager among the managers of its subnet: its identity, its state and its counts.
+/// A subnet manager as seen among the managers of its subnet: its identity, its state and its counts.
 #[derive(Clone, Copy, Debug)]
 pub struct Standing {
     /// The GUID of the port at which the manager sits.
@@ -16,10 +16,10 @@ pub struct Standing {
     /// How the manager deals with other managers.
     pub conduct: Conduct,
     pub state: SmState,
-    /// The number of sweeps that the manager began. By the live conduct, requests for SMInfo that it answered are
-    /// counted too. Saturates.
+    /// The number of sweeps that the manager began. Under the live conduct, requests for SMInfo that it answered
+    /// count too. Saturates.
     pub act_count: u32,
-    /// The number of polls in a row that were lost since the manager entered its state. Saturates.
+    /// The number of polls that were lost in a row since the manager entered its state. Saturates.
     pub polls_lost: u32,
 }
 
@@ -50,8 +50,8 @@ impl Standing {
         }
     }
 
-    /// Returns the SMInfo that the manager sends with `control`. By the live conduct, ACKNOWLEDGE reports Standby,
-    /// which OpenSM expects.
+    /// Returns the SMInfo that the manager sends with `control`. Under the live conduct, the SMInfo with ACKNOWLEDGE
+    /// reports Standby, as OpenSM expects.
     pub fn info_with(&self, control: Control) -> SmInfo
         ensures { result ≡ info_with control self.now }
     {
@@ -72,14 +72,14 @@ impl Standing {
         self.state.number() == state.number()
     }
 
-    /// Counts a sweep that begins, or a request that is answered. Saturates.
+    /// Adds one to the activity count, for a sweep that begins or a request that is answered. Saturates.
     pub fn count_activity(&mut self)
         ensures { self.new ≡ active_once_more self.old }
     {
         self.act_count = self.act_count.saturating_add(1);
     }
 
-    /// Counts a request for SMInfo that is answered, if the conduct is live, and otherwise does nothing.
+    /// If the conduct is live, counts an answered request for SMInfo as activity. Otherwise does nothing.
     pub fn count_request(&mut self)
         ensures { self.new ≡ after_request_heard self.old }
     {
@@ -98,7 +98,7 @@ impl Standing {
         }
     }
 
-    /// Moves the manager to its state after `event`, by the table of states.
+    /// Moves the manager to the state that the table of states gives for `event`.
     pub fn move_by(&mut self, event: Event)
         ensures { self.new ≡ moved_by event self.old }
     {

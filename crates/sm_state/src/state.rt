@@ -21,7 +21,7 @@ const STATES: [SmState; 4] = [
 ];
 
 impl SmState {
-    /// Returns the state with the number `number`, or `None` for the reserved numbers, 4 and above.
+    /// Returns the state with the number `number`, or `None` if `number` is reserved (4 and above).
     pub fn from_number(number: SmStateNumber) -> Option<Self>
         ensures { result ≡ state_of_number number }
     {
@@ -29,7 +29,7 @@ impl SmState {
         STATES.iter().copied().find(|state| number == state.code())
     }
 
-    /// Returns the number of the state, as SMInfo spells it.
+    /// Returns the number of the state, as SMInfo contains it.
     pub fn number(self) -> SmStateNumber
         ensures { result ≡ number_of_state self }
     {

@@ -10,9 +10,9 @@ use smp_bytes::Status;
 pub struct Transition {
     /// The state afterwards.
     pub state: SmState,
-    /// The message to the other manager; `None` if there is none.
+    /// The message to send to the other manager, or `None` if there is none.
     pub message: Option<Message>,
-    /// Whether a control is refused.
+    /// Whether the event is a control that is refused.
     pub is_refused: bool,
 }
 

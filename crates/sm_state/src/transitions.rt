@@ -7,7 +7,7 @@ use crate::event::{Event, Message};
 use crate::state::SmState;
 use crate::transition::Transition;
 
-/// Returns the move to `state` that sends `message`.
+/// Returns the move to `state` that sends `message`, or nothing if `message` is `None`. The move is not refused.
 fn goes_to(state: SmState, message: Option<Message>) -> Transition
     ensures { result ≡ to state message }
 {
@@ -18,7 +18,8 @@ fn goes_to(state: SmState, message: Option<Message>) -> Transition
     }
 }
 
-/// Returns the refusal of a control that has no move from `state`.
+/// Returns the refusal of a control for which the table of states has no move from `state`. The state stays `state`,
+/// and nothing is sent.
 fn refuses(state: SmState) -> Transition
     ensures { result ≡ refused state }
 {
@@ -67,9 +68,9 @@ fn after_control(conduct: Conduct, state: SmState, control: Option<Control>) -> 
     }
 }
 
-/// Returns what a standby does about ACKNOWLEDGE. By the live conduct nothing changes, and the control is not refused,
-/// since the answer to the manager's HANDOVER may already have made it a standby. By the plain conduct the control is
-/// refused.
+/// Returns what a standby does about ACKNOWLEDGE. Under the live conduct nothing changes and the control is not
+/// refused, since the answer to the HANDOVER that this manager sent may already have made it a standby. Under the
+/// plain conduct the control is refused.
 fn acknowledged_late(conduct: Conduct) -> Transition
     ensures { result ≡ acknowledged_late conduct }
 {

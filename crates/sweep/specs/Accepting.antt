@@ -1,4 +1,4 @@
--- When a sweep accepts a reply, and what of the reply is then at hand.
+-- When a sweep accepts a reply, and what is then known of the reply.
 use Rattle.std.specs.Prelude.{◌≡◌, ℕ, ◌+◌, ◌^◌, ◌≤◌, List, length, slice_get, Some, Ok}
 use Rattle.sweep.specs.declared.on_reply.Accepted.{Accepted}
 use Rattle.sweep.specs.declared.request.Request.{Request}

@@ -4,7 +4,7 @@ use Rattle.reply_facts.specs.ReportFault.{report_fault_name}
 use Rattle.sweep.specs.declared.fault.SweepFault.{SweepFault}
 use Rattle.sweep.specs.declared.fault.SweepFault.TheVariants.{NotOutstanding, Bad, SequenceSpent, Memory}
 
--- the name of a sweep's fault; for the fault of a report, its name as the fault of a report
+-- the name of a sweep's fault; for `Bad`, the name of the fault of the report
 abbrev pub sweep_fault_name : SweepFault → List ℕ
 sweep_fault_name NotOutstanding = codes "NotOutstanding"
 sweep_fault_name (Bad fault) = report_fault_name fault

@@ -1,4 +1,4 @@
--- What a reply to a sweep brings up: a new vertex or a port's state, and what is asked next. InfiniBand Architecture
+-- What a reply to a sweep shows, a new vertex or a port's state, and what is asked next. InfiniBand Architecture
 -- Specification, Volume 1: subnet management, NodeInfo and PortInfo; topology discovery.
 use Rattle.std.specs.Prelude.{◌≡◌, ℕ, zero, suc, ◌+◌, ◌<◌, Bool, true, false, ◌&&◌, ◌||◌, not, List, [], ◌∷◌, ◌++◌}
 use Rattle.std.specs.Prelude.{length, nat_lt, ◌==◌, if◌then◌else◌, Option, Some, None, is_some}
@@ -29,8 +29,8 @@ use Rattle.sweep.specs.Sweep.{Sweep, Asking, asking, first_vertex, vertex_at, ve
 
 -- by NodeInfo ---------------------------------------------------------------------------------
 
--- the vertex that NodeInfo over `path` reports, of a node of the type `kind` with `ports` ports: port 0 of a switch, or
--- the port of another node that was reached
+-- the vertex that the NodeInfo `info` over `path` reports, for a node of the type `kind` with `ports` ports. Its port
+-- is 0 for a switch, and the port that was reached for another node
 abbrev pub vertex_of : List ℕ → NodeInfo → NodeType → ℕ → Vertex
 vertex_of path info kind ports =
     record {
@@ -42,25 +42,25 @@ vertex_of path info kind ports =
       path = path;
     }
 
--- what NodeInfo over `path` brings up about a node that is new to the sweep: a vertex; nothing if the node's type is
--- None, which stands for a reserved one
+-- what NodeInfo over `path` shows about a node that is new to the sweep: a vertex; nothing if the node's type is
+-- None, which stands for a reserved type
 abbrev pub found_anew : List ℕ → NodeInfo → Option NodeType → Finding
 found_anew path info None = Nothing
 found_anew path info (Some kind) = NewVertex (vertex_of path info kind info.num_ports)
 
--- what NodeInfo over `path` brings up about a node whose first vertex is `first`: nothing if the node is a switch, or
--- has a vertex for the port that was reached; else a vertex for that port, with the type and port count of `first`
+-- what NodeInfo over `path` shows about a node whose first vertex is `first`: nothing if the node is a switch, or has
+-- a vertex for the port that was reached; else a vertex for that port, with the type and port count of `first`
 abbrev pub found_again : Sweep → List ℕ → NodeInfo → Vertex → Finding
 found_again s path info first =
     if is_switch first.kind || is_some (vertex_at s.reached info.node_guid info.local_port_num) then Nothing
     else NewVertex (vertex_of path info first.kind first.ports)
 
--- what NodeInfo over `path` brings up, given the node's first vertex, or None if the node is new
+-- what NodeInfo over `path` shows, given the node's first vertex, or None if the node is new
 abbrev pub node_found_of : Sweep → List ℕ → NodeInfo → Option Vertex → Finding
 node_found_of s path info None = found_anew path info (type_of_number info.node_type)
 node_found_of s path info (Some first) = found_again s path info first
 
--- what NodeInfo over `path` brings up: a new vertex, or nothing
+-- what NodeInfo over `path` shows: a new vertex, or nothing
 abbrev pub node_found : Sweep → List ℕ → NodeInfo → Finding
 node_found s path info = node_found_of s path info (first_vertex s.reached info.node_guid)
 
@@ -83,29 +83,29 @@ is_way_on s guid port =
 abbrev pub goes_by : Sweep → List ℕ → ℕ → ℕ → Bool
 goes_by s path guid port = (is_start path && port == s.origin) || is_way_on s guid port
 
--- whether the port is up by its PortInfo `info`, and the sweep goes on by the port if it is up (`goes_by`)
+-- whether the PortInfo `info` says that the port is up, and the port is one by which the sweep goes on (`goes_by`)
 abbrev pub leads_on : Sweep → List ℕ → ℕ → ℕ → List ℕ → Bool
 leads_on s path guid port info = is_up_state (bits_in port_state info) && goes_by s path guid port
 
--- whether the sweep goes on through a port: `Stays` if not; else `Leads` if the path has fewer than 63 ports, and
--- `TooFar` if it has 63 already
+-- whether the sweep goes on through a port: `Stays` if `leads_on` is false; else `Leads` if the path has fewer than
+-- 63 ports, and `TooFar` if it has 63 already
 abbrev pub onward : Sweep → List ℕ → ℕ → ℕ → List ℕ → Onward
 onward s path guid port info =
     if not (leads_on s path guid port info) then Stays
     else if nat_lt (length path) max_hops then Leads
     else TooFar
 
--- whether node `guid` is known to be no switch, by its first reply
+-- whether node `guid` is known not to be a switch, by its first reply
 abbrev pub is_of_adapter : Sweep → ℕ → Bool
 is_of_adapter s guid = option_map_or (λ first. not (is_switch first.kind)) (first_vertex s.reached guid) false
 
--- whether the manager at a port of node `guid` is asked for SMInfo: PortInfo reports a manager, the node is known to be
--- no switch, and the path is not empty
+-- whether the manager at a port of node `guid` is asked for SMInfo: PortInfo reports a manager, the node is known not
+-- to be a switch, and the path is not empty
 abbrev pub asks_manager : Sweep → List ℕ → ℕ → List ℕ → Bool
 asks_manager s path guid info = has_manager info && (not (is_start path) && is_of_adapter s guid)
 
--- what the PortInfo `info` of a port brings up: its state, whether the manager there is asked, and whether the sweep
--- goes on
+-- what the PortInfo `info` of a port shows: its state, whether the manager there is asked, and whether the sweep goes
+-- on
 abbrev pub port_finding_of : Sweep → List ℕ → ℕ → ℕ → List ℕ → PortFinding
 port_finding_of s path guid port info =
     record {
@@ -116,25 +116,25 @@ port_finding_of s path guid port info =
       onward = onward s path guid port info;
     }
 
--- what the PortInfo `info` of a port brings up, as a finding
+-- what the PortInfo `info` of a port shows, as a finding
 abbrev pub port_found_of : Sweep → List ℕ → ℕ → ℕ → List ℕ → Finding
 port_found_of s path guid port info = Port (port_finding_of s path guid port info)
 
--- what the PortInfo `info` of a port brings up; nothing if the request was not about a node
+-- what the PortInfo `info` of a port shows; nothing if the request was not about a node
 abbrev pub port_found : Sweep → List ℕ → Option ℕ → ℕ → List ℕ → Finding
 port_found s path None port info = Nothing
 port_found s path (Some guid) port info = port_found_of s path guid port info
 
 -- by any reply -----------------------------------------------------------------------------------
 
--- what the reply `packet` to the request `r` brings up, by its question; SwitchInfo and SMInfo bring up nothing
+-- what the reply `packet` to the request `r` shows, by the given question; SwitchInfo and SMInfo show nothing
 abbrev pub finding_of : Sweep → Request → List ℕ → Question → Finding
 finding_of s r packet ask.Node = node_found s r.path (node_info_of packet)
 finding_of s r packet ask.Switch = Nothing
 finding_of s r packet (ask.Port port) = port_found s r.path (about_of r.context) port (payload_of packet)
 finding_of s r packet (ask.Manager guid port) = Nothing
 
--- what the reply `packet` to the request `r` brings up
+-- what the reply `packet` to the request `r` shows
 abbrev pub finding : Sweep → Request → List ℕ → Finding
 finding s r packet = finding_of s r packet r.question
 
@@ -162,8 +162,8 @@ manager_questions path found =
     then record { question = ask.Manager found.guid found.port; path = path; context = About found.guid } ∷ []
     else []
 
--- the question for the node behind a port, over `path` with the port appended; none if the sweep does not go on through
--- the port
+-- the question for NodeInfo of the node behind a port, over `path` with the port appended; none if the sweep does not
+-- go on through the port
 abbrev pub onward_questions : List ℕ → ℕ → ℕ → Onward → List Asking
 onward_questions path guid port Stays = []
 onward_questions path guid port Leads =
@@ -190,19 +190,19 @@ with_vertex (NewVertex v) reached = placed vertex_key v reached
 with_vertex (Port found) reached = reached
 
 -- the states, with the state of a port placed in order; unchanged if the state is None, which stands for a reserved
--- one, or if the port has a state already
+-- state, or if the port has a state already
 abbrev pub with_state_of : ℕ → ℕ → Option PortState → List SeenState → List SeenState
 with_state_of guid port None states = states
 with_state_of guid port (Some state) states =
     placed state_key (record { guid = guid; port = port; state = state }) states
 
--- the states, with the state that the finding has placed in order, if the finding is about a port
+-- the states, with the state in the finding placed in order; unchanged if the finding is not about a port
 abbrev pub with_state : Finding → List SeenState → List SeenState
 with_state Nothing states = states
 with_state (NewVertex v) states = states
 with_state (Port found) states = with_state_of found.guid found.port found.state states
 
--- 1 if a port leads too far, else 0
+-- 1 if a port leads too far (`TooFar`), else 0
 abbrev pub one_too_far : Onward → ℕ
 one_too_far Stays = 0
 one_too_far Leads = 0

@@ -9,8 +9,8 @@ use Rattle.sweep.specs.declared.request.Question.TheVariants as ask
 use Rattle.sweep.specs.declared.request.Request.{Request}
 use Rattle.sweep.specs.Order.{AreInOrder, found_at, placed}
 
--- whether images are kept; the images of PortInfo, by port, and the images of SwitchInfo, by port 0 of switches, each
--- list in the order of GUIDs and ports
+-- whether images are kept; the images of PortInfo, one for a port, and the images of SwitchInfo, one for port 0 of a
+-- switch. Each list is in the order of GUIDs and ports
 pub record Images : Type 0 where
   pub keeps : Bool
   pub ports : List SeenImage
@@ -24,7 +24,7 @@ image_key i = (i.guid, i.port)
 abbrev pub no_images : Bool → Images
 no_images keeps = record { keeps = keeps; ports = []; switches = [] }
 
--- the bytes of the image of a GUID and a port; None if there is no such image
+-- the bytes of the image with a GUID and a port; None if there is no such image
 abbrev pub image_at : List SeenImage → ℕ → ℕ → Option (List ℕ)
 image_at images guid port = option_map (λ i. i.bytes) (found_at image_key guid port images)
 
@@ -61,7 +61,7 @@ images_with images r packet = images_about images (about_of r.context) (payload_
 
 -- with memory ------------------------------------------------------------------------------------
 
--- the images that are kept, and for how many more of each kind there is memory
+-- the images that are kept, and the number of further images of each kind for which there is memory
 pub record ImageTable : Type 0 where
   pub kept : Images
   pub port_room : ℕ

@@ -17,8 +17,8 @@ is_before a b = nat_lt a.0 b.0 || (a.0 == b.0 && nat_lt a.1 b.1)
 abbrev pub AreInOrder : {T : Type 0} → (T → ℕ × ℕ) → List T → Type 0
 AreInOrder key items = AreOrdered (λ a b. is_before (key a) (key b) ≡ true) items
 
--- the items, which are in order, with `x` inserted in order; unchanged if an item with the GUID and port of `x` is
--- there
+-- the items, which must be in order, with `x` inserted in order; unchanged if there is an item with the GUID and port
+-- of `x` already
 abbrev pub placed : {T : Type 0} → (T → ℕ × ℕ) → T → List T → List T
 placed key x [] = x ∷ []
 placed key x (y ∷ ys) =
@@ -34,7 +34,7 @@ has_key key guid port x = (key x).0 == guid && (key x).1 == port
 abbrev pub found_at : {T : Type 0} → (T → ℕ × ℕ) → ℕ → ℕ → List T → Option T
 found_at key guid port items = find (has_key key guid port) items
 
--- `index` is that of the item with the GUID and port `at`; if there is no such item, the index at which it would be
--- inserted
+-- `index` is the index of the item with the GUID and port `at` or, if there is no such item, the index at which it
+-- would be inserted
 abbrev pub IsIndexFor : {T : Type 0} → (T → ℕ × ℕ) → ℕ × ℕ → List T → ℕ → Type 0
 IsIndexFor key at items index = IsIndex (λ x. is_before (key x) at) items index

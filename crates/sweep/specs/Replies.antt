@@ -31,7 +31,7 @@ belongs generation packet r =
     answers packet (transaction_of generation r.number) (attribute_asked r.question) (modifier_asked r.question)
     (Some r.path)
 
--- the waiting request that the reply `packet` belongs to; None if it belongs to none
+-- the waiting request that the reply `packet` belongs to; None if there is no such request
 abbrev pub request_of : Sweep → List ℕ → Option Request
 request_of s packet = find (belongs s.generation packet) s.outstanding
 
@@ -41,8 +41,8 @@ request_of s packet = find (belongs s.generation packet) s.outstanding
 abbrev pub report_for : Sweep → Request → List ℕ → Report
 report_for s r packet = record { generation = s.generation; context = r.context; bytes = packet }
 
--- the fault of a reply to a question; None if the reply has no fault. The data of SMInfo are not judged, since a
--- manager may say anything of itself
+-- the fault of a reply to a question; None if the reply has no fault. The data of SMInfo are not checked, since a
+-- manager may say anything about itself
 abbrev pub fault_by : Question → Report → Option ReportFault
 fault_by ask.Node report = report_fault report
 fault_by ask.Switch report = report_fault report
@@ -68,22 +68,25 @@ answer_for s r packet = answer_by r.question (report_for s r packet)
 abbrev pub is_spent : Sweep → Request → List ℕ → Bool
 is_spent s r packet = nat_lt (2 ^ 32) (s.next + length (questions r.path (finding s r packet)))
 
--- the answer in the reply to the request `r`, or why the sweep refuses it: the given fault, or `SequenceSpent`
+-- the answer in the reply `packet` to the request `r`, or why the sweep refuses the reply: `Bad` with the given
+-- fault, if any, or else `SequenceSpent`
 abbrev pub judged_by : Sweep → Request → List ℕ → Option ReportFault → Result Answer SweepFault
 judged_by s r packet (Some why) = Err (Bad why)
 judged_by s r packet None = if is_spent s r packet then Err SequenceSpent else Ok (answer_for s r packet)
 
--- the answer in the reply, or why the sweep refuses it; `NotOutstanding` if the reply belongs to no waiting request
+-- the answer in the reply `packet` to the given request, or why the sweep refuses the reply: `NotOutstanding` if
+-- there is no request
 abbrev pub judged_for : Sweep → List ℕ → Option Request → Result Answer SweepFault
 judged_for s packet None = Err NotOutstanding
 judged_for s packet (Some r) = judged_by s r packet (fault_for s r packet)
 
--- the answer in the reply, or why the sweep refuses it, given the fault that its bytes have as a packet
+-- the answer in the reply `packet`, or why the sweep refuses the reply; the given fault is the one that its bytes
+-- have as a packet
 abbrev pub judged_as : Sweep → List ℕ → Option SmpFault → Result Answer SweepFault
 judged_as s packet (Some why) = Err (Bad (fault.Smp why))
 judged_as s packet None = judged_for s packet (request_of s packet)
 
--- the answer in the reply `packet`, or why the sweep refuses it, except for lack of memory
+-- the answer in the reply `packet`, or why the sweep refuses the reply, lack of memory aside
 abbrev pub judged : Sweep → List ℕ → Result Answer SweepFault
 judged s packet = judged_as s packet (fault_of packet)
 

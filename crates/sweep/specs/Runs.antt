@@ -25,18 +25,18 @@ step s Sends = (after_next_request s).sweep
 step s (Hears packet) = heard s packet (judged s packet)
 step s (TimesOut transaction) = after_timeout s transaction
 
--- the number of the first request; none if there is no request
+-- the number of the first request, as a list; empty if there is no request
 abbrev pub first_number : List Request → List ℕ
 first_number [] = []
 first_number (r ∷ queued) = r.number ∷ []
 
--- the number of the request that is sent by the event; none if no request is sent
+-- the number of the request that is sent by the event, as a list; empty if no request is sent
 abbrev pub number_sent : Sweep → Event → List ℕ
 number_sent s Sends = first_number s.queued
 number_sent s (Hears packet) = []
 number_sent s (TimesOut transaction) = []
 
--- the numbers of the requests that are sent by the events, in turn
+-- the numbers of the requests that are sent by the events, in order
 abbrev pub numbers_sent : Sweep → List Event → List ℕ
 numbers_sent s [] = []
 numbers_sent s (e ∷ events) = number_sent s e ++ numbers_sent (step s e) events
@@ -67,12 +67,12 @@ abbrev pub after : Sweep → List Event → Sweep
 after s [] = s
 after s (e ∷ events) = after (step s e) events
 
--- the number of requests that have not been answered: those that timed out, wait, or are still queued
+-- the number of requests that have not been answered: they timed out, wait, or are still queued
 abbrev pub unended : Sweep → ℕ
 unended s = s.unanswered + (length s.outstanding + length s.queued)
 
 -- whatever happens to a sweep, the requests that were answered, timed out, wait or are queued are together as many as
--- the numbers given from `first` on
+-- the numbers that were given to requests, from `first` on
 abbrev pub EachCounts : Type 0
 EachCounts =
     (origin generation first : ℕ) (keeps : Bool) (events : List Event) →
@@ -120,7 +120,8 @@ abbrev pub managers_heard : Sweep → List Event → ℕ
 managers_heard s [] = 0
 managers_heard s (e ∷ events) = manager_heard s e + managers_heard (step s e) events
 
--- whatever happens to a sweep, as many requests for SMInfo were sent as were answered, wait, or timed out
+-- whatever happens to a sweep, the requests for SMInfo that were sent are as many as those that were answered, wait,
+-- or timed out
 abbrev pub EachManagerCounts : Type 0
 EachManagerCounts =
     (origin generation first : ℕ) (keeps : Bool) (events : List Event) →

@@ -17,10 +17,10 @@ use Rattle.request_table.specs.Numbers as numbers
 use Rattle.sweep.specs.Images.{Images, image_at, no_images}
 use Rattle.sweep.specs.Order.{AreInOrder, found_at}
 
--- the port that the sweep starts from, and its generation; the number of its next request; the requests that are queued
--- and those that wait, each list in ascending order of number; the vertices that were reached and the states of ports
--- that were seen, in the order of GUIDs and ports; the images; the number of requests that timed out, and of those
--- among them that were for SMInfo; and the number of ports that lead too far
+-- the port that the sweep starts from, and its generation; the number of its next request; the requests that are
+-- queued and those that wait, each list in ascending order of number; the vertices that were reached and the states
+-- of ports that were seen, in the order of GUIDs and ports; the images; the number of requests that timed out, and
+-- the number of these that were for SMInfo; and the number of ports that lead too far
 pub record Sweep : Type 0 where
   pub origin : ℕ
   pub generation : ℕ
@@ -113,13 +113,13 @@ started origin generation first keeps = asking (empty_sweep origin generation fi
 
 -- sending and waiting ----------------------------------------------------------------------
 
--- a sweep once its next request was sent, and the request's packet; None if nothing was queued
+-- a sweep after its next request was sent, and the packet of the request; the packet is None if no request was queued
 pub record Sent : Type 0 where
   pub sweep : Sweep
   pub packet : Option (List ℕ)
 
--- the sweep once the first request of the given queue was sent and waits, and its packet; unchanged and None if the
--- queue is empty
+-- the sweep after the first request of the given queue was sent, which now waits, and the packet of the request; the
+-- sweep unchanged and None if the queue is empty
 abbrev pub after_next_request_of : Sweep → List Request → Sent
 after_next_request_of s [] = record { sweep = s; packet = None }
 after_next_request_of s (r ∷ queued) =
@@ -129,7 +129,8 @@ after_next_request_of s (r ∷ queued) =
           Some (packet_of s.generation r);
     }
 
--- the sweep once its next request was sent and waits, and the request's packet; unchanged and None if nothing is queued
+-- the sweep after its next request was sent, which now waits, and the packet of the request; the sweep unchanged and
+-- None if no request is queued
 abbrev pub after_next_request : Sweep → Sent
 after_next_request s = after_next_request_of s s.queued
 
@@ -146,7 +147,7 @@ abbrev pub timeout_fault : Sweep → ℕ → Option SweepFault
 timeout_fault s transaction =
     if is_some (request_with s.generation transaction s.outstanding) then None else Some NotOutstanding
 
--- the sweep once the given request timed out; unchanged if there is none
+-- the sweep after the given request timed out; unchanged if it is None
 abbrev pub after_timeout_of : Sweep → Option Request → Sweep
 after_timeout_of s None = s
 after_timeout_of s (Some r) =
@@ -156,8 +157,8 @@ after_timeout_of s (Some r) =
       silent_managers = s.silent_managers + managers_asked r.question;
     }
 
--- the sweep once the request with the TransactionID `transaction` timed out. The request no longer waits and counts as
--- unanswered; if it was for SMInfo, its manager counts as silent. Unchanged if no such request waits
+-- the sweep after the request with the TransactionID `transaction` timed out. The request no longer waits and counts
+-- as unanswered; if it was for SMInfo, its manager counts as silent. Unchanged if no such request waits
 abbrev pub after_timeout : Sweep → ℕ → Sweep
 after_timeout s transaction = after_timeout_of s (request_with s.generation transaction s.outstanding)
 
@@ -216,11 +217,11 @@ switch_image s guid = image_at s.images.switches guid 0
 
 -- what holds of each sweep ---------------------------------------------------------------------
 
--- the numbers of the requests rise, are at least `least`, and are below `next`
+-- the numbers of the requests rise, each is at least `least`, and all are below `next`
 abbrev pub AreRising : ℕ → List Request → ℕ → Type 0
 AreRising least requests next = numbers.AreRising (λ r. r.number) least requests next
 
--- what is true of each sweep. The numbers of the waiting requests, followed by those of the queue, rise and are below
+-- what holds of every sweep. The numbers of the waiting requests, followed by those of the queue, rise and are below
 -- `next`, which is at most 2^32. Vertices and states are in order. Requests that timed out, ports that lead too far,
 -- and requests that wait or are queued are together at most `next`. There are at most as many silent managers as
 -- requests that timed out

@@ -3,16 +3,16 @@ use Rattle.std.specs.Prelude.{◌≡◌, ℕ, ◌+◌, ◌≤◌, List, ◌++◌
 use Rattle.sweep.specs.declared.request.Request.{Request}
 use Rattle.sweep.specs.Sweep.{Asking, numbered}
 
--- the number of a sweep's next request, the requests that wait, those that are queued, and for how many more there is
--- memory
+-- the number of a sweep's next request, the requests that wait, the requests that are queued, and the number of
+-- further requests for which there is memory
 pub record SweepRequests : Type 0 where
   pub next : ℕ
   pub outstanding : List Request
   pub queued : List Request
   pub room : ℕ
 
--- `new` is `old` with the questions `asked` queued; there is memory for at most as many fewer requests as there are
--- questions
+-- `new` is `old` with the questions `asked` queued; the number of further requests for which there is memory falls by
+-- at most the number of questions
 pub record HasAsked (asked : List Asking) (old new : SweepRequests) : Type 0 where
   pub next : new.next ≡ old.next + length asked
   pub outstanding : new.outstanding ≡ old.outstanding

@@ -6,8 +6,8 @@ use Rattle.sweep.specs.Sweep.{numbered, without_number}
 use Rattle.sweep.specs.Finding.{questions, IsWithinReach}
 use Rattle.sweep.specs.SweepRequests.{SweepRequests}
 
--- the request at `index` waits. At most 256 questions follow from the finding `found` of its reply, and there are
--- numbers and memory for them
+-- the request at `index` waits. At most 256 questions follow from the finding `found` of its reply, there are numbers
+-- and memory for them, and none needs a path of over 63 ports
 pub record CanTake (requests : SweepRequests) (index : ℕ) (found : Finding) : Type 0 where
   pub request : Request
   pub waits : slice_get requests.outstanding index ≡ Some request
@@ -16,8 +16,8 @@ pub record CanTake (requests : SweepRequests) (index : ℕ) (found : Finding) : 
   pub room : length (questions request.path found) ≤ requests.room
   pub number : requests.next + length (questions request.path found) ≤ 2 ^ 32
 
--- `new` is `old` once the request at `index` no longer waits and the questions that follow from the finding `found`
--- were queued
+-- `new` is `old` after the request at `index` was removed and the questions that follow from the finding `found` were
+-- queued
 pub record HasTaken (index : ℕ) (found : Finding) (old new : SweepRequests) : Type 0 where
   pub request : Request
   pub waited : slice_get old.outstanding index ≡ Some request

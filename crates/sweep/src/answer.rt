@@ -7,7 +7,7 @@ use smp_bytes::{Guid, PortNum};
 pub enum Answer {
     /// Facts: a report for a store to ingest.
     Facts(Report),
-    /// The GUID and the port of the adapter at which a manager was asked, and the SMInfo that the manager answered
+    /// The GUID of an adapter and its port at which a manager was asked, and the SMInfo that the manager answered
     /// with.
     Seen(Guid, PortNum, SmInfo),
 }

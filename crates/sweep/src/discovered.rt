@@ -65,7 +65,7 @@ fn state_of(seen: Option<SeenState>) -> Option<PortState>
     }
 }
 
-/// Returns whether there is a vertex at `index`, with `guid` and `port`.
+/// Returns whether there is a vertex at `index`, and it has `guid` and `port`.
 fn is_vertex(vertices: &[Vertex], index: usize, guid: Guid, port: PortNum) -> bool
     ensures { result ≡ passes_at (has_key vertex_key guid port) vertices.now index }
 {
@@ -75,7 +75,7 @@ fn is_vertex(vertices: &[Vertex], index: usize, guid: Guid, port: PortNum) -> bo
     }
 }
 
-/// Returns whether there is a vertex at `index`, with `guid`.
+/// Returns whether there is a vertex at `index`, and it has `guid`.
 fn is_vertex_of(vertices: &[Vertex], index: usize, guid: Guid) -> bool
     ensures { result ≡ passes_at (λ r. r.guid == guid) vertices.now index }
 {
@@ -147,7 +147,8 @@ impl Discovered {
         self.seen.reserve(1)
     }
 
-    /// Returns the first vertex of the node `guid`, or `None` if the node was not reached. Does a binary search.
+    /// Returns the first vertex of the node `guid`, or `None` if the node was not reached. The vertices must be in
+    /// order. Does a binary search.
     pub(crate) fn first_of(&self, guid: Guid) -> Option<&Vertex>
         requires { AreInOrder vertex_key self.now.reached }
         ensures { option_copied result ≡ first_vertex self.now.reached guid }
@@ -155,7 +156,8 @@ impl Discovered {
         first_of(&self.vertices, guid)
     }
 
-    /// Returns the vertex with `guid` and `port`, or `None` if the vertex was not reached. Does a binary search.
+    /// Returns the vertex with `guid` and `port`, or `None` if the vertex was not reached. The vertices must be in
+    /// order. Does a binary search.
     pub(crate) fn vertex(&self, guid: Guid, port: PortNum) -> Option<&Vertex>
         requires { AreInOrder vertex_key self.now.reached }
         ensures { option_copied result ≡ vertex_at self.now.reached guid port }
@@ -163,8 +165,8 @@ impl Discovered {
         vertex_at(&self.vertices, guid, port)
     }
 
-    /// Returns the state of `port` of the node `guid`, or `None` if no state of the port was seen. Does a binary
-    /// search.
+    /// Returns the state of `port` of the node `guid`, or `None` if no state of the port was seen. The states must be
+    /// in order. Does a binary search.
     pub(crate) fn state(&self, guid: Guid, port: PortNum) -> Option<PortState>
         requires { AreInOrder state_key self.now.states }
         ensures { result ≡ state_at self.now.states guid port }
@@ -172,8 +174,9 @@ impl Discovered {
         state_of(item_at(&self.seen, guid, port))
     }
 
-    /// Adds the vertex or the state of `finding`, unless there is one for its GUID and port already. Counts the port if
-    /// it leads too far. There must be room for a vertex and a state. Does not allocate.
+    /// Adds the vertex or the state of `finding`, unless there is one for its GUID and port already. Counts the port
+    /// if it leads too far. Vertices and states must be in order, with memory for one more of each, and fewer than
+    /// 2^32 ports may be counted so far. Does not allocate.
     pub(crate) fn put(&mut self, finding: Finding)
         requires reached { AreInOrder vertex_key self.old.reached }
         requires states { AreInOrder state_key self.old.states }
@@ -197,8 +200,8 @@ impl Discovered {
     }
 }
 
-/// Inserts `vertex` in order, unless one with its GUID and port is there already. `vertices` must be in order and have
-/// room.
+/// Inserts `vertex` in order, unless there is a vertex with its GUID and port already. `vertices` must be in order,
+/// and have memory for one more vertex.
 fn put_vertex(vertices: &mut Vec<Vertex>, vertex: Vertex)
     requires order { AreInOrder vertex_key vertices.old.items }
     requires room { vec_len vertices.old < vec_capacity vertices.old }
@@ -214,8 +217,8 @@ fn put_vertex(vertices: &mut Vec<Vertex>, vertex: Vertex)
     }
 }
 
-/// Inserts in order the state in `found`, unless its number is reserved or the port has a state already. `states` must
-/// be in order and have room.
+/// Inserts the state in `found` in order, unless the state is `None` or the port has a state already. `states` must
+/// be in order, and have memory for one more state.
 fn put_state_of(states: &mut PageList<SeenState>, found: &PortFinding)
     requires order { AreInOrder state_key states.old.items }
     requires room { 0 < states.old.room }

@@ -8,7 +8,7 @@ pub(crate) trait Keeper {
     /// The keeper with `sightings` added.
     ghost kept: { Self → Sightings → Self };
 
-    /// Adds all of `sightings`, or none if memory runs out.
+    /// Adds all of `sightings`, or none of them if an error is returned.
     fn keep(&mut self, sightings: &[Sighting]) -> Result<(), Refused>
         ensures ok { OnOk result (self.new ≡ kept self.old sightings.now) }
         ensures err { OnErr result (self.new ≡ self.old) };

@@ -7,13 +7,13 @@ use thiserror::Error;
 /// Why a sweep refuses a call. A refused call leaves the sweep as it was.
 #[derive(Clone, Copy, Debug, PartialEq, Eq, Error)]
 pub enum SweepFault {
-    /// The reply, or the TransactionID that timed out, belongs to no request that waits.
+    /// No waiting request belongs to the reply, or has the TransactionID that timed out.
     #[error("NotOutstanding")]
     NotOutstanding,
     /// The bytes are not a packet, or facts or SMInfo cannot be read from the reply.
     #[error("{0}")]
     Bad(ReportFault),
-    /// A request that follows from the reply needs a number over 4294967295.
+    /// A request that follows from the reply would need a number above 4294967295.
     #[error("SequenceSpent")]
     SequenceSpent,
     /// Memory ran out.

@@ -18,7 +18,7 @@ pub(crate) enum Finding {
     Nothing,
     /// A new node, or another port of an adapter.
     NewVertex(Vertex),
-    /// What a reply about a port adds.
+    /// The state of a port, and what the sweep asks next because of it.
     Port(PortFinding),
 }
 
@@ -29,7 +29,7 @@ pub(crate) struct PortFinding {
     pub(crate) port: PortNum,
     /// The state, or `None` if its number is reserved.
     pub(crate) state: Option<PortState>,
-    /// Whether to ask the manager that sits at the port for SMInfo.
+    /// Whether to ask for SMInfo of the manager that sits at the port.
     pub(crate) asks_manager: bool,
     pub(crate) onward: Onward,
 }
@@ -37,7 +37,7 @@ pub(crate) struct PortFinding {
 /// Whether a sweep goes on by a port.
 #[derive(Clone, Copy, Debug, PartialEq, Eq)]
 pub(crate) enum Onward {
-    /// The port is not up, or the sweep does not go on by the port.
+    /// The port is not up, or is not one by which the sweep goes on.
     Stays,
     /// The sweep asks the node at the far end of the port's wire.
     Leads,
@@ -108,7 +108,7 @@ impl Sweep {
         }
     }
 
-    /// Returns what NodeInfo over `path` adds: a new node, another port of an adapter, or nothing.
+    /// Returns what the NodeInfo `info`, read over `path`, adds: a new node, another port of an adapter, or nothing.
     fn node_found(&self, path: &Path<63>, info: &NodeInfo) -> Finding
         ensures { result ≡ node_found self.now path.now info.now }
     {
@@ -151,7 +151,7 @@ impl Sweep {
         has_manager(info) && !path.is_empty() && self.is_of_adapter(guid)
     }
 
-    /// Returns whether the node `guid` was reached, and its first reply reported that it is not a switch.
+    /// Returns whether the node `guid` was reached, and is not a switch by its first reply.
     fn is_of_adapter(&self, guid: Guid) -> bool
         ensures { result ≡ is_of_adapter self.now guid }
     {
@@ -173,7 +173,7 @@ impl Sweep {
         }
     }
 
-    /// Returns whether `info` says that `port` is up, and the sweep goes on by `port`.
+    /// Returns whether `info` says that `port` is up, and `port` is one by which the sweep goes on (`goes_by`).
     fn leads_on(&self, path: &Path<63>, guid: Guid, port: PortNum, info: &PortInfo) -> bool
         ensures { result ≡ leads_on self.now path.now guid port info.now }
     {
@@ -203,8 +203,8 @@ fn has_manager(info: &PortInfo) -> bool
     info.is_sm()
 }
 
-/// Returns the vertex of a node that answered: a switch with port 0, an adapter with the port at which the request
-/// arrived.
+/// Returns the vertex of a node that answered. Its port is 0 for a switch. For an adapter, it is the port at which
+/// the request arrived.
 fn vertex_of(path: &Path<63>, info: &NodeInfo, kind: NodeType, ports: u8) -> Vertex
     ensures { result ≡ vertex_of path.now info.now kind ports }
 {

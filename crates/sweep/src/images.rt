@@ -11,7 +11,8 @@ use smp_bytes::{Guid, PortNum};
 use std::alloc::{AllocError, Global};
 use std::marker::Model;
 
-/// The 64 bytes of an attribute in a reply: PortInfo of a port, or SwitchInfo of a switch (under port 0).
+/// The 64 bytes of an attribute in a reply: PortInfo of a port, or SwitchInfo of a switch. The port of a SwitchInfo
+/// is 0.
 #[derive(Clone, Copy, Debug, PartialEq, Eq)]
 pub struct SeenImage {
     pub guid: Guid,
@@ -79,10 +80,10 @@ impl Images {
         Ok(())
     }
 
-    /// Adds `bytes`, the attribute in a reply to `question`, as the image of a port or a switch. Does nothing if images
-    /// are not kept, if `question` is for neither PortInfo nor SwitchInfo, if `context` is not `About` a node, or if
-    /// there is an image of that port or switch already. If images are kept, there must be room for one more of each
-    /// kind. Does not allocate.
+    /// Adds `bytes`, the attribute in a reply to `question`, as the image of a port or a switch. Does nothing if
+    /// images are not kept, if `question` is for neither PortInfo nor SwitchInfo, if `context` is not `About` a node,
+    /// or if there is an image of that port or switch already. If images are kept, there must be memory for one more
+    /// of each kind. Does not allocate.
     pub(crate) fn put(&mut self, question: Question, context: &Context, bytes: &[u8; 64])
         requires { HasImageRoom self.old }
         ensures { self.new.kept
@@ -129,8 +130,8 @@ impl Images {
     }
 }
 
-/// Inserts `image` in order if `keeps`, unless its port has an image already. `images` must be in order and, if
-/// `keeps`, have room.
+/// Inserts `image` in order if `keeps`, unless there is an image with its GUID and port already. `images` must be in
+/// order. If `keeps`, there must be memory for one more image.
 fn put_image(keeps: bool, images: &mut PageList<SeenImage>, image: SeenImage)
     requires order { AreInOrder image_key images.old.items }
     requires room { keeps ≡ true → 1 ≤ images.old.room }

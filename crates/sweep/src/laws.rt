@@ -7,14 +7,14 @@ pub fn numbers_rise()
     ensures { NumbersRise }
 {}
 
-/// The requests that were answered, timed out, wait or are to be sent are as many as the numbers that were given. If
-/// nothing waits or is to be sent, each request was answered or counts as unanswered.
+/// The requests that were answered, timed out, wait or are to be sent are together as many as the numbers that the
+/// sweep has given to requests. So if no request waits or is to be sent, each was answered or timed out.
 pub fn each_request_counts()
     ensures { EachCounts }
 {}
 
-/// A sweep has sent as many requests for SMInfo as were answered, wait, or count as silent managers. In a sweep that is
-/// done, as many managers as were asked have answered or count as silent.
+/// A sweep has sent as many requests for SMInfo as were answered, wait for a reply, or count as silent managers. So
+/// once a sweep is done, each manager that was asked has answered or counts as silent.
 #[tactic(auto, using(crate::proofs::Managers::each_manager_counts))]
 pub fn each_manager_counts()
     ensures { EachManagerCounts }

@@ -1,4 +1,4 @@
-//! Discovery of a subnet as a state machine: the caller asks what to send, and passes in what comes back. The state
+//! Discovery of a subnet as a state machine: the caller asks it what to send, and passes in the replies. The state
 //! machine does no input or output itself.
 #![tactic(auto)]
 

@@ -33,7 +33,7 @@ pub(crate) struct Accepted {
 }
 
 impl Sweep {
-    /// Returns what `on_reply_into` would return, except for lack of memory.
+    /// Returns what `on_reply_into` would return for the reply `smp` if memory did not run out.
     pub fn judge(&self, smp: &Smp) -> Result<Answer, SweepFault>
         ensures { result ≡ judged self.now smp.now }
     {
@@ -44,15 +44,17 @@ impl Sweep {
     }
 
     /// Takes the reply to a request that waits, and queues the requests that follow from the reply. For a new switch
-    /// these ask for SwitchInfo and for PortInfo of each of its ports. For a new adapter port the request asks for its
-    /// PortInfo. After PortInfo of a port, a request asks the manager there for SMInfo, if that manager is to be asked.
-    /// Then a request asks the node at the far end for NodeInfo, if the sweep goes on there.
+    /// these ask for SwitchInfo and for PortInfo of each of its ports. For a new adapter port, one asks for the
+    /// PortInfo of this port. After PortInfo of a port, one asks the manager there for SMInfo, if this manager is to
+    /// be asked. Then one asks the node at the far end of the port's wire for NodeInfo, if the sweep goes on by the
+    /// port.
     ///
     /// # Errors
     ///
-    /// Returns the first of these that applies: `Bad` if the bytes are not a packet; `NotOutstanding` if no request
-    /// waits for them; `Bad` if facts cannot be read from the reply, or if a reply with SMInfo is not an answer with
-    /// status 0; `SequenceSpent` if no number is left for a request that follows; `Memory`.
+    /// Returns the first of these that applies: `Bad` if the bytes are not a packet; `NotOutstanding` if no waiting
+    /// request has the TransactionID, attribute, modifier and path of the reply; `Bad` if facts cannot be read from
+    /// the reply, or if a reply with SMInfo is not an answer with status 0; `SequenceSpent` if no number is left for
+    /// a request that follows; `Memory` if memory runs out. If an error is returned, the sweep is unchanged.
     pub fn on_reply(&mut self, bytes: &[u8; 256]) -> Result<Answer, SweepFault>
         ensures judged { JudgesButFor is_memory result (result_err (judged self.old bytes.now)) }
         ensures answer { IfOk result (λ answer. judged self.old bytes.now ≡ Ok answer) }
@@ -66,8 +68,8 @@ impl Sweep {
         }
     }
 
-    /// Takes the reply `smp` to a request that waits, as `on_reply` does, and adds its facts to `store`. If an error is
-    /// returned, `store` is unchanged.
+    /// Takes the reply `smp` to a request that waits, as `on_reply` does, and adds its facts to `store`. If an error
+    /// is returned, the sweep and `store` are unchanged.
     pub fn on_reply_into(&mut self, smp: &Smp, store: &mut Store) -> Result<Answer, SweepFault>
         ensures judged { JudgesButFor is_memory result (result_err (judged self.old smp.now)) }
         ensures answer { IfOk result (λ answer. judged self.old smp.now ≡ Ok answer) }
@@ -81,7 +83,8 @@ impl Sweep {
         self.take_into(smp, store)
     }
 
-    /// Takes the reply `smp`, and passes its facts to `keeper`. If an error is returned, `keeper` is unchanged.
+    /// Takes the reply `smp`, and adds its facts to `keeper`. If an error is returned, the sweep and `keeper` are
+    /// unchanged.
     fn take_into<K: Keeper>(&mut self, smp: &Smp, keeper: &mut K) -> Result<Answer, SweepFault>
         ensures judged { JudgesButFor is_memory result (result_err (judged self.old smp.now)) }
         ensures answer { IfOk result (λ answer. judged self.old smp.now ≡ Ok answer) }
@@ -104,7 +107,7 @@ impl Sweep {
         Ok(accepted.answer)
     }
 
-    /// Returns the reply `smp` as accepted, with its request and what it adds, or the first reason to refuse the reply.
+    /// Returns the accepted reply `smp`, with its request and what it adds, or the first reason to refuse the reply.
     fn accept(&self, smp: &Smp) -> Result<Accepted, SweepFault>
         ensures ok { IfOk result (λ accepted. IsAccepted self.now smp.now accepted) }
         ensures err { IfErr result (λ fault. judged self.now smp.now ≡ Err fault) }
@@ -137,8 +140,8 @@ impl Sweep {
         })
     }
 
-    /// Returns the facts in `smp`, the reply to `request`, or the first fault of the reply. SMInfo has no facts,
-    /// whatever it says.
+    /// Returns the facts in `smp`, the reply to `request`, or the first fault of the reply. A reply with SMInfo has
+    /// no facts. The bytes of `smp` must be a packet without fault.
     fn sightings_by(
         &self,
         request: &Request,

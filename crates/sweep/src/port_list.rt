@@ -14,7 +14,7 @@ pub(crate) trait OfPort: Copy {
         ensures { result ≡ key self.now };
 }
 
-/// Returns whether `a` comes before `b`: by GUID, and for equal GUIDs by port.
+/// Returns whether `a` comes before `b`: its GUID is less, or the GUIDs are equal and its port is less.
 pub(crate) fn is_before(a: (Guid, PortNum), b: (Guid, PortNum)) -> bool
     ensures { result ≡ is_before a b }
 {
@@ -41,7 +41,7 @@ fn index_for<T: OfPort>(items: &PageList<T>, guid: Guid, port: PortNum) -> usize
     low
 }
 
-/// Returns whether there is an item at `index`, with `guid` and `port`.
+/// Returns whether there is an item at `index`, and it has `guid` and `port`.
 fn is_at<T: OfPort>(items: &PageList<T>, index: usize, guid: Guid, port: PortNum) -> bool
     ensures { result ≡ passes_at (has_key T.key guid port) items.now.items index }
 {
@@ -67,8 +67,8 @@ pub(crate) fn item_at<T: OfPort>(items: &PageList<T>, guid: Guid, port: PortNum)
     }
 }
 
-/// Inserts `item` in order, unless its port has an item already. `items` must be in order and have room. Moves at most
-/// a page.
+/// Inserts `item` in order, unless there is an item with its GUID and port already. `items` must be in order, and
+/// have memory for one more item. Moves at most a page of items.
 pub(crate) fn put<T: OfPort>(items: &mut PageList<T>, item: T)
     requires order { AreInOrder T.key items.old.items }
     requires room { 0 < items.old.room }

@@ -16,7 +16,7 @@ pub enum Question {
     Switch,
     /// PortInfo of a port of the node.
     Port(PortNum),
-    /// SMInfo of the manager at this port of the adapter with this GUID.
+    /// SMInfo of the manager at the adapter with this GUID and at this port.
     Manager(Guid, PortNum),
 }
 
@@ -28,7 +28,7 @@ pub struct Request {
     pub question: Question,
     /// The ports that lead to the node.
     pub path: Path<63>,
-    /// The context in the report of the reply.
+    /// The context that the report of the reply will have.
     pub context: Context,
 }
 
@@ -47,8 +47,8 @@ pub(crate) fn transaction_of(generation: Generation, number: u32) -> u64
     u64::from(generation.number()) * 0x1_0000_0000 + u64::from(number)
 }
 
-/// Returns how far `transaction` is above the least TransactionID of `generation`, or 0 if `transaction` is below that
-/// one.
+/// Returns how far `transaction` is above the least TransactionID of `generation`, or 0 if `transaction` is not above
+/// it.
 pub(crate) fn sequence_of(generation: Generation, transaction: u64) -> u64
     ensures { result ≡ transaction - generation * 2 ^ 32 }
 {
@@ -68,7 +68,7 @@ impl Question {
         }
     }
 
-    /// Returns the attribute modifier: the port for PortInfo, otherwise 0.
+    /// Returns the attribute modifier: the number of the port for PortInfo, and otherwise 0.
     pub(crate) fn modifier(self) -> u32
         ensures { result ≡ modifier_asked self }
     {
@@ -106,7 +106,7 @@ impl Request {
     }
 
     /// Returns whether `smp` has the TransactionID, attribute, modifier and path of the request in a sweep of
-    /// `generation`. The method and the status of `smp` are not looked at.
+    /// `generation`. Ignores the method and the status of `smp`.
     pub(crate) fn is_answered_by(&self, generation: Generation, smp: &Smp) -> bool
         ensures { result ≡ belongs generation smp.now self.now }
     {

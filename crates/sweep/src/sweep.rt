@@ -26,7 +26,7 @@ pub struct Sweep {
     pub(crate) found: Discovered,
     pub(crate) images: Images,
     pub(crate) unanswered: u64,
-    /// The number of unanswered requests that were for SMInfo.
+    /// The number of requests for SMInfo that timed out.
     pub(crate) silent_managers: u64,
 }
 
@@ -167,8 +167,8 @@ impl Sweep {
         self.found.too_far()
     }
 
-    /// Returns the vertices that were reached, in ascending order of GUID and port: a switch with port 0, an adapter
-    /// with each port that was reached.
+    /// Returns the vertices that were reached, in ascending order of GUID and port: one with port 0 for each switch,
+    /// and one for each port of an adapter that was reached.
     pub fn reached(&self) -> &[Vertex]
         ensures { result.now ≡ self.now.reached }
     {
@@ -184,16 +184,16 @@ impl Sweep {
         Some(&vertex.path)
     }
 
-    /// Returns the state of a port in the first reply about the port with a state that is not reserved. Returns `None`
-    /// if there was no such reply. Does a binary search among the states.
+    /// Returns the state of `port` of the node `guid`, as the first reply with a state that is not reserved reported
+    /// it. Returns `None` if there was no such reply. Does a binary search among the states.
     pub fn seen_state(&self, guid: Guid, port: PortNum) -> Option<PortState>
         ensures { result ≡ seen_state self.now guid port }
     {
         self.found.state(guid, port)
     }
 
-    /// Returns the PortInfo in the first reply about a port, or `None` if the port's PortInfo is not kept. Does a
-    /// binary search.
+    /// Returns the PortInfo in the first reply about `port` of the node `guid`, or `None` if this PortInfo is not
+    /// kept. Does a binary search.
     pub fn port_image(&self, guid: Guid, port: PortNum) -> Option<PortInfo>
         ensures { result ≡ port_image self.now guid port }
     {

@@ -20,8 +20,8 @@ use smp_bytes::{Generation, Guid, Path, PortNum, Smp};
 use std::alloc::{AllocError, Global};
 use std::marker::Model;
 
-/// The maximum number of requests that follow from a reply. A new switch is asked for SwitchInfo, for PortInfo of port
-/// 0, and for PortInfo of each other port, of at most 254.
+/// The maximum number of requests that follow from a reply. A new switch is asked for SwitchInfo, for PortInfo of
+/// port 0, and for PortInfo of each of its other ports, which are at most 254.
 pub const REQUESTS_PER_REPLY: usize = 256;
 
 /// The requests of a sweep. Contracts see the requests that wait for a reply, the requests to be sent, the number of
@@ -94,7 +94,8 @@ impl SweepRequests {
         self.table.get(self.sent)
     }
 
-    /// Lets the next request to be sent wait for its reply. There must be a request to be sent.
+    /// Marks the next request to be sent as sent, so that it waits for its reply. Fewer than 2^32 requests must wait.
+    /// There must be a request to be sent.
     pub(crate) fn send(&mut self)
         requires queued { 0 < length self.old.queued }
         requires few { length self.old.outstanding < 2 ^ 32 }
@@ -118,7 +119,8 @@ impl SweepRequests {
         }
     }
 
-    /// Returns the number of requests whose TransactionID in `generation` is below `transaction`. Does a binary search.
+    /// Returns the number of requests, waiting or to be sent, whose TransactionID in a sweep of `generation` is below
+    /// `transaction`. Does a binary search.
     fn count_below(&self, generation: Generation, transaction: u64) -> usize
         ensures index { IsIndex (λ r. nat_lt r.number (transaction - generation * 2 ^ 32))
             (self.now.outstanding ++ self.now.queued) result }
@@ -128,8 +130,8 @@ impl SweepRequests {
         self.table.count_below(sequence_of(generation, transaction))
     }
 
-    /// Returns the index of the waiting request with the TransactionID `transaction`, or `None` if no such request
-    /// waits. Does a binary search.
+    /// Returns the index of the waiting request that has the TransactionID `transaction` in a sweep of `generation`,
+    /// or `None` if no such request waits. Does a binary search.
     pub(crate) fn index_of(&self, generation: Generation, transaction: u64) -> Option<usize>
         ensures { IsIndexFor (request_with generation transaction self.now.outstanding)
             self.now.outstanding result }
@@ -143,8 +145,8 @@ impl SweepRequests {
         }
     }
 
-    /// Returns the index of the waiting request that `smp` answers, or `None` if no such request waits. Does a binary
-    /// search.
+    /// Returns the index of the waiting request that `smp` answers in a sweep of `generation`, or `None` if no such
+    /// request waits. Does a binary search.
     pub(crate) fn index_for(&self, generation: Generation, smp: &Smp) -> Option<usize>
         ensures { IsIndexFor (find (belongs generation smp.now) self.now.outstanding)
             self.now.outstanding result }
@@ -158,7 +160,7 @@ impl SweepRequests {
         }
     }
 
-    /// Removes and returns the waiting request at `index`, which must be there.
+    /// Removes and returns the waiting request at `index`. There must be one.
     pub(crate) fn end(&mut self, index: usize) -> Request
         requires { index < length self.old.outstanding }
         ensures request { Some result ≡ slice_get self.old.outstanding index }
@@ -172,8 +174,8 @@ impl SweepRequests {
         self.table.end(index)
     }
 
-    /// Appends a request to the queue under the next number. There must be room and a number for the request. Does not
-    /// allocate.
+    /// Appends a request to the queue under the next number. There must be memory for the request, and the next
+    /// number must be below 2^32. Does not allocate.
     pub(crate) fn ask(&mut self, question: Question, path: Path<63>, context: Context)
         requires room { 0 < self.old.room }
         requires number { self.old.next < 2 ^ 32 }
@@ -189,8 +191,8 @@ impl SweepRequests {
         });
     }
 
-    /// Queues the questions for PortInfo of all ports of the switch `vertex`, from port 0 on. There must be room and
-    /// numbers for these questions.
+    /// Queues the questions for PortInfo of all ports of the switch `vertex`, from port 0 on. The switch must have
+    /// fewer than 255 ports. There must be memory and numbers below 2^32 for these questions.
     fn ask_ports(&mut self, vertex: &Vertex)
         requires room { vertex.now.ports + 1 ≤ self.old.room }
         requires number { self.old.next + (vertex.now.ports + 1) ≤ 2 ^ 32 }
@@ -209,7 +211,8 @@ impl SweepRequests {
         }
     }
 
-    /// Queues the questions for the new vertex `vertex`. There must be room and numbers for these questions.
+    /// Queues the questions about the new vertex `vertex`. There must be at most 256 of them, with memory and numbers
+    /// below 2^32 for all.
     fn ask_vertex(&mut self, vertex: &Vertex)
         requires room { length (vertex_questions vertex.now) ≤ self.old.room }
         requires number { self.old.next + length (vertex_questions vertex.now) ≤ 2 ^ 32 }
@@ -225,8 +228,9 @@ impl SweepRequests {
         }
     }
 
-    /// Queues the question for SMInfo of the manager at a port, if `found` says that the manager is to be asked. `path`
-    /// must be the path to the port. There must be room and a number for the question.
+    /// Queues the question for SMInfo of the manager at a port, if `found` says that the manager is to be asked. The
+    /// question goes over `path`, the path to the port. There must be memory and a number below 2^32 for the
+    /// question.
     fn ask_manager(&mut self, path: &Path<63>, found: &PortFinding)
         requires room { length (manager_questions path.now found.now) ≤ self.old.room }
         requires number { self.old.next + length (manager_questions path.now found.now) ≤ 2 ^ 32 }
@@ -241,8 +245,9 @@ impl SweepRequests {
         }
     }
 
-    /// Queues the question for NodeInfo of the node at the far end of `port`, over `path` with `port` appended. `path`
-    /// must be shorter than 63 hops, and there must be room and a number for the question.
+    /// Queues the question for NodeInfo of the node at the far end of the wire at `port` of the node `guid`. The
+    /// question goes over `path` with `port` appended. `path` must be shorter than 63 hops. There must be memory and
+    /// a number below 2^32 for the question.
     fn ask_across(&mut self, path: Path<63>, guid: Guid, port: PortNum)
         requires path { length path < 63 }
         requires room { 0 < self.old.room }
@@ -254,7 +259,8 @@ impl SweepRequests {
         self.ask(Question::Node, path, Context::Via(guid, port));
     }
 
-    /// Queues the questions that follow from the reply about a port. There must be room and numbers for these
+    /// Queues the questions that follow from the finding `found` about a port that `path` leads to. If the sweep goes
+    /// on by the port, `path` must be shorter than 63 hops. There must be memory and numbers below 2^32 for these
     /// questions.
     fn ask_of_port(&mut self, path: Path<63>, found: &PortFinding)
         requires reach { IsPathWithinReach path found.now.onward }
@@ -269,8 +275,9 @@ impl SweepRequests {
         }
     }
 
-    /// Removes the waiting request at `index`, and queues the questions that follow from `finding`. There must be room
-    /// and numbers for these questions. Does not allocate.
+    /// Removes the waiting request at `index`, and queues the questions that follow from `finding`. There must be
+    /// such a request. There must be at most 256 questions, and none may need a path of over 63 hops. There must be
+    /// memory and numbers below 2^32 for all of them. Does not allocate.
     pub(crate) fn take(&mut self, index: usize, finding: &Finding)
         requires { CanTake self.old index finding.now }
         ensures { HasTaken index finding.now self.old self.new }

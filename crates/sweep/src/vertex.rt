@@ -5,7 +5,7 @@ use crate::port_list::OfPort;
 use attr_codec::PortState;
 use smp_bytes::{Guid, NodeType, Path, PortNum};
 
-/// A vertex that was reached: a switch with port 0, or an adapter with the port that was reached.
+/// A vertex that a sweep has reached. Its port is 0 for a switch. For an adapter, it is the port that was reached.
 #[derive(Debug, Drop)]
 pub struct Vertex {
     pub guid: Guid,
@@ -28,7 +28,7 @@ impl Vertex {
     }
 }
 
-/// The state of a port, as reported by a reply.
+/// The state of a port, as a reply reported it.
 #[derive(Clone, Copy, Debug, PartialEq, Eq)]
 pub struct SeenState {
     pub guid: Guid,

@@ -1,4 +1,4 @@
--- A text of tables is read back as these tables, even if switches have tops of their own.
+-- The text of tables is read back as these tables, even if each switch has its own top.
 use Rattle.std.specs.Prelude.{◌≡◌, ◌≤◌, ℕ, List, map, None}
 use Rattle.std.specs.List.{AllByRecursion}
 use Rattle.lft_blocks.specs.Plan.{PlanValue, SwitchTable, plan_of}
@@ -17,15 +17,16 @@ use Rattle.lft_blocks.specs.PlanText.{plan_text}
 abbrev pub Says : List ℕ → HeldPlan → Type 0
 Says text held = (first_fault text ≡ None) × (held_of text ≡ held)
 
--- the switch of `table` with its own top: `top` of its GUID
+-- the switch of `table` with its own top, which `top` gives for its GUID
 abbrev pub with_own_top : (ℕ → ℕ) → SwitchTable → HeldSwitch
 with_own_top top table = with_top (top table.guid) table
 
--- the top of each switch of `tables`, `top` of its GUID, is at most 0xBFFF
+-- the top of each switch of `tables`, which `top` gives for its GUID, is at most 0xBFFF
 abbrev pub AreTops : (ℕ → ℕ) → List SwitchTable → Type 0
 AreTops top tables = AllByRecursion (λ table. top table.guid ≤ 0xBFFF) tables
 
--- the LIDs of `plan` with their owners, and its switches with their blocks and tops of their own: `top` of the GUID
+-- the LIDs of `plan` with their owners, and its switches with their blocks and with the tops that `top` gives for
+-- their GUIDs
 abbrev pub held_under : (ℕ → ℕ) → PlanValue → HeldPlan
 held_under top plan = record {
   lids = owned_lids plan.given;
@@ -33,8 +34,8 @@ held_under top plan = record {
   blocks = blocks_of 0 plan.tables;
 }
 
--- if the numbers of a plan are in range, and each switch's own top is at most 0xBFFF, the text of the plan's tables
--- under these tops says these tables
+-- if the numbers of a plan are in range, and the own top of each switch is at most 0xBFFF, the text of the plan's
+-- tables under these tops has no fault, and says these tables
 abbrev pub PrintedTablesAreRead : Type 0
 PrintedTablesAreRead =
     (top : ℕ → ℕ) (plan : PlanValue) → IsPlanInRange plan → AreTops top plan.tables
@@ -49,16 +50,16 @@ pub record IsHeldInRange (held : HeldPlan) : Type 0 where
 abbrev pub TextsAreInRange : Type 0
 TextsAreInRange = (text : List ℕ) → IsHeldInRange (held_of text)
 
--- the text of a plan has no fault, and says what the plan holds
+-- the text of a plan has no fault, and says the tables of the plan
 abbrev pub IsRead : PlanValue → Type 0
 IsRead plan = (first_fault (plan_text plan) ≡ None) × (held_of (plan_text plan) ≡ held_plan plan)
 
--- the text of each plan whose numbers are in range has no fault, and says what the plan holds
+-- if the numbers of a plan are in range, its text has no fault, and says the tables of the plan
 abbrev pub PrintedPlansAreRead : Type 0
 PrintedPlansAreRead = (plan : PlanValue) → IsPlanInRange plan → IsRead plan
 
--- the text of the plan of facts has no fault, and says what the plan holds, by each rule and under each LMC up to 7, if
--- the facts are in range and have room for the LIDs
+-- if facts are in range and every end port finds a LID under an LMC up to 7, the text of their plan by any rule under
+-- this LMC has no fault, and says the tables of the plan
 abbrev pub PlansAreRead : Type 0
 PlansAreRead =
     (rule : RuleValue) (lmc : ℕ) (facts : Facts) → lmc ≤ 7 → AreInRange facts → ¬ (IsNoRoom lmc (cells_of facts))

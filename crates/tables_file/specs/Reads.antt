@@ -5,8 +5,8 @@ use Rattle.text_words.specs.declared.fault.LinesFault.TheVariants.{Line, Memory}
 use Rattle.held_tables.specs.Held.{HeldPlan}
 use Rattle.tables_file.specs.Reading.{first_fault, held_of}
 
--- the result is what `text` says, if it has no fault, or its first fault; or memory ran out, which is possible for any
--- text
+-- the result is what `text` says if it has no fault, or is its first fault; or it is lack of memory, which is
+-- possible for any text
 abbrev pub IsReadAs : List ℕ → Result HeldPlan TablesTextFault → Type 0
 IsReadAs text (Ok held) = (first_fault text ≡ None) × (held ≡ held_of text)
 IsReadAs text (Err (Line fault)) = first_fault text ≡ Some fault

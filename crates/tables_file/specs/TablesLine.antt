@@ -12,12 +12,12 @@ use Rattle.text_words.specs.NodePort.{port_of}
 use Rattle.text_words.specs.Number.{bare_guid_of, bytes_of, small_of}
 use Rattle.text_words.specs.Text.{two_words}
 
--- reads `lmc N`: the inner value is N, or None if N is above 7; None if the words are others
+-- reads `lmc N`; None for any other words. The inner value is N, or None if N is above 7
 abbrev pub lmc_in : List ℕ × List ℕ → Option (Option ℕ)
 lmc_in x = if bytes_eq x.0 (codes "lmc") then small_of 7 x.1 else None
 
--- reads the part of a `lid` line after the port, which is `lmc N` or missing; the LMC is 0 if the part is missing, and
--- the result is None for other words
+-- reads the part of a `lid` line after the port, which is `lmc N` or missing; None for any other words. The LMC is 0
+-- if the part is missing
 abbrev pub lmc_line : List (List ℕ) → Option (Option ℕ)
 lmc_line [] = Some (Some 0)
 lmc_line (word ∷ rest) = option_and_then lmc_in (two_words (word ∷ rest))
@@ -33,8 +33,8 @@ lid_line (lid ∷ []) = None
 lid_line (lid ∷ port ∷ rest) =
     option_and_then (λ n. option_and_then (lid_of_port n rest) (port_of port)) (count_of 0xBFFF lid)
 
--- reads the part of a `switch` line after `guid`, which is `top` and a number; None for other words, or if `guid` is no
--- GUID
+-- reads the part of a `switch` line after `guid`, which is `top` and a number; None for any other words, or if `guid`
+-- is not a GUID
 abbrev pub top_line : List ℕ → List ℕ × List ℕ → Option SwitchLine
 top_line guid x =
     if bytes_eq x.0 (codes "top") then option_and_then
@@ -52,7 +52,7 @@ block_line words =
     option_and_then (λ x. option_and_then (λ n. option_map (λ e. record { number = n; entries = e }) (bytes_of 64 x.1))
     (small_of 767 x.0)) (two_words words)
 
--- the line with these words; None if the grammar has no such line
+-- the line of a text of tables that has these words; None if the grammar has no such line
 abbrev pub line_in : List (List ℕ) → Option TextLine
 line_in [] = Some Empty
 line_in (word ∷ rest) =
@@ -61,6 +61,7 @@ line_in (word ∷ rest) =
     else if bytes_eq word (codes "block") then option_map Block (block_line rest)
     else None
 
--- the line that the bytes `line` spell; None if the grammar has no such line
+-- the line of a text of tables that the bytes `line` give; None if the grammar has no such line
 unfoldable pub line_of : List ℕ → Option TextLine
+
 line_of line = line_in (words line)

@@ -7,7 +7,7 @@ use Rattle.held_tables.specs.declared.held.HeldBlock.{HeldBlock}
 use Rattle.held_tables.specs.declared.held.HeldSwitch.{HeldSwitch}
 use Rattle.held_tables.specs.Held.{HeldPlan}
 
--- `block` belongs to the switch at `index`
+-- whether `block` belongs to the switch at `index`
 abbrev pub is_of : ℕ → HeldBlock → Bool
 is_of index block = block.switch == index
 
@@ -23,8 +23,8 @@ later_blocks index blocks = drop (prefix_len (is_of index) blocks) blocks
 abbrev pub block_text : HeldBlock → List ℕ
 block_text block = block_line (block.number, block.entries)
 
--- for each switch, a line with its top and a line for each of its blocks; the first switch has the index `index`, and
--- the blocks are in the order of the switches
+-- for each switch, a line with its top and a line for each of its blocks. The first switch has the index `index`. If
+-- a block is not in the order of the switches, neither it nor any later block has a line
 abbrev pub switches_text : ℕ → List HeldSwitch → List HeldBlock → List ℕ
 switches_text index [] blocks = []
 switches_text index (switch ∷ switches) blocks =
@@ -35,6 +35,6 @@ switches_text index (switch ∷ switches) blocks =
 abbrev pub tables_text_of : HeldPlan → List ℕ
 tables_text_of held = switches_text 0 held.switches held.blocks
 
--- a line for each end port of `given` with its LIDs, and then the lines of the switches and blocks of `next`
+-- a line for each end port of `given`, with its LIDs, and then the lines of the switches and blocks of `next`
 abbrev pub next_text : Given → HeldPlan → List ℕ
 next_text given next = lids_text given ++ tables_text_of next

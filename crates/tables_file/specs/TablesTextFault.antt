@@ -1,4 +1,4 @@
--- The faults of a text of tables; a plan's text is one.
+-- The faults of a text of tables. The text of a plan is such a text.
 use Rattle.std.specs.Prelude.{ℕ, List, codes}
 use Rattle.text_words.specs.declared.fault.LineFault.{LineFault}
 use Rattle.text_words.specs.declared.fault.LinesFault.{LinesFault}
@@ -9,7 +9,7 @@ use Rattle.tables_file.specs.declared.fault.TablesTextError.TheVariants.{Syntax,
 abbrev pub TablesLineFault : Type 0
 TablesLineFault = LineFault TablesTextError
 
--- the reason for which a text of tables is refused: the fault of a line, or lack of memory
+-- the reason why a text of tables is refused: the fault of a line, or lack of memory
 abbrev pub TablesTextFault : Type 0
 TablesTextFault = LinesFault TablesTextError
 

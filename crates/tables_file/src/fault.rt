@@ -3,19 +3,19 @@ use text_words::{LineError, LineFault, LinesFault};
 /// What is wrong with a line of a text of tables.
 #[derive(Clone, Copy, Debug, PartialEq, Eq)]
 pub enum TablesTextError {
-    /// The grammar has no such line, or the line is a block above all switches.
+    /// The grammar has no such line, or the line is a block and there is no switch above it.
     Syntax,
-    /// The LID is not from 1 to 49,151, or is less than on the `lid` line before; or the last LID of the end port, or
-    /// the top, is above 49,151.
+    /// The LID is not from 1 to 49,151, or is less than that of the previous `lid` line; or the last LID of the end
+    /// port, or the top of a switch, is above 49,151.
     Lid,
-    /// The port is above 254; or the LID is that of the `lid` line before, and the end port does not come after the end
-    /// port of that line.
+    /// The port is above 254; or the LID is that of the previous `lid` line, and the end port does not come after the
+    /// end port of that line.
     Port,
     /// The LMC is above 7.
     Lmc,
-    /// The GUID of the switch is not greater than that of the switch before.
+    /// The GUID of the switch is not greater than that of the previous switch.
     Switch,
-    /// The number of the block is above 767, or not greater than that of the switch's block before.
+    /// The number of the block is above 767, or is not greater than that of the previous block of the same switch.
     Block,
 }
 
@@ -36,7 +36,7 @@ impl LineError for TablesTextError {
     }
 }
 
-/// The number of a text's first faulty line, from 1, and what is wrong with it.
+/// The number of the first faulty line of a text, counted from 1, and what is wrong with the line.
 pub type TablesLineFault = LineFault<TablesTextError>;
 
 /// Why a text of tables could not be read.

@@ -35,7 +35,7 @@ impl LastLines {
         }
     }
 
-    /// Returns what `line`, whose number is `number`, says after the lines so far, or the line's fault.
+    /// Returns what `line`, whose number is `number`, says after the lines before it, or the fault of the line.
     pub(crate) fn item(&self, number: usize, line: &[u8]) -> Result<HeldItem, TablesLineFault>
         ensures { result ≡ item_of number self.now (line_of line.now) }
     {
@@ -49,7 +49,8 @@ impl LastLines {
     }
 
     /// Returns what the `block` line with the number `number` says. Returns `Syntax` if no switch is above the line.
-    /// Otherwise returns `Block` if the block's number is above 767, or less than the least that may follow.
+    /// Otherwise returns `Block` if the number of the block is above 767, or is less than the least number that may
+    /// follow.
     fn block(&self, number: usize, line: BlockLine) -> Result<HeldItem, TablesLineFault>
         ensures { result ≡ block_with number self.now line.number line.entries }
     {
@@ -88,15 +89,15 @@ impl LastLines {
     }
 }
 
-/// Returns the fault `wrong`, of the line with the number `line`.
+/// Returns the fault `wrong` of the line with the number `line`, as a refusal.
 fn wrong(line: usize, wrong: TablesTextError) -> Result<HeldItem, TablesLineFault>
     ensures { result ≡ Err (record { line = line; wrong = wrong }) }
 {
     Err(TablesLineFault { line, wrong })
 }
 
-/// Returns what the `lid` line with the number `number` says, or the line's fault. `last` is the first LID of the `lid`
-/// line before, or `None` if there was no such line.
+/// Returns what the `lid` line with the number `number` says, or the line's fault. `last` is the first LID of the
+/// previous `lid` line, or `None` if there was no such line.
 fn lid(number: usize, last: Option<HeldLid>, line: LidLine) -> Result<HeldItem, TablesLineFault>
     ensures { result ≡ lid_with number last line.lid line.node line.port line.lmc }
 {
@@ -120,8 +121,8 @@ fn lid(number: usize, last: Option<HeldLid>, line: LidLine) -> Result<HeldItem, 
     lid_after(number, last, HeldRange { first, lmc })
 }
 
-/// Returns `range`, the LIDs of the `lid` line with the number `number`, if it comes after `last`, the first LID of the
-/// `lid` line before, or if `last` is `None`. Otherwise returns the line's fault.
+/// Returns `range`, the LIDs of the `lid` line with the number `number`, if `last` is `None`, or if `range` comes
+/// after `last`, the first LID of the previous `lid` line. Otherwise returns the fault of the line.
 fn lid_after(
     number: usize,
     last: Option<HeldLid>,
@@ -135,8 +136,8 @@ fn lid_after(
     }
 }
 
-/// Returns `range`, the LIDs of the `lid` line with the number `number`, if it comes after `last`. Otherwise returns
-/// `Lid` if the first LID of `range` is less than that of `last`, and else `Port`.
+/// Returns `range`, the LIDs of the `lid` line with the number `number`, if `range` comes after `last`. Otherwise
+/// returns `Lid` if the first LID of `range` is less than that of `last`, and else `Port`.
 fn lid_behind(number: usize, last: HeldLid, range: HeldRange) -> Result<HeldItem, TablesLineFault>
     ensures { result ≡ lid_behind number last range }
 {
@@ -150,8 +151,9 @@ fn lid_behind(number: usize, last: HeldLid, range: HeldRange) -> Result<HeldItem
     }
 }
 
-/// Returns whether the LID or the node of `held` is greater than that of `last`, or the nodes are equal and the port of
-/// `held` is greater. If the LID of `held` is not less, this says whether `held` comes after `last`.
+/// Returns whether the LID or the node of `held` is greater than that of `last`, or the nodes are equal and the port
+/// of `held` is greater. If the LID of `held` is not less than that of `last`, this is whether `held` comes after
+/// `last`.
 fn is_behind(last: HeldLid, held: HeldLid) -> bool
     ensures { result ≡ is_behind last held }
 {
@@ -162,7 +164,7 @@ fn is_behind(last: HeldLid, held: HeldLid) -> bool
 }
 
 /// Returns what the `switch` line with the number `number` says. Returns `Lid` if the top is above 49,151. Otherwise
-/// returns `Switch` if the GUID is not greater than `last`, the GUID of the switch before, if there is one.
+/// returns `Switch` if there is a previous switch, with the GUID `last`, and the GUID is not greater than `last`.
 fn switch(number: usize, last: Option<Guid>, line: SwitchLine) -> Result<HeldItem, TablesLineFault>
     ensures { result ≡ switch_with number last line.guid line.top }
 {

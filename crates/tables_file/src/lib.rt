@@ -1,4 +1,5 @@
-//! The text of the tables that switches hold or that a plan gives: who holds which LID, and the forwarding tables.
+//! The text of tables that switches hold or that a plan gives: who holds which LID, and the forwarding tables of
+//! switches.
 #![tactic(auto)]
 
 mod fault;

@@ -18,7 +18,7 @@ pub(crate) enum TextLine {
     Block(BlockLine),
 }
 
-/// A LID and the end port that holds it, as a line gives them. A number is `None` if it is out of range.
+/// A LID and the end port that holds it, as given by a line. A number is `None` if it is out of range.
 #[derive(Clone, Copy)]
 pub(crate) struct LidLine {
     /// The LID, from 1 to 49,151.
@@ -30,7 +30,7 @@ pub(crate) struct LidLine {
     pub(crate) lmc: Option<Lmc>,
 }
 
-/// A switch and its top, as a line gives them.
+/// A switch and its top, as given by a line.
 #[derive(Clone, Copy)]
 pub(crate) struct SwitchLine {
     pub(crate) guid: Guid,
@@ -38,7 +38,7 @@ pub(crate) struct SwitchLine {
     pub(crate) top: Option<u16>,
 }
 
-/// A block of a switch, as a line gives it.
+/// A block of a switch, as given by a line.
 #[derive(Clone, Copy)]
 pub(crate) struct BlockLine {
     /// The number of the block, up to 767; `None` if it is greater.
@@ -82,8 +82,8 @@ fn lid_line(line: &[u8]) -> Option<LidLine>
     })
 }
 
-/// Parses the part of a `lid` line after the end port: `lmc` and a number, or nothing, which means LMC 0. The inner
-/// value is `None` if the number is above 7. Returns `None` if the grammar has no such line.
+/// Parses the part of a `lid` line after the end port: `lmc` and a number, or nothing, which stands for LMC 0.
+/// Returns `None` if the grammar has no such line. The inner value is `None` if the number is above 7.
 fn lmc_line(line: &[u8]) -> Option<Option<Lmc>>
     ensures { result ≡ lmc_line (words line.now) }
 {

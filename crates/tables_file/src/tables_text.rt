@@ -1,4 +1,4 @@
-//! Tables as text: for each switch, a line with its own top and a line for each of its blocks.
+//! Tables as text: for each switch, a line with the switch's own top and a line for each of its blocks.
 ghost use Rattle.std.specs.Prelude.{◌≡◌, ◌≤◌, ◌++◌, IsTrue, OnOk, length};
 ghost use Rattle.std.specs.List.{flat_map, prefix_len};
 ghost use Rattle.byte_io.specs.Writes.{Writes};
@@ -12,8 +12,8 @@ use held_tables::{Held, HeldBlock, HeldSwitch};
 use lft_blocks::{write_block, write_lids, write_switch};
 use lid_assign::LidMap;
 
-/// Writes a line for each end port of `lids`, in ascending order of LID, and then the tables `next`, and flushes.
-/// Blocks are written as by `write_tables`. Does not allocate.
+/// Writes a line for each end port of `lids`, in ascending order of LID, then writes the tables `next` as
+/// `write_tables` does, and flushes. Does not allocate.
 pub fn write_next<W: Sink>(sink: &mut W, lids: &LidMap, next: &Held) -> Result<(), WriteFault>
     ensures writes { Writes W.written W.has_failed result sink.old sink.new (next_text lids.now next.now) }
     ensures flushed { OnOk result (IsTrue (W.is_flushed sink.new)) }
@@ -23,16 +23,16 @@ pub fn write_next<W: Sink>(sink: &mut W, lids: &LidMap, next: &Held) -> Result<(
     sink.flush()
 }
 
-/// Writes the tables: for each switch in order, a line with its top and a line for each of its blocks. From the first
-/// block on that is not in the order of the switches, no block is written.
+/// Writes the tables `held`: for each switch in order, a line with its top and a line for each of its blocks. If a
+/// block is not in the order of the switches, writes neither this block nor any later one.
 pub fn write_tables<W: Sink>(sink: &mut W, held: &Held) -> Result<(), WriteFault>
     ensures { WritesPart W.written W.has_failed result sink.old sink.new (tables_text_of held.now) }
 {
     write_switches(sink, held.switches(), held.blocks())
 }
 
-/// Writes the lines of `switches` and of their blocks. From the first block on that is not in the order of the
-/// switches, no block is written.
+/// Writes the lines of `switches` and of their blocks. If a block is not in the order of the switches, writes neither
+/// this block nor any later one. The first switch has index 0.
 fn write_switches<W: Sink>(
     sink: &mut W,
     switches: &[HeldSwitch],

@@ -22,11 +22,11 @@ use text_words::{LinesFault, split_line};
 /// block 0 ff000303ff..
 /// ```
 ///
-/// Takes time linear in the number of bytes and of LIDs.
+/// Takes time linear in the number of bytes and in the number of LIDs.
 ///
 /// # Errors
 ///
-/// Returns the first fault of the lines. Returns `Memory` if memory runs out, unless a line has a fault.
+/// Returns the first fault of the lines. Returns `Memory` if memory runs out and no line has a fault.
 pub fn parse(alloc: Global, text: &[u8]) -> Result<Held, TablesTextFault>
     ensures judged { JudgesButFor is_memory result (option_map LinesFault.Line (first_fault text.now)) }
     ensures held { IfOk result (λ held. held ≡ held_of text.now) }

@@ -21,22 +21,22 @@ fault_of (Err fault) = Some fault
 unfoldable pub first_line_fault : List ℕ → Option TopoFault
 first_line_fault text = fault_of (nodes_of_lines (lines text))
 
--- `name` is one of `names`
+-- whether `name` is one of `names`
 abbrev pub is_used : List (Option (List ℕ)) → List ℕ → Bool
 is_used names name = list_any (λ used. option_map_or (λ n. bytes_eq n name) used false) names
 
--- `names` with `name` appended, or the fault of line `number`: the name is used, or there are 1,024 already
+-- `names` with `name` appended, or the fault of line `number`: the name is used, or there are 1,024 names already
 abbrev pub with_new_name : ℕ → List (Option (List ℕ)) → List ℕ → Result (List (Option (List ℕ))) TopoFault
 with_new_name number names name =
     if is_used names name then Err (Name number)
     else (if nat_lt (length names) 1024 then Ok (names ++ Some name ∷ []) else Err (TooManyNodes number))
 
--- `names` if there is a node above the link of line `number`, otherwise the line's fault
+-- `names`, or the fault of the line `number`, which is a link, if there is no node above it
 abbrev pub below_node : ℕ → List (Option (List ℕ)) → Result (List (Option (List ℕ))) TopoFault
 below_node number [] = Err (Syntax number)
 below_node number (name ∷ names) = Ok (name ∷ names)
 
--- `names` with the name in a line, if it has one, or the line's fault
+-- `names` with the name in a line appended, if it is the line of a node, or the line's fault
 abbrev pub with_name : ℕ → List (Option (List ℕ)) → Option TopologyLine → Result (List (Option (List ℕ))) TopoFault
 with_name number names None = Err (Syntax number)
 with_name number names (Some line.Empty) = Ok names
@@ -49,7 +49,8 @@ with_names number names [] = Ok names
 with_names number names (line ∷ later) =
     with_name number names (line_of line) >>= λ now. with_names (number + 1) now later
 
--- the outcome of a call that should give a value or a fault: it left that value as `new`, or returned that fault
+-- a call that should give the first result did so: it left the value in this result as `new`, or returned the fault
+-- in it
 abbrev pub Leaves : {T : Type 0} → Result T TopoFault → Result (Unit {0}) TopoFault → T → Type 0
 Leaves (Ok now) (Ok u) new = new ≡ now
 Leaves (Err fault) (Err answered) new = answered ≡ fault

@@ -1,4 +1,4 @@
--- The indexes for nodes by name, and for the other ends of links by port.
+-- The indexes of nodes by name, and of the other ends of links by port.
 use Rattle.std.specs.Prelude.{◌≡◌, ◌≤◌, ℕ, List, length}
 use Rattle.std.specs.BTreeMap.{BTreeMap, get}
 use Rattle.std.specs.Cmp.Lexicographic.{slice_cmp}

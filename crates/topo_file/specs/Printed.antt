@@ -1,4 +1,4 @@
--- The text of a topology, which is read as that topology again.
+-- The text of a topology, which is read back as that topology.
 use Rattle.std.specs.Prelude.{ℕ, suc, ◌≡◌, ◌≤◌, ◌==◌, List, [], ◌∷◌, ◌++◌, Ok, codes, decimal, filter, map, slice_get, if◌then◌else◌}
 use Rattle.std.specs.List.{AllPairs}
 use Rattle.std.specs.Option.{option_map_or}
@@ -21,7 +21,7 @@ node_words node =
 abbrev pub name_at : List Node → ℕ → List ℕ
 name_at nodes id = option_map_or (λ node. node.name) (slice_get nodes id) []
 
--- the words of the line of `link`, below the node of its first end
+-- the words of the line of `link`, which stands below the node of its first end
 abbrev pub link_words : List Node → Cable → List (List ℕ)
 link_words nodes link = bracketed_text link.one.port ∷ named_text (name_at nodes link.other.node) link.other.port ∷ []
 
@@ -29,7 +29,8 @@ link_words nodes link = bracketed_text link.one.port ∷ named_text (name_at nod
 abbrev pub links_at : List Cable → ℕ → List Cable
 links_at links id = filter (λ link. link.one.node == id) links
 
--- the lines of the given nodes, whose ids begin at `id`, each with its links in `t` below it
+-- the lines of the given nodes, whose ids rise from `id`; below each node are its links in `t` whose first end is
+-- there
 abbrev pub lines_from : Layout → ℕ → List Node → List (List (List ℕ))
 lines_from t id [] = []
 lines_from t id (node ∷ later) =
@@ -39,14 +40,14 @@ lines_from t id (node ∷ later) =
 abbrev pub topology_text : Layout → List ℕ
 topology_text t = lines_text (lines_from t 0 t.nodes)
 
--- the links of the list are in the order of their first ends' nodes
+-- the links of the list are in the order of the nodes of their first ends
 abbrev pub IsInOrder : List Cable → Type 0
 IsInOrder links = AllPairs (λ x y. x.one.node ≤ y.one.node) links
 
--- the text of a topology is read as that topology if its links are in the order of their first ends' nodes
+-- the text of a topology is read as that topology if its links are in the order of the nodes of their first ends
 abbrev pub PrintedTopologiesAreRead : Type 0
 PrintedTopologiesAreRead = (t : Layout) → IsTopology t → IsInOrder t.links → topology_of (topology_text t) ≡ Ok t
 
--- the links of each topology that is read are in the order of their first ends' nodes
+-- the links of every topology that is read from a text are in the order of the nodes of their first ends
 abbrev pub ReadTopologiesAreInOrder : Type 0
 ReadTopologiesAreInOrder = (text : List ℕ) (t : Layout) → topology_of text ≡ Ok t → IsInOrder t.links

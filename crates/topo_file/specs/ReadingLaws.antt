@@ -12,13 +12,13 @@ pub record AreNodes (all : List Node) : Type 0 where
   pub nodes : All IsNode all
   pub names : AllPairs (λ x y. x.name ≢ y.name) all
 
--- both ports of a link line are at least 1, unless they are out of range (None)
+-- each port of a link line is at least 1, or is None because it is out of range
 pub record IsLinkLine (link : LinkLine) : Type 0 where
   pub port : (p : ℕ) → link.port ≡ Some p → 1 ≤ p
   pub peer_port : (p : ℕ) → link.peer_port ≡ Some p → 1 ≤ p
 
--- the nodes read so far are nodes that a topology may have. The ports of the links are at least 1, unless they are out
--- of range (None)
+-- the nodes read so far are nodes that a topology may have. Each port of the links is at least 1, or is None because
+-- it is out of range
 pub record IsDraft (told : Lines) : Type 0 where
   pub nodes : AreNodes told.nodes
   pub links : AllByRecursion (λ at. IsLinkLine at.link) told.links

@@ -3,17 +3,18 @@ use Rattle.std.specs.Prelude.{◌≡◌, ℕ, List, Option, None, Some, Result, 
 use Rattle.topo_file.specs.declared.fault.TopoFault.{TopoFault}
 use Rattle.topo_file.specs.declared.fault.TopoFault.TheVariants.{Syntax, Name, Ports, Peer, Port, Linked, GuidRange, TooManyNodes, Memory}
 
--- a call is refused for the given fault: lack of memory, or else the fault in `told`
+-- the given fault is lack of memory, or `told` is this fault
 abbrev pub IsRefused : {T : Type 0} → TopoFault → Result T TopoFault → Type 0
 IsRefused Memory told = Unit {0}
 IsRefused fault told = told ≡ Err fault
 
--- the result of a call is a value that `seen` shows as the one in `told`, or the fault in `told`, or lack of memory
+-- the given result of a call is a value that `seen` turns into the value in `told`, or the fault in `told`, or lack
+-- of memory
 abbrev pub ReadsAs : {S T : Type 0} → (S → T) → Result S TopoFault → Result T TopoFault → Type 0
 ReadsAs seen (Ok value) told = told ≡ Ok (seen value)
 ReadsAs seen (Err fault) told = IsRefused fault told
 
--- the result of a call is `told`, a value or the first fault, or it is lack of memory
+-- the result of a call, `result`, is `told`, which is a value or the first fault; or it is lack of memory
 abbrev pub Reads : {T : Type 0} → Result T TopoFault → Result T TopoFault → Type 0
 Reads result told = ReadsAs (λ value. value) result told
 
@@ -29,7 +30,7 @@ fault_word (GuidRange line) = codes "guid"
 fault_word (TooManyNodes line) = codes "too many nodes"
 fault_word Memory = codes "out of memory"
 
--- the number of the faulty line, from 1; lack of memory has none
+-- the number of the faulty line, counted from 1; None for lack of memory
 abbrev pub fault_line : TopoFault → Option ℕ
 fault_line (Syntax line) = Some line
 fault_line (Name line) = Some line

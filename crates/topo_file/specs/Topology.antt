@@ -1,4 +1,4 @@
--- What a topology is: nodes with names of their own, and links between their ports.
+-- What a topology is: nodes with different names, and links between their ports.
 use Rattle.std.specs.Prelude.{◌≡◌, ◌≢◌, ◌&&◌, ◌==◌, ℕ, Bool, suc, ◌+◌, ◌<◌, ◌≤◌, ◌^◌, List, [], ◌∷◌, All, Option, None, Some, IsTrue, option_map, length}
 use Rattle.std.specs.Prelude.{slice_get, if◌then◌else◌}
 use Rattle.std.specs.List.{AllPairs, list_any}
@@ -21,28 +21,28 @@ abbrev pub id_of : List Node → List ℕ → Option ℕ
 id_of [] name = None
 id_of (node ∷ nodes) name = if bytes_eq node.name name then Some 0 else option_map suc (id_of nodes name)
 
--- the id is that of a node with the name `name`; for None, no node has the name
+-- the given id is that of a node with the name `name`; if it is None, no node has this name
 abbrev pub IsFound : List Node → List ℕ → Option ℕ → Type 0
 IsFound nodes name None = All (λ node. node.name ≢ name) nodes
 IsFound nodes name (Some id) = (node : Node) × (slice_get nodes id ≡ Some node) × (node.name ≡ name)
 
--- `node` is a switch with the GUID `guid`
+-- whether `node` is a switch with the GUID `guid`
 abbrev pub is_switch_with : ℕ → Node → Bool
 is_switch_with guid node = is_switch node.kind && (node.guid == guid)
 
--- one of `nodes` is a switch with the GUID `guid`
+-- whether one of `nodes` is a switch with the GUID `guid`
 abbrev pub has_switch : List Node → ℕ → Bool
 has_switch nodes guid = list_any (is_switch_with guid) nodes
 
 -- `cap` and `guid` fit the type of a node with `ports` ports: a switch has a table of 1 to 49,152 entries; a channel
--- adapter has none, and the GUID of its last port, `guid` plus `ports`, has 64 bits; nothing fits a router
+-- adapter has none, and the GUID of its last port, `guid` plus `ports`, fits in 64 bits; nothing fits a router
 abbrev pub IsOfKind : NodeType → ℕ → ℕ → ℕ → Type 0
 IsOfKind Switch ports guid cap = (1 ≤ cap) × (cap ≤ 0xC000)
 IsOfKind ChannelAdapter ports guid cap = (cap ≡ 0) × (guid + ports < 2 ^ 64)
 IsOfKind Router ports guid cap = ⊥
 
--- a topology may have `node`: it has a name, 1 to 254 ports, a GUID of 64 bits, and a table and port GUIDs that fit its
--- type
+-- a topology may have `node`: it has a valid name (`is_name`), 1 to 254 ports, a 64-bit GUID, and a table and port
+-- GUIDs that fit its type
 pub record IsNode (node : Node) : Type 0 where
   pub named : IsTrue (is_name node.name)
   pub some_ports : 1 ≤ node.ports
@@ -50,7 +50,7 @@ pub record IsNode (node : Node) : Type 0 where
   pub guid_range : node.guid < 2 ^ 64
   pub of_kind : IsOfKind node.kind node.ports node.guid node.cap
 
--- `p` is a port of a node of the list, from 1 to its port count
+-- `p` is a port of a node in the list, and its number is from 1 to the port count of the node
 pub record IsPortIn (nodes : List Node) (p : NodePort) : Type 0 where
   pub node : Node
   pub there : slice_get nodes p.node ≡ Some node
@@ -69,7 +69,8 @@ pub record AreApart (x y : Cable) : Type 0 where
   pub other_one : x.other ≢ y.one
   pub other_other : x.other ≢ y.other
 
--- `t` has at most 1,024 nodes, each with a name of its own, and links between their ports, at most one in each port
+-- `t` has at most 1,024 nodes, each a node that a topology may have (`IsNode`), with different names, and links
+-- between their ports, at most one in each port
 pub record IsTopology (t : Layout) : Type 0 where
   pub few : length t.nodes ≤ 1024
   pub nodes : All IsNode t.nodes

@@ -11,14 +11,15 @@ use Rattle.text_words.specs.Text.{words}
 use Rattle.text_words.specs.Number.{count_of, guid_of}
 use Rattle.text_words.specs.Quoted.{quoted_name, bracketed_port, named_port}
 
--- the type of node that a word names: a switch or a channel adapter; None if it names none
+-- the type of node that a word names, which is a switch or a channel adapter; None if the word names no type
 abbrev pub kind_of : List ℕ → Option NodeType
 kind_of word =
     if bytes_eq word (codes "Switch") then Some Switch else (if bytes_eq word (codes "Hca")
     || bytes_eq word (codes "Ca") then Some ChannelAdapter else None)
 
--- the size of a node's table, by the words after its GUID: 0 for an adapter; for a switch 1024, or the number after
--- `cap`; None for other words and for a router. The inner value is None if the number is out of range
+-- the size of a node's forwarding table, as the words after its GUID give it: 0 for an adapter; for a switch, the
+-- number after `cap`, or 1024 if there are no words; None for other words and for a router. The inner value is None
+-- if the number is out of range
 abbrev pub cap_of : NodeType → List (List ℕ) → Option (Option ℕ)
 cap_of Switch [] = Some (Some 1024)
 cap_of Switch (word ∷ cap ∷ []) = if bytes_eq word (codes "cap") then count_of 0xC000 cap else None
@@ -27,8 +28,8 @@ cap_of ChannelAdapter [] = Some (Some 0)
 cap_of ChannelAdapter _ = None
 cap_of Router _ = None
 
--- a node of the type `kind`, from the words after its type: its port count, its name, 'guid', its GUID, and the size of
--- a switch's table; None if the words say no node
+-- a node of the type `kind`, from the words after its type: its port count, its name, 'guid', its GUID, and the size
+-- of a switch's table; None if the words do not give a node
 abbrev pub node_line : NodeType → List (List ℕ) → Option NodeLine
 node_line kind (ports ∷ name ∷ word ∷ guid ∷ rest) =
     if bytes_eq word (codes "guid") then
@@ -38,14 +39,15 @@ node_line kind (ports ∷ name ∷ word ∷ guid ∷ rest) =
     else None
 node_line kind _ = None
 
--- a link: a port, and the peer's name with the peer's port; None if the words say no link
+-- a link: a port, and the peer's name with the peer's port; None if the words do not give a link
 abbrev pub link_line : List (List ℕ) → Option LinkLine
 link_line (port ∷ end ∷ []) =
     option_and_then (λ p. option_map (λ x. record { port = p; peer = x.0; peer_port = x.1 }) (named_port end))
     (bracketed_port port)
 link_line _ = None
 
--- what a line says: a node if its first word names a type, otherwise a link; None if the grammar has no such line
+-- what a line with these words says, given the type that its first word names: a node if there is a type, otherwise a
+-- link; None if the grammar has no such line
 abbrev pub line_of_kind : Option NodeType → List (List ℕ) → Option TopologyLine
 line_of_kind (Some kind) (word ∷ rest) = option_map Node (node_line kind rest)
 line_of_kind None words = option_map Link (link_line words)

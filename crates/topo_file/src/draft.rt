@@ -11,7 +11,7 @@ use fabric_model::NodeId;
 use std::alloc::Global;
 use std::marker::Model;
 
-/// A link as its line gives it, with the number of that line and the id of the last node above it.
+/// A link, as given by its line, with the number of this line and the id of the last node above it.
 #[derive(Drop)]
 pub(crate) struct LinkAt {
     pub(crate) line: usize,
@@ -45,7 +45,8 @@ impl Draft {
         }
     }
 
-    /// Adds `line`, whose number is `number`. Returns the line's fault if it has one, and `Memory` if memory runs out.
+    /// Adds the node or the link, if any, that `line` gives. `number` is the number of the line. Returns the line's
+    /// fault if it has one, or `Memory` if memory runs out.
     pub(crate) fn with(self, number: usize, line: &[u8]) -> Result<Self, TopoFault>
         ensures { Reads result (with_line number self (line_of line.now)) }
     {
@@ -61,8 +62,8 @@ impl Draft {
         }
     }
 
-    /// Adds `link`, of the line `number`, as a link of the last node. Returns `Syntax` if there is no node, and
-    /// `Memory` if memory runs out.
+    /// Adds `link`, which is from the line `number`, as a link of the last node. Returns `Syntax` if there is no
+    /// node, or `Memory` if memory runs out.
     fn with_link(self, number: usize, link: LinkLine) -> Result<Self, TopoFault>
         ensures { Reads result (with_line number self (Some (TopologyLine.Link link))) }
     {
@@ -81,7 +82,8 @@ impl Draft {
 }
 
 /// Builds the node that `line` gives; `number` is the line's number. Returns `Ports` if the port count or the table's
-/// size is out of range. Otherwise returns `GuidRange` if the GUID of an adapter's last port does not fit 64 bits.
+/// size is out of range. Otherwise returns `GuidRange` if the node is an adapter and the GUID of its last port does
+/// not fit in 64 bits.
 pub(crate) fn node(number: usize, line: NodeLine) -> Result<Node, TopoFault>
     ensures { result ≡ node_of number line }
 {

@@ -7,19 +7,19 @@ use std::fmt;
 /// Why a text is not a topology. All lines are checked in order, and then all links. Lines are counted from 1.
 #[derive(Clone, Copy, Debug, PartialEq, Eq)]
 pub enum TopoFault {
-    /// The line is not in the grammar, or is a link above all nodes.
+    /// The grammar has no such line, or the line is a link and there is no node above it.
     Syntax { line: usize },
-    /// A node of an earlier line has this node's name.
+    /// A node in an earlier line has the same name.
     Name { line: usize },
     /// A port count is not from 1 to 254, or a forwarding table's size is not from 1 to 49,152.
     Ports { line: usize },
-    /// A link names a peer that is no node of the text.
+    /// A link names a peer that is not a node of the text.
     Peer { line: usize },
-    /// A port of a link is 0 or above its node's port count.
+    /// A port of a link is 0, or is above the port count of its node.
     Port { line: usize },
     /// A port of a link has another link.
     Linked { line: usize },
-    /// The GUID of an adapter's last port does not fit 64 bits.
+    /// The GUID of an adapter's last port does not fit in 64 bits.
     GuidRange { line: usize },
     /// The node is the 1,025th.
     TooManyNodes { line: usize },

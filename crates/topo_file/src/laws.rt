@@ -1,12 +1,13 @@
 //! The laws of printed topologies.
 ghost use Rattle.topo_file.specs.Printed.{PrintedTopologiesAreRead, ReadTopologiesAreInOrder};
 
-/// The text of a topology is read as that topology if the topology's links are in the order of their first ends' nodes.
+/// If the links of a topology are in the order of the nodes of their first ends, the text of the topology is read as
+/// this topology.
 pub fn printed_topologies_are_read()
     ensures law { PrintedTopologiesAreRead }
 {}
 
-/// The links of each topology that is read are in the order of their first ends' nodes.
+/// The links of every topology that is read from a text are in the order of the nodes of their first ends.
 pub fn read_topologies_are_in_order()
     ensures law { ReadTopologiesAreInOrder }
 {}

@@ -16,7 +16,7 @@ pub(crate) enum TopologyLine {
     Link(LinkLine),
 }
 
-/// A node as its line gives it. A number is `None` if it is out of range.
+/// A node, as given by its line. A number is `None` if it is out of range.
 #[derive(Drop)]
 pub(crate) struct NodeLine {
     pub(crate) kind: NodeType,
@@ -29,8 +29,8 @@ pub(crate) struct NodeLine {
     pub(crate) cap: Option<u16>,
 }
 
-/// A link as its line gives it: a port of the node above, and the peer's name and port. A port is `None` if it is not
-/// from 1 to 254.
+/// A link, as given by its line: a port of the last node above the line, and the peer's name and port. A port is
+/// `None` if it is not from 1 to 254.
 #[derive(Drop)]
 pub(crate) struct LinkLine {
     pub(crate) port: Option<u8>,
@@ -86,9 +86,9 @@ fn node_line(kind: NodeType, line: &[u8]) -> Option<NodeLine>
     })
 }
 
-/// Parses `line`, the rest of a node's line, as the size of the node's forwarding table. Without a size in the line, a
-/// switch has 1024, and an adapter 0. The inner value is `None` if the number is out of range. Returns `None` if the
-/// grammar has no such line.
+/// Parses `line`, the rest of a node's line, as the size of the node's forwarding table. If the line has no size, the
+/// size is 1024 for a switch, and 0 for an adapter. Returns `None` if the grammar has no such line. The inner value
+/// is `None` if the number is out of range.
 fn cap(kind: NodeType, line: &[u8]) -> Option<Option<u16>>
     ensures { result ≡ cap_of kind (words line.now) }
 {
@@ -101,8 +101,8 @@ fn cap(kind: NodeType, line: &[u8]) -> Option<Option<u16>>
     }
 }
 
-/// Parses the size of a switch's forwarding table: `word` must be `cap`, and `line` the number. The inner value is
-/// `None` if the number is out of range. Returns `None` if the grammar has no such line.
+/// Parses the size of a switch's forwarding table: the word `cap` in `word`, and the number in `line`. Returns `None`
+/// if the grammar has no such line. The inner value is `None` if the number is out of range.
 fn given_cap(word: &[u8], line: &[u8]) -> Option<Option<u16>>
     ensures { result ≡ cap_of NodeType.Switch (word.now ∷ words line.now) }
 {

@@ -12,7 +12,7 @@ use std::alloc::Global;
 use std::collections::BTreeMap;
 use std::marker::Model;
 
-/// Links in their order, at most one in each port.
+/// A list of links, at most one in each port.
 #[derive(Drop)]
 pub(crate) struct Links {
     links: Vec<Cable>,
@@ -43,7 +43,7 @@ impl Links {
         }
     }
 
-    /// Builds the links of `lines`, each once. Returns the first fault, and `Memory` if memory runs out.
+    /// Builds the links of `lines`, each once. Returns the first fault, or `Memory` if memory runs out.
     pub(crate) fn of(alloc: Global, nodes: &Nodes, lines: &[LinkAt]) -> Result<Self, TopoFault>
         ensures { Reads result (with_links nodes.now [] lines.now) }
     {
@@ -61,7 +61,7 @@ impl Links {
         &self.links
     }
 
-    /// Returns the port at the other end of the link in `port`, or `None` if no link is in `port`. Takes time
+    /// Returns the port at the other end of the link in `port`, or `None` if there is no link in `port`. Takes time
     /// logarithmic in the number of ports with links.
     fn other_end(&self, port: NodePort) -> Option<NodePort>
         ensures { result ≡ other_end self.now port }
@@ -69,8 +69,8 @@ impl Links {
         self.across.get(&key(port)).copied()
     }
 
-    /// Adds `link`, of the line `line`, unless `self` has this link already. Returns `Linked` if a port of `link` has
-    /// another link, and `Memory` if memory runs out.
+    /// Adds `link`, which is from the line `line`, unless `self` has this link already. Returns `Linked` if a port of
+    /// `link` has another link, or `Memory` if memory runs out.
     fn with(self, line: usize, link: Cable) -> Result<Self, TopoFault>
         ensures { Reads result (with_link line self link) }
     {
@@ -83,7 +83,7 @@ impl Links {
         }
     }
 
-    /// Adds `link`. No port of `link` may have a link. Returns `Memory` if memory runs out.
+    /// Adds `link`. Neither port of `link` may have a link already. Returns `Memory` if memory runs out.
     fn with_new(self, link: Cable) -> Result<Self, TopoFault>
         requires one { other_end self link.one ≡ None }
         requires other { other_end self link.other ≡ None }
@@ -100,15 +100,15 @@ impl Links {
     }
 }
 
-/// Returns the key of `port` in `across`.
+/// Returns the key of `port` in the map `across` of `Links`.
 fn key(port: NodePort) -> (NodeId, PortNum)
     ensures { result ≡ (port.node, port.port) }
 {
     (port.node, port.port)
 }
 
-/// Builds the link of the line `at`. Returns `Peer` if no node has the peer's name. Otherwise returns `Port` if a port
-/// of the link is out of range (`None`) or above its node's port count.
+/// Builds the link of the line `at`. Returns `Peer` if no node has the peer's name. Otherwise returns `Port` if a
+/// port of the link is `None`, or is above its node's port count.
 fn link(nodes: &Nodes, at: &LinkAt) -> Result<Cable, TopoFault>
     ensures { Reads result (link_of nodes.now at.now) }
 {

@@ -6,7 +6,7 @@ use text_words::NodeName;
 pub struct Node {
     pub name: NodeName,
     pub kind: NodeType,
-    /// The port count, 1 to 254, which leaves out a switch's port 0.
+    /// The port count, 1 to 254. Port 0 of a switch is not counted.
     pub ports: u8,
     /// The GUID of a switch's port 0. For an adapter, port `p` has this GUID plus `p`.
     pub guid: Guid,

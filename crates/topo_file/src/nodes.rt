@@ -15,7 +15,7 @@ use text_words::NodeName;
 /// The maximum number of nodes of a topology.
 pub(crate) const MAX_NODES: usize = 1024;
 
-/// Nodes by id, each with a name of its own.
+/// A list of nodes, whose ids are their indices, with different names.
 #[derive(Drop)]
 pub(crate) struct Nodes {
     nodes: Vec<Node>,
@@ -75,8 +75,8 @@ impl Nodes {
         self.ids.get(name).copied()
     }
 
-    /// Returns the port `port` of `node`. Returns `None` if no node has the id `node`, or if `port` is `None` or above
-    /// the node's port count. Takes constant time.
+    /// Returns the port `port` of the node with the id `node`. Returns `None` if no node has the id `node`, or if
+    /// `port` is `None` or above the node's port count. Takes constant time.
     pub(crate) fn port(&self, node: NodeId, port: Option<u8>) -> Option<NodePort>
         ensures { result ≡ port_at self.now node port }
     {
@@ -90,8 +90,8 @@ impl Nodes {
         })
     }
 
-    /// Appends `node`, of the line `line`. Returns `Name` if the node's name is taken, and otherwise `TooManyNodes` if
-    /// there are 1,024 nodes already. Returns `Memory` if memory runs out.
+    /// Appends `node`, which is from the line `line`. Returns `Name` if the node's name is taken, and otherwise
+    /// `TooManyNodes` if there are 1,024 nodes already. Returns `Memory` if memory runs out.
     pub(crate) fn with(self, line: usize, node: Node) -> Result<Self, TopoFault>
         ensures { Reads result (with_node line self node) }
     {

@@ -73,7 +73,7 @@ impl Topology {
         self.nodes.id(&NodeName::new(name.as_bytes())?)
     }
 
-    /// Returns whether a node is a switch with the GUID `guid`. Takes time linear in the number of nodes.
+    /// Returns whether some node is a switch with the GUID `guid`. Takes time linear in the number of nodes.
     pub fn has_switch(&self, guid: Guid) -> bool
         ensures { result ≡ has_switch self.now.nodes guid }
     {
@@ -92,7 +92,7 @@ impl Topology {
 }
 
 /// Parses the text of a topology. A line ends with LF or CR LF, and the last one may end with the text. A line is
-/// empty, a node, or a link of the node above the line. `#` outside quotes begins a comment:
+/// empty, or is a node, or is a link of the last node above the line. `#` outside quotes begins a comment:
 ///
 /// ```text
 /// Switch 4 "S1" guid 0x10 cap 1024
@@ -100,14 +100,14 @@ impl Topology {
 /// Hca 1 "H1" guid 0x100
 /// ```
 ///
-/// A node has a port count, a name and a GUID, and a switch may have the size of its forwarding table. A link has a
-/// port, and its peer's name and port.
+/// The line of a node has a port count, a name and a GUID. That of a switch may also have the size of its forwarding
+/// table. The line of a link has a port of its node, and the name and the port of the peer.
 ///
 /// # Errors
 ///
 /// Returns the first fault of a line. If no line has a fault, returns the first fault of a link (`Peer`, `Port`,
-/// `Linked`). If memory runs out, the lines are checked again without memory from the allocator. So after `Memory` no
-/// line has a fault, but a link may have one.
+/// `Linked`). If memory runs out, checks the lines again without memory from the allocator, and returns `Memory` if
+/// no line has a fault. A link may still have one.
 pub fn parse(alloc: Global, text: &str) -> Result<Topology, TopoFault>
     ensures reads { Reads result (topology_of text.now) }
     ensures memory { result ≡ Err TopoFault.Memory → first_line_fault text.now ≡ None }
@@ -122,7 +122,8 @@ pub fn parse(alloc: Global, text: &str) -> Result<Topology, TopoFault>
     }
 }
 
-/// Parses the lines of `text` into nodes and links. Returns the first fault of a line, and `Memory` if memory runs out.
+/// Parses the lines of `text` into nodes and links. Returns the first fault of a line, or `Memory` if memory runs
+/// out.
 fn read_lines(alloc: Global, text: &[u8]) -> Result<Draft, TopoFault>
     ensures { Reads result (nodes_of_lines (lines text.now)) }
 {
@@ -137,8 +138,8 @@ fn read_lines(alloc: Global, text: &[u8]) -> Result<Draft, TopoFault>
     Ok(draft)
 }
 
-/// Builds the topology of `draft`. Returns the first fault of a link, and `Memory` if memory runs out. The nodes must
-/// be nodes that a topology may have. Each port of a link must be at least 1, unless it is out of range (`None`).
+/// Builds the topology of `draft`. Returns the first fault of a link, or `Memory` if memory runs out. The nodes of
+/// `draft` must be nodes that a topology may have. Each port of a link must be `None` or at least 1.
 fn finish(alloc: Global, draft: Draft) -> Result<Topology, TopoFault>
     requires { IsDraft draft }
     ensures { Reads result (topology_in draft) }

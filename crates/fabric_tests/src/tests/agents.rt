@@ -65,7 +65,7 @@ const PORT_INFO: u16 = 0x15;
 
 const TABLE: u16 = 0x19;
 
-/// For each request without a payload: method, attribute, modifier, and the status that S2 and H1 answer.
+/// Requests without a payload: the method, the attribute, the modifier, and the statuses that S2 and H1 answer.
 const STATUSES: [(u8, u16, u32, u16, u16); 34] = [
     (GET, NODE_DESCRIPTION, 9, 0, 0),
     (GET, NODE_INFO, 9, 0, 0),
@@ -132,8 +132,8 @@ fn port_info(base_lid: u16, master_sm_lid: u16, state: u8) -> [u8; 64] {
     payload
 }
 
-/// The BaseLIDs and states that are set at port 3 of S2 and at the port of H1, one after the other; for each the
-/// status, and the state and the LID that H1 has then. The switch's port has no LID.
+/// The BaseLIDs and states that are set, one after the other, at port 3 of S2 and at the port of H1. Each comes with
+/// the status, and with the state and the LID that H1 then has. The port of the switch has no LID.
 const PORT_SETS: [(u16, u8, u16, PortState, u16); 17] = [
     (9, 4, 0x1C, PortState::Initialize, 0),
     (9, 1, 0x1C, PortState::Initialize, 0),
@@ -175,7 +175,8 @@ fn port_states(rt: HostRuntime) -> Result<(), Fail> {
     Ok(())
 }
 
-/// BaseLIDs and LMCs; for each the status at the port of H1, at port 0 of S2, and at port 3 of S2, which takes neither.
+/// BaseLIDs and LMCs. Each comes with the status at the port of H1, at port 0 of S2, and at port 3 of S2, which takes
+/// neither.
 const LMC_SETS: [(u16, u8, u16, u16, u16); 11] = [
     (9, 0, 0, 0, 0),
     (8, 1, 0, 0x1C, 0),
@@ -213,7 +214,7 @@ fn lids_that_a_set_takes(rt: HostRuntime) -> Result<(), Fail> {
     Ok(())
 }
 
-/// Returns whether `bytes` stand at `offset` in an answer's attribute.
+/// Returns whether the attribute in the answer `smp` has `bytes` at `offset`.
 fn holds(smp: &Smp, offset: usize, bytes: [u8; 8]) -> bool {
     match smp.attribute_data().get(offset..) {
         Some(rest) => rest.starts_with(&bytes),
@@ -221,10 +222,11 @@ fn holds(smp: &Smp, offset: usize, bytes: [u8; 8]) -> bool {
     }
 }
 
-/// An attribute and its modifier, an offset, and the eight bytes there that the switch and the adapter answer.
+/// An attribute and its modifier, an offset, and the eight bytes at this offset that the switch answers and that the
+/// adapter answers.
 type Row = (u16, u32, usize, [u8; 8], [u8; 8]);
 
-/// Creates S2 and H1 after Sets of the switch's block 1, top and port, and of the adapter's port.
+/// Creates S2 and H1, and then sets block 1, the top and a port of the switch, and the port of the adapter.
 fn agents_once_set(alloc: Global) -> Result<(Agent, Agent), AllocError> {
     let (mut switch, mut adapter) = (s2(alloc)?, h1(alloc)?);
     let mut block = [4; 64];
@@ -243,7 +245,8 @@ fn agents_once_set(alloc: Global) -> Result<(Agent, Agent), AllocError> {
     Ok((switch, adapter))
 }
 
-/// Returns the index of the first of `rows` that one of the agents answers otherwise, or `None` if there is none.
+/// Returns the index of the first of `rows` that an agent does not answer as the row says, or `None` if there is
+/// none.
 fn first_wrong(alloc: Global, rows: &[Row]) -> Result<Option<usize>, AllocError> {
     let (mut switch, mut adapter) = agents_once_set(alloc)?;
     for (index, row) in rows.iter().enumerate() {
@@ -353,8 +356,8 @@ fn blocks_are_told(rt: HostRuntime) -> Result<(), Fail> {
 #[test]
 fn sets_of_a_switch(rt: HostRuntime) -> Result<(), Fail> {
     let mut switch = s2(rt.alloc())?;
-    // An attribute, a modifier, the two bytes from 6 on, the status, and then the greatest LID that is forwarded and
-    // the ports for the LIDs 6, 7, 1023 and 1024.
+    // An attribute, a modifier, the two bytes from offset 6 on, and the status. Then the greatest LID that is
+    // forwarded, and the ports for the LIDs 6, 7, 1023 and 1024.
     for (attribute, modifier, bytes, status, top, ports) in [
         (SWITCH_INFO, 0, [4, 0], 0x1C, 0, [255, 255, 255, 255]),
         (SWITCH_INFO, 0, [3, 255], 0, 1023, [255, 255, 255, 255]),
@@ -380,7 +383,8 @@ fn sets_of_a_switch(rt: HostRuntime) -> Result<(), Fail> {
     Ok(())
 }
 
-/// Changes each byte of a Set of PortInfo over no hop: the bytes are then no packet, or get one of the four statuses.
+/// Changes each byte of a Set of PortInfo over a path of no hops. The bytes are then not a packet, or get one of the
+/// four statuses.
 #[test]
 fn each_byte_turned(rt: HostRuntime) -> Result<(), Fail> {
     let mut adapter = h1(rt.alloc())?;

@@ -7,7 +7,7 @@ use std::process::Abort;
 use std::test::Fail;
 use topo_file::parse;
 
-/// Three switches in a ring, nodes 0 to 2, and an adapter at two of them, nodes 3 and 4.
+/// Three switches in a ring, which are nodes 0 to 2. Two of them have an adapter, nodes 3 and 4.
 const RING: &str = r#"Switch 4 "S1" guid 0x10
 [1] "S2"[1]
 [2] "S3"[1]
@@ -64,7 +64,7 @@ fn get_node_info(ports: [u8; 3]) -> Packet {
     directed(Method::GET, AttributeId::NODE_INFO, 0, ports, &[0; 64])
 }
 
-/// Returns what a delivery did, as a word and a number.
+/// Returns what a delivery did, or its refusal, as a word and a number.
 fn said(delivered: Result<Delivered, FabricFault>) -> (&'static str, u64) {
     match delivered {
         Ok(Delivered::Moved(serial)) => ("moved", serial),
@@ -101,8 +101,9 @@ fn carried(fabric: &mut Fabric, mut serial: u64) -> (&'static str, u64) {
 /// Delivers a request to the first switch, and its answer, until the manager has it, and checks each step.
 fn check_round_trip(rt: &impl Abort, fabric: &mut Fabric) -> Result<(), Fail> {
     let serial = fabric.inject(at(3, 1), get_node_info([1, 0, 0]))?;
-    // The serial number that is delivered and what that does; then, of the packet that waits, its first bytes, the
-    // path's first port, the port recorded for the way back, and the local port of the NodeInfo.
+    // The serial number of the packet that is delivered, and what the delivery does. Then, for the packet that waits,
+    // its first bytes, the first port of its path, the port recorded for the way back, and the local port in the
+    // NodeInfo.
     let start = [
         0x01, 0x81, 0x01, 0x01, 0, 0, 0, 1, 0, 0, 0, 1, 0, 0, 0, 2, 0, 0x11, 0, 0, 0, 0, 0, 0,
     ];
@@ -142,7 +143,7 @@ fn fate_of(alloc: Global, packet: Packet) -> Result<(&'static str, u64), Fail> {
     Ok(carried(&mut fabric, serial))
 }
 
-/// Builds a request for NodeInfo over no hop, with `byte` at `offset`.
+/// Builds a request for NodeInfo over a path of no hops, with `byte` at `offset`.
 fn turned(offset: u8, byte: u8) -> Packet {
     let mut packet = get_node_info([0; 3]);
     packet.bytes[usize::from(offset)] = byte;
@@ -161,7 +162,7 @@ fn routed(dlid: u16) -> Packet {
 #[test]
 fn each_packet_that_is_discarded(rt: HostRuntime) -> Result<(), Fail> {
     let get_sm_info = directed(Method::GET, AttributeId::SM_INFO, 0, [0; 3], &[0; 64]);
-    // The adapter has no LID, so its own is 0. Byte 0 is the base version, byte 3 the method and byte 6 the hop
+    // The adapter has no LID, so its LID is 0. Byte 0 is the base version, byte 3 the method and byte 6 the hop
     // pointer.
     for (packet, wanted) in [
         (turned(0, 2), ("unreadable", 0)),
@@ -183,7 +184,8 @@ fn each_packet_that_is_discarded(rt: HostRuntime) -> Result<(), Fail> {
     Ok(())
 }
 
-/// Returns each refusal of a call about packets, in a fabric with one packet in flight and no serial number left.
+/// Returns the refusal of each call about packets, and the one expected. The fabric has one packet in flight, and no
+/// serial number left.
 fn packet_refusals(fabric: &mut Fabric, last: u64) -> [(Option<FabricFault>, FabricFault); 7] {
     [
         (fabric.deliver(0).err(), FabricFault::NoSuchPacket),
@@ -202,7 +204,7 @@ fn packet_refusals(fabric: &mut Fabric, last: u64) -> [(Option<FabricFault>, Fab
     ]
 }
 
-/// Returns each refusal of a call about ports.
+/// Returns the refusal of each call about ports, and the one expected.
 fn port_refusals(fabric: &mut Fabric) -> [(Option<FabricFault>, FabricFault); 11] {
     let lid = Lid::new(1);
     [
@@ -249,8 +251,8 @@ fn each_refusal(rt: HostRuntime) -> Result<(), Fail> {
     check_refusals(&rt, &mut fabric)
 }
 
-/// Returns where a ping ends: the node, the port and the number of wires, or the node, 0 and 99 if it is lost. Returns
-/// 99 three times if it is refused.
+/// Returns where a ping ends: the node, the port and the number of wires. Returns the node, 0 and 99 if the ping is
+/// lost, and 99 three times if it is refused.
 fn pinged(fabric: &Fabric, lid: u16) -> (usize, u8, usize) {
     match fabric.ping(at(3, 1), Lid::new(lid)) {
         Ok(ping) => spot(&ping),
@@ -368,7 +370,7 @@ fn check_copies(rt: &impl Abort, fabric: &mut Fabric) -> Result<(), Fail> {
     Ok(())
 }
 
-/// Checks that a packet that came by a wire is discarded once the cable is cut, and that one at its seat is not.
+/// Checks that a packet that came by a wire is discarded once the cable is cut, and that a packet at its seat is not.
 fn check_cut(rt: &impl Abort, fabric: &mut Fabric) -> Result<(), Fail> {
     let came = fabric.inject(at(3, 1), get_node_info([1, 0, 0]))?;
     let moved = said(fabric.deliver(came));
@@ -380,7 +382,7 @@ fn check_cut(rt: &impl Abort, fabric: &mut Fabric) -> Result<(), Fail> {
     Ok(())
 }
 
-/// Checks copies, a cut, and a cable from a port to itself.
+/// Checks copies of packets, a cut cable, and a cable from a port to itself.
 fn check_cables(rt: &impl Abort, fabric: &mut Fabric) -> Result<(), Fail> {
     check_copies(rt, fabric)?;
     check_cut(rt, fabric)?;
