@@ -50,7 +50,7 @@ block_line [] = None
 block_line (port ∷ []) = None
 block_line (port ∷ number ∷ rest) = option_and_then (block_of port number) (only_word rest)
 
--- the line of a text of lanes that has these words; None if the grammar does not have such a line
+-- the line of a text of lanes that has these words; None if the grammar has no such line
 abbrev pub line_in : List (List ℕ) → Option LanesLine
 line_in [] = Some Empty
 line_in (word ∷ rest) =
@@ -60,6 +60,6 @@ line_in (word ∷ rest) =
     else if bytes_eq word (codes "levels") then option_map Block (block_line rest)
     else None
 
--- what a line of a text of lanes says; None if the grammar does not have such a line
+-- what a line of a text of lanes says; None if the grammar has no such line
 unfoldable pub line_of : List ℕ → Option LanesLine
 line_of line = line_in (words line)

@@ -3,7 +3,7 @@ use text_words::{LineError, LineFault, LinesFault};
 /// What is wrong with a line of a text of lanes.
 #[derive(Clone, Copy, Debug, PartialEq, Eq)]
 pub enum LanesTextError {
-    /// The grammar does not have such a line.
+    /// The grammar has no such line.
     Syntax,
     /// A port is above 254.
     Port,

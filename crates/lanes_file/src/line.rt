@@ -38,7 +38,7 @@ pub(crate) struct LevelsLine {
     pub(crate) levels: [u8; 64],
 }
 
-/// Returns what `line` says, or `None` if the grammar does not have such a line.
+/// Returns what `line` says, or `None` if the grammar has no such line.
 #[tactic(auto, unfolding(crate::specs::LanesLine::line_of))]
 pub(crate) fn read_line(line: &[u8]) -> Option<LanesLine>
     ensures { result ≡ line_of line.now }
@@ -59,14 +59,14 @@ pub(crate) fn read_line(line: &[u8]) -> Option<LanesLine>
     }
 }
 
-/// Parses the part of a `lanes` line after its first word. Returns `None` if the grammar does not have such a line.
+/// Parses the part of a `lanes` line after its first word. Returns `None` if the grammar has no such line.
 fn lanes_line(line: &[u8]) -> Option<[u8; 16]>
     ensures { result ≡ lanes_line (words line.now) }
 {
     hex_bytes(only_word(line)?)
 }
 
-/// Parses the part of an `sl2vl` line after its first word. Returns `None` if the grammar does not have such a line.
+/// Parses the part of an `sl2vl` line after its first word. Returns `None` if the grammar has no such line.
 fn map_line(line: &[u8]) -> Option<MapLine>
     ensures { result ≡ map_line (words line.now) }
 {
@@ -87,14 +87,14 @@ fn map_line(line: &[u8]) -> Option<MapLine>
 }
 
 /// Parses the part of a `level` line after its first word. The inner value is `None` if the level is above 15. Returns
-/// `None` if the grammar does not have such a line.
+/// `None` if the grammar has no such line.
 fn level_line(line: &[u8]) -> Option<Option<u8>>
     ensures { result ≡ level_line (words line.now) }
 {
     small_byte(only_word(line)?, 15)
 }
 
-/// Parses the part of a `levels` line after its first word. Returns `None` if the grammar does not have such a line.
+/// Parses the part of a `levels` line after its first word. Returns `None` if the grammar has no such line.
 fn block_line(line: &[u8]) -> Option<LevelsLine>
     ensures { result ≡ block_line (words line.now) }
 {

@@ -39,7 +39,8 @@ bare_guid_of word = guid_of (codes "0x" ++ word)
 abbrev pub at_most : ℕ → ℕ → Option ℕ
 at_most most n = if nat_le n most then Some n else None
 
--- the number that `word` spells in decimal. None if `word` does not spell a number, and an inner None if the number is above `most`
+-- the number that `word` spells in decimal. None if `word` does not spell a number, and an inner None if the number is
+-- above `most`
 abbrev pub small_of : ℕ → List ℕ → Option (Option ℕ)
 small_of most word = option_map (at_most most) (number_of 10 word)
 
