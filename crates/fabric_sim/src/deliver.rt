@@ -47,8 +47,8 @@ impl Fabric {
 
     /// Moves, answers, hands up or discards the packet at index `i` among the packets in flight, as `action` says.
     /// There must be one, and its envelope must be `envelope`. `smp` has the bytes of the packet after its step. If
-    /// the packet moves, it must be able to wait at the place that `action` says (`CanWait`). Returns `SerialsSpent`
-    /// if an agent is to answer and no serial number is left.
+    /// the packet moves, it must be able to wait where `action` says (`CanWait`). Returns `SerialsSpent` if an agent is
+    /// to answer and no serial number is left.
     fn act(
         &mut self,
         i: usize,

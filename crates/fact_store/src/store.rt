@@ -93,8 +93,8 @@ impl Store {
     }
 
     /// Adds `sighting`, unless it is below the floor. Looks for its key first at the slots where cells of its kind were
-    /// put last, and then at the end. This takes at most five comparisons. If the key's place is not found there, does
-    /// a binary search. If memory runs out, returns an error, and nothing changes.
+    /// put last, and then at the end. This takes at most five comparisons. If the slot for its key is not found there,
+    /// does a binary search. If memory runs out, returns an error, and nothing changes.
     pub fn add(&mut self, sighting: Sighting) -> Result<(), Refused>
         ensures ok { OnOk result (self.new ≡ merge self.old (view (sighting ∷ []))) }
         ensures err { OnErr result (self.new ≡ self.old) }

@@ -43,7 +43,8 @@ SoleOwnersAreAlone =
     (held : HeldPlan) (lid : ℕ) (port : EndPort) → IsTrue (is_owner (owners_of held lid) port)
     → IsTrue (is_sole port (owners_of held lid)) ↔ (owners_of held lid ≡ port ∷ [])
 
--- whether more than one of `lines` is for the LID. If so, and no two lines are equal, more than one end port holds the LID
+-- whether more than one of `lines` is for the LID. If so, and no two lines are equal, more than one end port holds the
+-- LID
 abbrev pub has_several_owners : List HeldLid → ℕ → Bool
 has_several_owners lines lid = nat_lt 1 (count_by (λ (line : HeldLid). line.lid == lid) lines)
 

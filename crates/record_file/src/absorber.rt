@@ -15,7 +15,7 @@ use std::marker::Model;
 type Part = ArrayVec<u8, RECORD_LEN>;
 
 /// A reader of a file that comes in pieces. Judges each record once its last byte has come. A record that lies whole
-/// within a piece is judged in place; any other record is put together first. Allocates only what the store needs.
+/// within a piece is judged there; any other record is put together first. Allocates only what the store needs.
 #[derive(Drop)]
 pub struct Absorber {
     awaited: Result<Awaited, FileFault>,
