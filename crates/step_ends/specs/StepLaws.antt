@@ -35,13 +35,13 @@ StepsHaveOneResult =
     → IsNextStep told rule preferred facts held plan goal next
     → IsNextStep told rule preferred facts held plan other_goal other → (goal ≡ other_goal) × (next ≡ other)
 
--- the step from `held` to `next` makes no credit loop, and `next` is right by the positions of `goal`, an order that
--- the held tables imply
+-- the step from `held` to `next` makes no credit loop, and `next` is right by the first order of `goal`
 pub record IsFreeByTold (facts : Facts) (held next : HeldPlan) (goal : Goal) : Type 0 where
   pub loops : (cycle lids : List ℕ) → IsLoopInStep (cells_of facts) held next cycle lids → cycle ≡ []
   pub right : are_right (cells_of facts) (position_at goal.positions) next ≡ true
 
--- a step by the order that the held tables imply makes no credit loop, and the next tables are right by this order
+-- a step towards a goal between two orders makes no credit loop, and the next tables are right by the first of these
+-- orders
 abbrev pub ToldStepsMakeNoLoop : Type 0
 ToldStepsMakeNoLoop =
     (rule preferred : RuleValue) (lmc : ℕ) (facts : Facts) (held : HeldPlan) (goal : Goal)

@@ -32,9 +32,9 @@ pub fn steps_have_one_result()
     ensures law { StepsHaveOneResult }
 {}
 
-/// A step of `next` by an order that the held tables imply can make no credit loop in any mixture, and the tables that
-/// it leads to are right by that order, whatever `--last-order` names. The step goes by that order if the held tables
-/// are not right by the order of the plan's switches, but imply an order.
+/// A step of `next` towards a goal between two orders can make no credit loop in any mixture, and the tables that it
+/// leads to are right by the first of these orders, whatever `--last-order` names. A step has such a goal if the held
+/// tables are not right by the order of the plan's switches, but imply an order.
 pub fn told_steps_make_no_loop()
     ensures law { ToldStepsMakeNoLoop }
 {}
