@@ -16,8 +16,9 @@ pub fn bits<const AT: usize, const SHIFT: u32, const WIDTH: u32>(bytes: &[u8; 64
     bits_at(bytes, AT, SHIFT, WIDTH)
 }
 
-/// Writes `number` into the `WIDTH` bits from bit `SHIFT` up of the byte at offset `AT`. All other bits stay. `AT` must
-/// be less than 64, `WIDTH` at least 1, `SHIFT + WIDTH` at most 8, and `number` less than 2^`WIDTH`.
+/// Writes `number` into the `WIDTH` bits from bit `SHIFT` up of the byte at offset `AT`. Leaves all other bits
+/// unchanged. `AT` must be less than 64, `WIDTH` at least 1, `SHIFT + WIDTH` at most 8, and `number` less than
+/// 2^`WIDTH`.
 pub fn with_bits<const AT: usize, const SHIFT: u32, const WIDTH: u32>(
     bytes: &mut [u8; 64],
     number: u8,

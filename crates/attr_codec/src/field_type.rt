@@ -38,8 +38,8 @@ pub fn read<T: FieldType, const AT: usize>(bytes: &[u8; 64]) -> T
     T::read_at(bytes, AT)
 }
 
-/// Writes `value` into the field whose first byte is at offset `AT`. The field must end within the 64 bytes. All other
-/// bytes stay.
+/// Writes `value` into the field whose first byte is at offset `AT`. Leaves all other bytes unchanged. The field must
+/// end within the 64 bytes.
 pub fn write<T: FieldType, const AT: usize>(value: T, bytes: &mut [u8; 64])
     requires { AT + T.len ≤ 64 }
     ensures written { bytes.new

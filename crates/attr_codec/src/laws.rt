@@ -18,44 +18,45 @@ pub fn decode_undoes_encode<A: Attribute>()
     ensures { (value : A) → A.is_value value → A.value_in (A.bytes_of value) ≡ value }
 {}
 
-/// If 64 bytes are decoded as NodeInfo and encoded again, the first 40 bytes, which contain the fields, stay. The 24
-/// reserved bytes become 0.
+/// If 64 bytes are decoded as NodeInfo and encoded again, the first 40 bytes, which contain the fields, stay the same.
+/// The 24 reserved bytes become 0.
 pub fn node_info_keeps_its_fields()
     ensures { KeepsFirstBytes 40
         ⟦<NodeInfo as Attribute>⟧.value_in
         ⟦<NodeInfo as Attribute>⟧.bytes_of }
 {}
 
-/// If 64 bytes are decoded as SMInfo and encoded again, the first 21 bytes, which contain the fields, stay. The 43
-/// reserved bytes become 0.
+/// If 64 bytes are decoded as SMInfo and encoded again, the first 21 bytes, which contain the fields, stay the same.
+/// The 43 reserved bytes become 0.
 pub fn sm_info_keeps_its_fields()
     ensures { KeepsFirstBytes 21
         ⟦<SmInfo as Attribute>⟧.value_in
         ⟦<SmInfo as Attribute>⟧.bytes_of }
 {}
 
-/// If 64 bytes are decoded as PortInfo and encoded again, all bytes stay, even those outside the named fields.
+/// If 64 bytes are decoded as PortInfo and encoded again, all bytes stay the same, even those outside the named fields.
 pub fn port_info_keeps_all_bytes()
     ensures { KeepsAllBytes
         ⟦<PortInfo as Attribute>⟧.value_in
         ⟦<PortInfo as Attribute>⟧.bytes_of }
 {}
 
-/// If 64 bytes are decoded as SwitchInfo and encoded again, all bytes stay, even those outside the named fields.
+/// If 64 bytes are decoded as SwitchInfo and encoded again, all bytes stay the same, even those outside the named
+/// fields.
 pub fn switch_info_keeps_all_bytes()
     ensures { KeepsAllBytes
         ⟦<SwitchInfo as Attribute>⟧.value_in
         ⟦<SwitchInfo as Attribute>⟧.bytes_of }
 {}
 
-/// If 64 bytes are decoded as a block of a linear forwarding table and encoded again, all bytes stay.
+/// If 64 bytes are decoded as a block of a linear forwarding table and encoded again, all bytes stay the same.
 pub fn lft_block_keeps_all_bytes()
     ensures { KeepsAllBytes
         ⟦<LftBlock as Attribute>⟧.value_in
         ⟦<LftBlock as Attribute>⟧.bytes_of }
 {}
 
-/// If 64 bytes are decoded as NodeDescription and encoded again, all bytes stay.
+/// If 64 bytes are decoded as NodeDescription and encoded again, all bytes stay the same.
 pub fn node_description_keeps_all_bytes()
     ensures { KeepsAllBytes
         ⟦<NodeDescription as Attribute>⟧.value_in

@@ -165,8 +165,8 @@ pub fn sites(alloc: Global, subnet: &Subnet) -> Result<Vec<Site>, Refused>
     Ok(sites_of(alloc, subnet.wires(), &graph, &roots, subnet.end_ports())?)
 }
 
-/// Returns the sites of `ports`, in order. `graph` must be the graph of `wires`, and `roots` must be the roots of its
-/// switches.
+/// Returns the sites of `ports`, in the order of `ports`. `graph` must be the graph of `wires`, and `roots` must be the
+/// roots of its switches.
 fn sites_of(
     alloc: Global,
     wires: &Wires,

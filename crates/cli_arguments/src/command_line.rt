@@ -265,14 +265,14 @@ fn of_seat<'a>(alloc: Global, command: Command<'a>) -> Result<Command<'a>, Alloc
         .arg(sm_key(alloc))
 }
 
-/// Adds the files and the option for a floor.
+/// Adds the argument for the files and the option for the floor.
 fn of_files<'a>(alloc: Global, command: Command<'a>) -> Result<Command<'a>, AllocError>
     ensures { IfOk result (AddsRules of_files command.entry) }
 {
     command.arg(files(alloc))?.arg(floor(alloc))
 }
 
-/// Adds the text of tables, the files and the option for a floor.
+/// Adds the arguments for the text of tables and for the files, and the option for the floor.
 fn of_tables<'a>(alloc: Global, command: Command<'a>) -> Result<Command<'a>, AllocError>
     ensures { IfOk result (AddsRules (text_rule (codes "TABLES") ∷ of_files) command.entry) }
 {

@@ -4,6 +4,6 @@ use Rattle.clap.specs.declared.parser.matches.ArgMatches.{ArgMatches}
 use Rattle.cli_arguments.specs.WellFormed.{IsWellFormed}
 use Rattle.cli_task.specs.InputNames.{inputs_asked}
 
--- well-formed words ask for a task, and name each of its inputs
+-- well-formed words ask for a task, and the name of none of its inputs is missing
 abbrev pub WellFormedWordsAsk : Type 0
 WellFormedWordsAsk = (matches : ArgMatches) → IsWellFormed matches → is_some (inputs_asked matches) ≡ true

@@ -156,9 +156,8 @@ fn step_of(words: &ArgMatches<'_>) -> Option<StepAsked>
     })
 }
 
-/// Returns how credit loops in a step are judged, as asked by `words`, which are those after a subcommand: lane by lane
-/// if a file of lanes is named, otherwise on one lane. Returns `None` if a flag about lanes is set without a file of
-/// lanes.
+/// Returns how `words` ask to judge credit loops in a step: lane by lane if they name a file of lanes, otherwise on one
+/// lane. `words` are those after a subcommand. Returns `None` if `--answers-as-asked` is set without a file of lanes.
 fn lanes_of(words: &ArgMatches<'_>) -> Option<StepLanes>
     ensures { result ≡ lanes_of (first_value (found_of words.now)) }
 {

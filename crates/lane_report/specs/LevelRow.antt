@@ -42,8 +42,8 @@ IsRow said sites number senders = senders ≡ row_of said sites number
 abbrev pub sender_lacks : LanesSaid → HeldLid → Site → RowSender → Bool
 sender_lacks said line owner sender = lacks sender.site owner (level_by said.level (line.lid % 64) sender.block)
 
--- the packets without a service level that the end ports of a row send to the LID of `line`, which the end port of
--- `owner` holds
+-- the packets for the LID of `line` from those of `senders` that lack a service level for it (`sender_lacks`). The end
+-- port of `owner` holds the LID
 abbrev pub missing_in_row : LanesSaid → List RowSender → HeldLid → Site → List PacketPair
 missing_in_row said senders line owner =
     map (λ sender. pair_of line sender.site) (filter (sender_lacks said line owner) senders)

@@ -50,7 +50,8 @@ pub(crate) fn any_marked(marks: &[bool], first: usize, width: usize) -> bool
     false
 }
 
-/// Marks the `width` numbers from `first` on. All these numbers must be within `marks`. All other marks stay.
+/// Marks the `width` numbers from `first` on. All these numbers must be within `marks`. Leaves all other marks
+/// unchanged.
 pub(crate) fn mark(marks: &mut [bool], first: usize, width: usize)
     requires { first + width ≤ length marks.old }
     ensures { AreMarkedMore (Some (from_on width first)) marks.old marks.new }

@@ -68,8 +68,8 @@ StepsEndInThePlan =
     ≡ Ends (Taken line.port) → n ≤ m
     → entry_for (stepped cells plan held m) line.lid g ≡ entry_for plan line.lid g
 
--- each packet that arrives by the plan arrives after two steps by settled entries, if the same end port alone holds
--- its LID in the held tables and in the plan
+-- a packet that the plan delivers is delivered at the same end port by the tables after two steps by settled entries,
+-- if this end port alone holds its LID in the held tables and in the plan
 abbrev pub StepsHealInTwo : Type 0
 StepsHealInTwo =
     (cells : Cells) (held plan : HeldPlan) (line : HeldLid) → IsKept held plan line

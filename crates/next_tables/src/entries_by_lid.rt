@@ -12,7 +12,7 @@ use smp_bytes::{Lid, NO_ENTRY};
 use std::alloc::{AllocError, Global};
 use subnet_view::EndPort;
 
-/// Returns the next entries of all usable switches by `rule`, for each LID of the first `count` blocks. `held` and
+/// Returns, for each LID of the first `count` blocks, the next entries of all usable switches, by `rule`. `held` and
 /// `plan` must have the same facts, and `count` must be at most 1024.
 pub(crate) fn columns(
     alloc: Global,

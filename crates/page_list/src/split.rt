@@ -14,7 +14,7 @@ pub struct Pages {
 }
 
 impl Pages {
-    /// Returns the page in the middle.
+    /// Returns the index of the page in the middle.
     fn middle(self) -> usize {
         self.first + self.end.saturating_sub(self.first) / 2
     }

@@ -86,7 +86,7 @@ impl Starts {
     }
 
     /// Inserts `start` as the index of page `page`. `page` must be at most the number of pages. The list must have room
-    /// for one more index. Takes time linear in the number of pages.
+    /// for one more index. Takes time linear in the number of pages and groups.
     pub(crate) fn insert(&mut self, page: usize, start: usize)
         requires page { page ≤ length self.old.items }
         requires room { 0 < self.old.room }
@@ -97,8 +97,8 @@ impl Starts {
         insert_within(&mut self.starts, page, start);
     }
 
-    /// Appends `start`. The list must have room for one more index. Takes constant time if nothing is to be added to
-    /// the indices of the new index's group. Otherwise takes time linear in the number of pages.
+    /// Appends `start`. The list must have room for one more index. Takes constant time if `added` has 0 for the group
+    /// of the new index. Otherwise takes time linear in the number of pages and groups.
     pub(crate) fn push(&mut self, start: usize)
         requires room { 0 < self.old.room }
         ensures items { self.new.items ≡ self.old.items ++ start ∷ [] }

@@ -74,8 +74,8 @@ port_up slopes s t =
     option_map (λ e. e.port) (find (λ e. same_number (option_map suc (cost slopes e.to t)) (cost slopes s t))
     (ups_at slopes s))
 
--- the next port from `s` towards `t`. It leads down if a walk down leads to `t`, and otherwise up; None at `t` itself,
--- and if no route leads to `t`
+-- the next port from `s` towards `t`; None at `t` itself, and if no route leads to `t`. The port leads down if a walk
+-- down leads to `t`, and otherwise up
 abbrev pub next_port : List Slope → ℕ → ℕ → Option ℕ
 next_port slopes s t =
     if s == t then None else (if is_some (down_distance slopes s t) then port_down slopes s t else port_up slopes s t)

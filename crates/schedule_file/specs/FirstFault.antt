@@ -26,7 +26,8 @@ pub record IsCrowded (nodes : List Node) (lines : List (List ℕ)) : Type 0 wher
 abbrev pub IsSoundOrCrowded : List Node → List (List ℕ) → Type 0
 IsSoundOrCrowded nodes lines = (fault_of (schedule_of_lines nodes lines) ≡ None) ⊎ IsCrowded nodes lines
 
--- `seats`, the managers so far, with the one that the line `number` adds, if it adds one, or the line's fault
+-- the managers so far, `seats`, followed by the one that the given line adds, if any; or the line's fault. The line has
+-- the number `number`
 abbrev pub seats_with : List Node → ℕ → List Seat → Option ScheduleLine → Result (List Seat) ScheduleFault
 seats_with nodes number seats None = Err (Syntax number)
 seats_with nodes number seats (Some line.Empty) = Ok seats

@@ -19,12 +19,12 @@ use Rattle.sm_state.specs.Controls.{control_of_modifier}
 abbrev pub to : SmState → Option Message → Transition
 to state sends = record { state = state; message = sends; is_refused = false }
 
--- the move for a control that is refused in `state`: the state stays, and nothing is sent
+-- the move for a control that is refused in `state`: the state stays the same, and nothing is sent
 abbrev pub refused : SmState → Transition
 refused state = record { state = state; message = None; is_refused = true }
 
--- the move that ACKNOWLEDGE causes in a standby; the state stays. The plain conduct refuses the control. The live
--- conduct does not, since the answer to the HANDOVER that the manager sent may have made it a standby already
+-- the move that ACKNOWLEDGE causes in a standby; the state stays the same. The plain conduct refuses the control. The
+-- live conduct does not, since the answer to the HANDOVER that the manager sent may have made it a standby already
 abbrev pub acknowledged_late : Conduct → Transition
 acknowledged_late Plain = refused Standby
 acknowledged_late (Live key) = to Standby None

@@ -51,8 +51,8 @@ abbrev pub with_numbers : List Entry → List ℕ → List ℕ
 with_numbers [] bytes = bytes
 with_numbers (e ∷ entries) bytes = with_numbers entries (with_number e.field e.number bytes)
 
--- `byte`, with `number` written into its bits `bits`. If `number` fits in these bits, the bits above and below them
--- stay
+-- `byte`, with `number` written into its bits `bits`. If `number` fits in these bits, the bits above and below them are
+-- unchanged
 abbrev pub replaced : Bits → ℕ → ℕ → ℕ
 replaced bits number byte =
     (byte / 2 ^ (bits.shift + bits.width) * 2 ^ bits.width + number) * 2 ^ bits.shift + byte % 2 ^ bits.shift

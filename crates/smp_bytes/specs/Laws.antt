@@ -1,4 +1,4 @@
--- Laws of writes into a field, or into bits of a byte: what was written is read, and everything else stays.
+-- Laws of writes into a field, or into bits of a byte: what was written is read, and everything else is unchanged.
 use Rattle.std.specs.Prelude.{◌≡◌, ◌≢◌, ℕ, ◌+◌, ◌^◌, ◌<◌, ◌≤◌, ◌⊎◌, List, All, length, slice_index, true}
 use Rattle.smp_bytes.specs.Field.{Field, Bits, number_in, bits_in, with_number, with_bits, are_apart, are_bits_apart}
 

@@ -39,7 +39,7 @@ directed method_number attribute modifier tid path payload =
 abbrev pub answer_status : List ℕ → ℕ → ℕ
 answer_status packet status = if is_directed packet then 2 ^ 15 + status else status
 
--- the answer to the request `packet`: method, status and attribute are replaced, and everything else stays
+-- the answer to the request `packet`: method, status and attribute are replaced, and everything else is unchanged
 abbrev pub answer_packet : List ℕ → ℕ → List ℕ → List ℕ
 answer_packet packet status payload =
     with_bytes attribute_data.at payload

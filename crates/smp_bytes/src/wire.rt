@@ -109,8 +109,8 @@ pub fn bits_at(bytes: &[u8], at: usize, shift: u32, width: u32) -> u8
     number as u8
 }
 
-/// Writes `number` into the `width` bits from bit `shift` up of the byte at offset `at`. All other bits stay. `width`
-/// must be at least 1, `shift + width` at most 8, and `number` less than 2^`width`.
+/// Writes `number` into the `width` bits from bit `shift` up of the byte at offset `at`. Leaves all other bits
+/// unchanged. `width` must be at least 1, `shift + width` at most 8, and `number` less than 2^`width`.
 pub fn put_bits(bytes: &mut [u8], at: usize, shift: u32, width: u32, number: u8)
     requires offset { at < length bytes.old }
     requires some { 1 ≤ width }

@@ -83,7 +83,7 @@ abbrev pub Channel : Type 0
 Channel = ℕ × Edge
 
 -- a packet that occupies the channel `held` may wait for `next`. `held` leads to the vertex of `next`, and both are
--- candidates towards one target
+-- candidates towards the same target
 pub record MayWait (edges : List (List Edge)) (held next : Channel) : Type 0 where
   pub target : ℕ
   pub holds : Contains (candidates edges target held.0) held.1

@@ -48,8 +48,8 @@ PlansDeliverWhatTablesCan =
     (rule : RuleValue) (lmc : ℕ) (facts : Facts) → AreInRange facts → ¬ (IsNoRoom lmc (cells_of facts))
     → DeliversWhatTablesCan (cells_of facts) (held_plan (plan_of rule lmc (cells_of facts)))
 
--- the text that `next` prints after the given number of steps from the tables of `text`, each step from the text that
--- was printed before; `text` itself after no step
+-- the text that the last of the given number of steps by `next` prints; `text` itself if the number is 0. The first
+-- step is from the tables of `text`, and each later step from those of the text that the step before it printed
 abbrev pub printed : ℕ → RuleValue → Facts → List ℕ → ℕ → List ℕ
 printed lmc rule facts text zero = text
 printed lmc rule facts text (suc n) = step_text lmc rule facts (held_of (printed lmc rule facts text n))

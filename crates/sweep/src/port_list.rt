@@ -67,8 +67,8 @@ pub(crate) fn item_at<T: OfPort>(items: &PageList<T>, guid: Guid, port: PortNum)
     }
 }
 
-/// Inserts `item` in order, unless there is an item with its GUID and port already. `items` must be in order, and
-/// have memory for one more item. Moves at most a page of items.
+/// Inserts `item` in order, unless there already is an item with its GUID and port. `items` must be in order, and have
+/// memory for one more item. Moves at most a page of items.
 pub(crate) fn put<T: OfPort>(items: &mut PageList<T>, item: T)
     requires order { AreInOrder T.key items.old.items }
     requires room { 0 < items.old.room }

@@ -22,7 +22,7 @@ lines (b ∷ bytes) = if b == 10 then []
 abbrev pub is_blank : ℕ → Bool
 is_blank b = b == 32 || b == 9
 
--- the byte `b` put before the first word; the later words stay
+-- the byte `b` put before the first word; the later words are unchanged
 abbrev pub onto_word : ℕ → List ℕ × List (List ℕ) → List ℕ × List (List ℕ)
 onto_word b parts = (b ∷ parts.0, parts.1)
 

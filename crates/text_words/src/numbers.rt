@@ -47,7 +47,7 @@ pub fn count(word: &[u8], most: u16) -> Option<Option<u16>>
     Some(if is_within { Some(number as u16) } else { None })
 }
 
-/// Parses a word of decimal digits as a port from 1 to 254. Returns `None` if the word is not a number, and
+/// Parses a word of decimal digits as a port number from 1 to 254. Returns `None` if the word is not a number, and
 /// `Some(None)` if the number is 0 or over 254.
 pub fn port_number(word: &[u8]) -> Option<Option<u8>>
     ensures { result ≡ count_of 254 word.now }

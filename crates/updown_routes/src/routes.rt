@@ -59,7 +59,7 @@ impl<'g> Routes<'g> {
     }
 
     /// Returns the next port of the switch at index `switch` towards the switch at index `target`. Returns `None` if
-    /// there is no next port, or if one of the indices has no switch. Takes constant time.
+    /// there is no next port, or if there is no switch at one of the indices. Takes constant time.
     pub fn next_port_at(&self, switch: usize, target: usize) -> Option<PortNum>
         ensures { result ≡ next_port_at self.now switch target }
     {
