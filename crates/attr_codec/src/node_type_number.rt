@@ -26,7 +26,7 @@ impl NodeTypeNumber {
         NodeTypeNumber(number)
     }
 
-    /// Returns the number.
+    /// Returns the node type as a number.
     pub fn number(self) -> u8
         ensures { result ≡ self }
     {

@@ -38,7 +38,7 @@ impl VendorId {
         VendorId(number)
     }
 
-    /// Returns the number.
+    /// Returns the ID as a number.
     pub fn number(self) -> u32
         ensures value { result ≡ self }
         ensures fits { result < 2 ^ 24 }

@@ -18,7 +18,7 @@ use Rattle.audit_channels.specs.Columns.{TakesInTurn}
 use Rattle.fact_store.specs.View.{Facts, cells_of}
 use Rattle.subnet_view.specs.Reading.{Cells, switches}
 use Rattle.subnet_view.specs.Wires.{across}
-use Rattle.subnet_view.specs.Agreement.{Part}
+use Rattle.subnet_view.specs.FabricAgreement.{Part}
 use Rattle.held_tables.specs.Held.{HeldPlan}
 use Rattle.held_tables.specs.declared.far_end.Far.TheVariants.{Nothing, Switch}
 use Rattle.packet_walks.specs.Edges.{edge_by, edge_to, edges_of}

@@ -8,7 +8,7 @@ use Rattle.fabric_model.specs.FabricWalks.{IsWire, IsJoinedTo}
 use Rattle.fabric_model.specs.Forwarding.{Standing, sent_from, Hop, Goes}
 use Rattle.fact_store.specs.View.{Facts, cells_of}
 use Rattle.subnet_view.specs.Reading.{Cells, switches}
-use Rattle.subnet_view.specs.Agreement.{Part, IsEndPortIn}
+use Rattle.subnet_view.specs.FabricAgreement.{Part, IsEndPortIn}
 use Rattle.held_tables.specs.Held.{HeldPlan}
 use Rattle.packet_walks.specs.Fabrics.{IsSeenIn}
 use Rattle.held_tables.specs.Switches.{index_in}

@@ -9,7 +9,7 @@ use Rattle.fabric_model.specs.declared.course.Course.{Course}
 use Rattle.fabric_model.specs.declared.course.Course.TheVariants.{Delivers, LeavesBy, Drops}
 use Rattle.fabric_model.specs.Cables.{is_same_port}
 use Rattle.smp_bytes.specs.NodeType.{is_switch}
-use Rattle.fabric_model.specs.Fabric.{Node, Fabric, IsFabric, IsNodeAt, IsEndPort, is_switch_at, owns}
+use Rattle.fabric_model.specs.Fabric.{Node, Fabric, IsFabric, IsNodeAt, IsEndPort, is_switch_at, owns, IsPortNamed}
 use Rattle.fabric_model.specs.FabricWalks.{IsJoinedTo, vertex_of}
 use Rattle.fabric_model.specs.Forwarding.{Standing, arrived_at, sent_from, course, adapter_course, entry_course, switch_course, Hop, Goes, IsDelivered}
 use Rattle.fabric_model.proofs.Cabled.{same_port-is, same_port-refl}
@@ -20,7 +20,7 @@ use Rattle.subnet_view.specs.EndPorts.{end_ports}
 use Rattle.reply_facts.specs.Known.{cap_of}
 use Rattle.subnet_view.specs.Reading.{Cells, is_switch_node, is_usable}
 use Rattle.subnet_view.specs.Wires.{across, attached, leads_to}
-use Rattle.subnet_view.specs.Agreement.{Part, IsEndPortIn, IsPortNamed}
+use Rattle.subnet_view.specs.FabricAgreement.{Part, IsEndPortIn}
 use Rattle.subnet_view.proofs.EndPortList.{end_ports_law}
 use Rattle.subnet_view.proofs.WireLaws.{wire_law}
 use Rattle.held_tables.specs.Held.{HeldPlan}

@@ -135,7 +135,8 @@ impl<'a> Audit<'a> {
         self.findings.unmatched.lidless.count() == 0
     }
 
-    /// Returns whether each usable switch of the facts has tables, or the facts have no end port.
+    /// Returns whether the audit finds that each usable switch of the facts has tables, or that the facts have no end
+    /// port.
     fn has_tables(&self) -> bool
         ensures { IsTrue result ↔ EachHasTables (cells_of self.now.facts) self.now.held }
     {

@@ -24,7 +24,7 @@ impl NodeId {
         NodeId(number)
     }
 
-    /// Returns the number.
+    /// Returns the number of the node.
     pub const fn number(self) -> usize
         ensures { result ≡ self }
     {

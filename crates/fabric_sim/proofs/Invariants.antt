@@ -18,9 +18,9 @@ use Rattle.fabric_sim.specs.declared.flight.Whereabouts.{Whereabouts}
 use Rattle.fabric_sim.specs.declared.flight.Whereabouts.TheVariants.{Seat, Arrived, Made}
 use Rattle.fabric_sim.specs.declared.flight.Flight.{Flight}
 use Rattle.fabric_sim.specs.declared.packet.Packet.{Packet}
-use Rattle.fabric_sim.specs.Simulation.{Simulation, IsSimulation, AreUncabledDown, CanWait, IsWaiting, AreRising}
+use Rattle.fabric_sim.specs.Simulation.{Simulation, IsSimulation, AreUncabledDown, CanWait, IsWaiting}
+use Rattle.fabric_sim.specs.Flights.{AreRising, is_numbered, with_moved}
 use Rattle.fabric_sim.specs.Simulation.{agent_at, across, has_cable_port, fabric_of, port_of, answer_whereabouts}
-use Rattle.fabric_sim.specs.Flights.{is_numbered, with_moved}
 use Rattle.fabric_sim.specs.Traps.{Traps}
 use Rattle.fabric_sim.specs.Delivery.{with_changed, with_flight, without, moved_to, asked}
 use Rattle.fabric_sim.specs.Changes.{changed_at}

@@ -8,7 +8,7 @@ use Rattle.fabric_model.specs.declared.cable.NodePort.{NodePort}
 use Rattle.fabric_model.specs.Fabric.{Node, IsCablePort}
 use Rattle.node_agents.specs.Agent.{Agent, node_of}
 use Rattle.fabric_sim.specs.Simulation.{Simulation, agent_at, port_count, is_cable_port, fabric_of}
-use Rattle.fabric_sim.specs.SeenFabric.{SimulationsAreFabrics}
+use Rattle.fabric_sim.specs.SimulationsAreFabrics.{SimulationsAreFabrics}
 use Rattle.fabric_sim.proofs.TripShapes.{agent_there}
 use Rattle.fabric_sim.proofs.TripEnds.{agents_of, agent_by_port}
 

@@ -10,8 +10,8 @@ use Rattle.std.proofs.lemmas.Bool.{cond-true, cond-false, not_from_true, not_fro
 use Rattle.std.proofs.lemmas.Cmp.{ranked}
 use Rattle.std.proofs.lemmas.Option.{slice_get_within, get_or_from_slice_get, slice_get_cases}
 use Rattle.fabric_sim.specs.declared.flight.Flight.{Flight}
-use Rattle.fabric_sim.specs.Simulation.{AreRising}
-use Rattle.fabric_sim.specs.Flights.{is_numbered, flight_with, without_flight, with_moved, IsFlightAt, Finds}
+use Rattle.fabric_sim.specs.Flights.{AreRising, is_numbered, flight_with, without_flight, with_moved, IsFlightAt}
+use Rattle.fabric_sim.specs.Flights.{Finds}
 
 -- by rising numbers --------------------------------------------------------------------
 

@@ -1,6 +1,6 @@
 -- The packets in flight of a simulated fabric, by their serial numbers.
 use Rattle.std.specs.Prelude.{◌≡◌, ℕ, ◌<◌, not, Bool, List, map, find, filter, slice_get, ◌==◌, if◌then◌else◌, Option}
-use Rattle.std.specs.Prelude.{Some, None, option_map}
+use Rattle.std.specs.Prelude.{Some, None, option_map, AllPairs}
 use Rattle.fabric_sim.specs.declared.flight.Flight.{Flight}
 
 -- whether the packet in flight has the serial number `serial`
@@ -29,3 +29,7 @@ without_flight flights serial = filter (λ flight. not (is_numbered serial fligh
 -- the packets in flight, with the one that has the serial number of `moved` replaced by `moved`
 abbrev pub with_moved : List Flight → Flight → List Flight
 with_moved flights moved = map (λ flight. if is_numbered moved.serial flight then moved else flight) flights
+
+-- the serial numbers of packets in flight rise
+abbrev pub AreRising : List Flight → Type 0
+AreRising flights = AllPairs (λ before after. before.serial < after.serial) flights

@@ -8,8 +8,8 @@ pub mod Flights
 pub mod Notices
 pub mod PacketOutcome
 pub mod Ping
-pub mod SeenFabric
 pub mod Simulation
+pub mod SimulationsAreFabrics
 pub mod ThereAndBack
 pub mod ToldOfEnd
 pub mod TrapCalls

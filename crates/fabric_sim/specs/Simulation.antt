@@ -1,6 +1,6 @@
 -- A simulated fabric: the agents of its nodes, the cables between their ports, and the packets on their way.
 use Rattle.std.specs.Prelude.{◌≡◌, ℕ, ◌+◌, ◌^◌, ◌<◌, ◌≤◌, ◌↔◌, ◌&&◌, ◌||◌, Bool, true, false, List, [], map, length}
-use Rattle.std.specs.Prelude.{All, AllPairs, slice_get, slice_index_or, nat_le, Option, Some, None}
+use Rattle.std.specs.Prelude.{All, slice_get, slice_index_or, nat_le, Option, Some, None}
 use Rattle.std.specs.Option.{option_map_or}
 use Rattle.smp_bytes.specs.Ports.{is_within}
 use Rattle.fabric_model.specs.declared.cable.NodePort.{NodePort}
@@ -11,6 +11,7 @@ use Rattle.fabric_sim.specs.declared.flight.Whereabouts.{Whereabouts}
 use Rattle.fabric_sim.specs.declared.flight.Whereabouts.TheVariants.{Seat, Arrived, Made}
 use Rattle.fabric_sim.specs.declared.flight.Flight.{Flight}
 use Rattle.fabric_sim.specs.Traps.{Traps}
+use Rattle.fabric_sim.specs.Flights.{AreRising}
 
 -- a simulated fabric: `agents` has the agents by the ids of their nodes. `peers` has for each node the other ends of
 -- the cables in its ports, from port 0 on; port 0 never has a cable. `flights` has the packets in flight, in
@@ -132,10 +133,6 @@ pub record CanWait (s : Simulation) (whereabouts : Whereabouts) : Type 0 where
 pub record IsWaiting (s : Simulation) (flight : Flight) : Type 0 where
   pub whereabouts : CanWait s flight.whereabouts
   pub given : flight.serial < s.next
-
--- the serial numbers of packets in flight rise
-abbrev pub AreRising : List Flight → Type 0
-AreRising flights = AllPairs (λ before after. before.serial < after.serial) flights
 
 -- `s` has at most 1024 nodes with their agents, managers only at cable ports (`is_cable_port`), and cables that fit
 -- (`AreCables`). Packets in flight wait where they can. Their serial numbers rise and are below the next one, which

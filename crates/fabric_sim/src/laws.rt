@@ -1,6 +1,6 @@
 //! The laws of packets on their way.
 ghost use Rattle.fabric_sim.specs.Ping.{PingsTell, PingsFind};
-ghost use Rattle.fabric_sim.specs.SeenFabric.{SimulationsAreFabrics};
+ghost use Rattle.fabric_sim.specs.SimulationsAreFabrics.{SimulationsAreFabrics};
 ghost use Rattle.fabric_sim.specs.ThereAndBack.{ThereAndBack};
 ghost use Rattle.fabric_sim.specs.TrapLaws.{RepressesEndTraps};
 

@@ -5,8 +5,7 @@ use Rattle.std.specs.Prelude.{codes, map, option_and_then, option_map}
 use Rattle.std.specs.Borrow.{Bor}
 use Rattle.std.proofs.lemmas.List.{length-map}
 use Rattle.clap.specs.declared.parser.matches.ArgMatches.{ArgMatches}
-use Rattle.sm_cli.specs.Asked.{rule_for}
-use Rattle.sm_cli.specs.InputOrders.{texts_if}
+use Rattle.sm_cli.specs.Asked.{rule_for, texts_if}
 use Rattle.next_run.specs.Asked.{has_lanes, is_named}
 use Rattle.cli_arguments.specs.Words.{files_named, word_named}
 use Rattle.cli_task.specs.InputNames.{followed_by, names_asked, names_in, step_texts, text_if, texts_asked}

@@ -22,7 +22,7 @@ use Rattle.subnet_view.specs.declared.end_port.EndPort.{EndPort}
 use Rattle.subnet_view.specs.EndPorts.{end_ports}
 use Rattle.subnet_view.specs.Reading.{Cells, switches}
 use Rattle.subnet_view.specs.Wires.{across}
-use Rattle.subnet_view.specs.Agreement.{Part, IsEndPortIn}
+use Rattle.subnet_view.specs.FabricAgreement.{Part, IsEndPortIn}
 use Rattle.subnet_view.proofs.EndPortList.{end_ports_law}
 use Rattle.held_tables.specs.declared.far_end.Far.TheVariants.{Nothing, Switch}
 use Rattle.held_tables.specs.Switches.{index_in, far_at, far_to, far_of, row_of}
@@ -42,7 +42,9 @@ use Rattle.lanes_file.specs.Lanes.{lane_of}
 use Rattle.lane_channels.specs.LaneNetwork.{SeenByLane}
 use Rattle.lane_channels.specs.LaneTurns.{TakesByLane}
 use Rattle.lane_channels.specs.Levels.{HasLevel}
-use Rattle.lane_channels.specs.Stops.{Columns, ComesAfter, HasEdge, IsNextStop, far_port, first_stop, lane_between, lane_by, lane_number, port_across, port_in}
+use Rattle.lane_channels.specs.Stops.{Columns, ComesAfter, HasEdge, IsNextStop, first_stop, lane_between, lane_by}
+use Rattle.lane_channels.specs.Stops.{lane_number, port_across}
+use Rattle.lane_channels.specs.FarPorts.{far_port, port_in}
 use Rattle.lane_channels.specs.Stops.{stop_at, stop_by}
 use Rattle.lane_channels.specs.AnyTables.{WaitsByAny, columns_for}
 use Rattle.next_tables.specs.Mixtures.{IsMixed}

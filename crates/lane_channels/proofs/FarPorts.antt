@@ -17,7 +17,7 @@ use Rattle.subnet_view.specs.Wires.{across}
 use Rattle.held_tables.specs.declared.far_end.Far.{Far}
 use Rattle.held_tables.specs.declared.far_end.Far.TheVariants.{Nothing, Switch, Port}
 use Rattle.held_tables.specs.Switches.{far_at, far_of, far_to, first_by, first_switch, index_in, sender_of, switch_over}
-use Rattle.lane_channels.specs.Stops.{far_port, far_port_by}
+use Rattle.lane_channels.specs.FarPorts.{far_port, far_port_by}
 
 -- an element of a list of the numbers from `first` on
 at_range : (f : ℕ → ℕ) (n first k : ℕ) → k < n → slice_index_or (map f (range_with_len first n)) k 0 ≡ f (first + k)

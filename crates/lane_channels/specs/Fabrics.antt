@@ -7,7 +7,7 @@ use Rattle.smp_bytes.specs.NodeType.{is_switch}
 use Rattle.fabric_model.specs.Fabric.{Node, Fabric}
 use Rattle.fabric_model.specs.Forwarding.{Standing, sent_from, Hop, Goes}
 use Rattle.subnet_view.specs.Reading.{Cells}
-use Rattle.subnet_view.specs.Agreement.{Part, IsEndPortIn}
+use Rattle.subnet_view.specs.FabricAgreement.{Part, IsEndPortIn}
 use Rattle.audit_channels.specs.Fabrics.{IsChannel}
 use Rattle.lanes_file.specs.Lanes.{LanesSaid, lane_of}
 use Rattle.lane_channels.specs.LaneNetwork.{SeenByLane}

@@ -8,7 +8,8 @@ use Rattle.subnet_view.specs.EndPorts.{end_ports}
 use Rattle.packet_walks.specs.Network.{Seen, seen_code}
 use Rattle.lanes_file.specs.contracts.lanes.Lanes as lanes
 use Rattle.lanes_file.specs.Lanes.{LanesSaid}
-use Rattle.lane_channels.specs.Stops.{far_port_by, first_stop}
+use Rattle.lane_channels.specs.Stops.{first_stop}
+use Rattle.lane_channels.specs.FarPorts.{far_port_by}
 
 -- facts and tables, and what a text says about lanes
 pub record SeenByLane : Type 0 where

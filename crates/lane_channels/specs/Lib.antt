@@ -1,11 +1,12 @@
 pub mod AnyTables
 pub mod Fabrics
+pub mod FarPorts
 pub mod LaneLaws
 pub mod LaneNetwork
+pub mod LaneStepLaws
 pub mod LaneTurns
 pub mod Levels
 pub mod Senders
-pub mod LaneStepLaws
 pub mod Stops
 pub mod Visits
 pub mod Waiting

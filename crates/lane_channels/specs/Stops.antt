@@ -1,36 +1,21 @@
 -- Where packets come in at usable switches, and where they go from there. A stop is a port by which packets come in at
 -- a usable switch. Its number is 256 times the index of the switch, plus the port. The port is 0 for packets that the
 -- switch itself sends.
-use Rattle.std.specs.Prelude.{◌≡◌, ℕ, zero, suc, ◌/◌, ◌%◌, ◌+◌, ◌*◌, ◌&&◌, List, [], Option, None, Some, length, nat_lt, slice_get, slice_index_or}
-use Rattle.std.specs.Prelude.{if◌then◌else◌}
-use Rattle.std.specs.Option.{option_map_or}
+use Rattle.std.specs.Prelude.{◌≡◌, ℕ, zero, suc, ◌/◌, ◌%◌, ◌+◌, ◌*◌, ◌&&◌, List, [], Option, None, Some, length}
+use Rattle.std.specs.Prelude.{nat_lt, slice_index_or, if◌then◌else◌}
 use Rattle.port_graph.specs.declared.edge.Edge.{Edge}
 use Rattle.subnet_view.specs.Reading.{Cells, switches}
-use Rattle.subnet_view.specs.Wires.{across}
 use Rattle.subnet_view.specs.declared.end_port.EndPort.{EndPort}
 use Rattle.held_tables.specs.declared.far_end.Far.{Far}
 use Rattle.held_tables.specs.declared.far_end.Far.TheVariants.{Nothing, Switch, Port}
 use Rattle.held_tables.specs.declared.senders.Sender.{Sender}
 use Rattle.held_tables.specs.Switches.{sender_of}
 use Rattle.lanes_file.specs.Lanes.{LanesSaid, lane_of}
+use Rattle.lane_channels.specs.FarPorts.{far_port, far_port_by}
 
 -- the stop at port `port` of the switch at `index`
 abbrev pub stop_at : ℕ → ℕ → ℕ
 stop_at index port = 256 * index + port
-
--- the port of a pair of a node and a port
-abbrev pub port_in : ℕ × ℕ → ℕ
-port_in q = q.1
-
--- the port at the far end of the wire in port `p` of node `g`; 0 if there is no wire
-abbrev pub far_port : Cells → ℕ → ℕ → ℕ
-far_port cells g p = option_map_or port_in (across cells g p) 0
-
--- the port at the far end of the wire in port `number` % 256 of the usable switch at index `number` / 256; 0 if there
--- is no wire or no such switch
-abbrev pub far_port_by : Cells → ℕ → ℕ
-far_port_by cells number =
-    option_map_or (λ g. far_port cells g (number % 256)) (slice_get (switches cells) (number / 256)) 0
 
 -- the stop at which a sender's packets first reach a usable switch: port 0 of the switch that the sender itself is, if
 -- its index is given, or else port `port` of the switch to which the sender's wire leads; None if the packets reach no

@@ -4,7 +4,8 @@ ghost use Rattle.std.specs.List.{range_with_len};
 ghost use Rattle.fact_store.specs.View.{cells_of};
 ghost use Rattle.subnet_view.specs.EndPorts.{end_ports};
 ghost use Rattle.subnet_view.specs.Reading.{switches};
-ghost use Rattle.lane_channels.specs.Stops.{far_port, far_port_by, first_stop, stop_at, stop_by, stop_from};
+ghost use Rattle.lane_channels.specs.Stops.{first_stop, stop_at, stop_by, stop_from};
+ghost use Rattle.lane_channels.specs.FarPorts.{far_port, far_port_by};
 ghost use Rattle.held_tables.specs.Switches.{first_switch, switch_over};
 
 use held_tables::{Far, Sender, Subnet};

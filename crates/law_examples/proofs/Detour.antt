@@ -6,12 +6,12 @@ use Rattle.fabric_model.specs.declared.cable.NodePort.{NodePort}
 use Rattle.std.proofs.lemmas.Bool.{cases_lt, ne_eqb}
 use Rattle.smp_bytes.specs.LidRange.{is_among}
 use Rattle.smp_bytes.specs.NodeType.{is_switch}
-use Rattle.fabric_model.specs.Fabric.{Node, Fabric, IsEndPort, IsFabric, owns}
+use Rattle.fabric_model.specs.Fabric.{Node, Fabric, IsEndPort, IsFabric, owns, IsPortNamed}
 use Rattle.fabric_model.specs.FabricWalks.{IsJoinedTo, IsWire, Walk}
 use Rattle.fabric_model.proofs.FabricWalks.{port_at}
 use Rattle.fact_store.specs.View.{cells_of}
 use Rattle.subnet_view.specs.Reading.{Cells}
-use Rattle.subnet_view.specs.Agreement.{Part, WholeFabric, IsEndPortIn, IsPortNamed, HasEndPort, AgreesOn}
+use Rattle.subnet_view.specs.FabricAgreement.{Part, WholeFabric, IsEndPortIn, HasEndPort, AgreesOn}
 use Rattle.subnet_view.proofs.Covered.{covers}
 use Rattle.lft_blocks.proofs.FabricCases.{EachIndexed, end_cases, end_of, indexed_at, next}
 use Rattle.lft_blocks.proofs.Triangle.{adapter, cells, facts, facts_have, switch, triangle}

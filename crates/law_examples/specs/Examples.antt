@@ -6,7 +6,7 @@ use Rattle.fabric_model.specs.Fabric.{Fabric, IsEndPort, Node}
 use Rattle.fabric_model.specs.FabricWalks.{IsJoinedTo}
 use Rattle.fabric_model.specs.Forwarding.{Hop}
 use Rattle.fact_store.specs.View.{Facts, cells_of}
-use Rattle.subnet_view.specs.Agreement.{IsEndPortIn}
+use Rattle.subnet_view.specs.FabricAgreement.{IsEndPortIn}
 use Rattle.held_tables.specs.declared.held.HeldLid.{HeldLid}
 use Rattle.held_tables.specs.Held.{HeldPlan}
 use Rattle.held_tables.specs.Tables.{entry_for}

@@ -23,7 +23,7 @@ use Rattle.fact_store.specs.View.{Facts, cells_of}
 use Rattle.subnet_view.specs.Reading.{Cells}
 use Rattle.subnet_view.specs.EndPorts.{IsEndPort}
 use Rattle.subnet_view.specs.Wires.{across, IsWire}
-use Rattle.subnet_view.specs.Agreement.{Part, IsEndPortIn, HasEndPort, HasWire, TellsEndPort, AgreesOn}
+use Rattle.subnet_view.specs.FabricAgreement.{Part, IsEndPortIn, HasEndPort, HasWire, TellsEndPort, AgreesOn}
 use Rattle.subnet_view.proofs.Members.{contains_cases, contains_none}
 use Rattle.subnet_view.proofs.Taken.{found_in}
 use Rattle.subnet_view.proofs.WireLaws.{wire_law}

@@ -8,7 +8,7 @@ use Rattle.fabric_model.specs.Fabric.{Node, Fabric}
 use Rattle.fact_store.specs.View.{Facts, cells_of}
 use Rattle.subnet_view.specs.declared.end_port.EndPort.{EndPort}
 use Rattle.subnet_view.specs.Reading.{Cells, is_usable}
-use Rattle.subnet_view.specs.Agreement.{Part, IsEndPortIn}
+use Rattle.subnet_view.specs.FabricAgreement.{Part, IsEndPortIn}
 use Rattle.subnet_view.proofs.UsableSwitches.{usable_law}
 use Rattle.lid_assign.specs.Lids.{Given, lids, owner_of, top_of}
 use Rattle.lid_assign.specs.LidLaws.{AreLids}

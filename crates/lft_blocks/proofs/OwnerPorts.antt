@@ -4,7 +4,7 @@ use Rattle.std.proofs.lemmas.Bool.{and_left}
 use Rattle.std.proofs.lemmas.Option.{same_Some}
 use Rattle.std.specs.Prelude.{IsTrue, Option, None, Some, Contains, is_some, option_map, option_and_then, slice_get}
 use Rattle.fabric_model.specs.declared.cable.NodePort.{NodePort}
-use Rattle.fabric_model.specs.Fabric.{Node, Fabric, IsEndPort, is_switch_at, owns}
+use Rattle.fabric_model.specs.Fabric.{Node, Fabric, IsEndPort, is_switch_at, owns, IsPortNamed}
 use Rattle.fabric_model.specs.FabricWalks.{IsJoinedTo}
 use Rattle.smp_bytes.specs.LidRange.{has_lid}
 use Rattle.fabric_model.proofs.FabricWalks.{same_port, type_at, adapter_vertex}
@@ -13,7 +13,7 @@ use Rattle.reply_facts.specs.Known.{cap_of}
 use Rattle.subnet_view.specs.Reading.{Cells, is_switch_node, is_usable}
 use Rattle.subnet_view.specs.EndPorts.{HasEndPorts, end_ports}
 use Rattle.subnet_view.specs.Wires.{across, attached}
-use Rattle.subnet_view.specs.Agreement.{IsEndPortIn, IsPortNamed, HasEndPort, AgreesOn}
+use Rattle.subnet_view.specs.FabricAgreement.{IsEndPortIn, HasEndPort, AgreesOn}
 use Rattle.subnet_view.proofs.Apart.{contains_map}
 use Rattle.subnet_view.proofs.WireLaws.{wire_law}
 use Rattle.lid_assign.specs.Lids.{lids, lid_of, lmc_of, owner_of}

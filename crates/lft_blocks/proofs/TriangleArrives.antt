@@ -7,7 +7,7 @@ use Rattle.std.specs.Prelude.{None, Some, option_and_then, slice_get, slice_inde
 use Rattle.std.specs.Option.{option_map_or}
 use Rattle.fact_store.specs.View.{cells_of}
 use Rattle.fabric_model.specs.declared.cable.NodePort.{NodePort}
-use Rattle.fabric_model.specs.Fabric.{Node, IsFabric, IsCablePort, IsEndPort}
+use Rattle.fabric_model.specs.Fabric.{Node, IsFabric, IsCablePort, IsEndPort, IsPortNamed}
 use Rattle.fabric_model.specs.FabricWalks.{IsWire, AreNeighbors, IsJoinedTo, IsConnected, vertex_of}
 use Rattle.fabric_model.proofs.FabricWalks.{port_at, joined_over}
 use Rattle.fact_join.specs.declared.cell.Cell.{Cell}
@@ -15,7 +15,7 @@ use Rattle.reply_facts.specs.declared.key.Key.{Key}
 use Rattle.reply_facts.specs.declared.value.Value.{Value}
 use Rattle.subnet_view.specs.Reading.{Cells}
 use Rattle.subnet_view.specs.Wires.{across}
-use Rattle.subnet_view.specs.Agreement.{Part, WholeFabric, IsEndPortIn, IsPortNamed, HasEndPort, HasWire, AgreesOn}
+use Rattle.subnet_view.specs.FabricAgreement.{Part, WholeFabric, IsEndPortIn, HasEndPort, HasWire, AgreesOn}
 use Rattle.lid_assign.specs.Lids.{IsNoRoom, lids, owner_of}
 use Rattle.subnet_view.specs.Graph.{graph_of}
 use Rattle.updown_routes.specs.Updown.{updown}

@@ -5,7 +5,7 @@ use Rattle.fabric_model.specs.declared.cable.NodePort.{NodePort}
 use Rattle.subnet_view.specs.declared.end_port.EndPort.{EndPort}
 use Rattle.subnet_view.specs.Reading.{Cells}
 use Rattle.subnet_view.specs.Routing.{Routing}
-use Rattle.subnet_view.specs.Agreement.{Part}
+use Rattle.subnet_view.specs.FabricAgreement.{Part}
 use Rattle.lft_blocks.specs.Arrival.{ArrivesBy, EveryPacketArrivesBy, IsCostAlong}
 use Rattle.lft_blocks.specs.LidNumbers.{numbered}
 use Rattle.lft_blocks.specs.Plan.{PlanValue}

@@ -6,7 +6,7 @@ use Rattle.fabric_model.specs.Fabric.{Node, Fabric, IsFabric, IsEndPort}
 use Rattle.fabric_model.specs.FabricWalks.{IsJoinedTo, IsConnected, vertex_of}
 use Rattle.fabric_model.proofs.FabricWalks.{vertex_is_end}
 use Rattle.subnet_view.specs.Reading.{Cells}
-use Rattle.subnet_view.specs.Agreement.{WholeFabric, IsEndPortIn, HasEndPort, HasWire, AgreesOn}
+use Rattle.subnet_view.specs.FabricAgreement.{WholeFabric, IsEndPortIn, HasEndPort, HasWire, AgreesOn}
 use Rattle.lft_blocks.specs.Plan.{PlanValue, plan_of}
 use Rattle.lft_blocks.specs.Arrival.{PacketsArriveIfConnected}
 use Rattle.lft_blocks.specs.InForce.{HoldsPlan, IsInForce}

@@ -6,13 +6,13 @@ use Rattle.std.specs.Prelude.{AllPairs, Some, slice_get}
 use Rattle.std.specs.Option.{option_map_or}
 use Rattle.std.specs.List.Sorted.{IsStrictlyIncreasing}
 use Rattle.fabric_model.specs.declared.cable.NodePort.{NodePort}
-use Rattle.fabric_model.specs.Fabric.{Fabric, IsEndPort, is_switch_at}
+use Rattle.fabric_model.specs.Fabric.{Fabric, IsEndPort, is_switch_at, IsPortNamed}
 use Rattle.fabric_model.specs.FabricWalks.{IsJoinedTo, IsConnected}
 use Rattle.fabric_model.specs.Forwarding.{Hop, IsDelivered}
 use Rattle.fact_store.specs.View.{Facts, cells_of}
 use Rattle.subnet_view.specs.declared.end_port.EndPort.{EndPort}
 use Rattle.subnet_view.specs.Reading.{Cells}
-use Rattle.subnet_view.specs.Agreement.{Part, WholeFabric, IsPortNamed, HasEndPort}
+use Rattle.subnet_view.specs.FabricAgreement.{Part, WholeFabric, HasEndPort}
 use Rattle.lid_assign.specs.Lids.{IsNoRoom, owner_of}
 use Rattle.subnet_view.specs.Graph.{graph_of}
 use Rattle.subnet_view.specs.Routing.{Routing, IsRouting}

@@ -4,7 +4,7 @@ use Rattle.fabric_model.specs.declared.cable.NodePort.{NodePort}
 use Rattle.smp_bytes.specs.NodeType.{is_switch}
 use Rattle.fabric_model.specs.Fabric.{Node, Fabric, IsFabric, range_at}
 use Rattle.subnet_view.specs.Reading.{Cells}
-use Rattle.subnet_view.specs.Agreement.{Part, IsEndPortIn, AgreesOn, Covers}
+use Rattle.subnet_view.specs.FabricAgreement.{Part, IsEndPortIn, AgreesOn, Covers}
 use Rattle.lid_assign.specs.Lids.{range_of, top_of}
 use Rattle.lft_blocks.specs.Plan.{PlanValue, block_at}
 

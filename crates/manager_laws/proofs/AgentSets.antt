@@ -10,9 +10,11 @@ use Rattle.attr_codec.specs.PortInfo.{range_in}
 use Rattle.attr_codec.specs.SwitchInfo.{linear_fdb_top}
 use Rattle.node_agents.specs.declared.port.Port.{Port}
 use Rattle.node_agents.specs.Agent.{Agent, IsAgent, range_at, entry_at}
-use Rattle.node_agents.specs.PortInfo.{port_meant, has_lid}
+use Rattle.node_agents.specs.PortInfo.{port_meant, has_lid, SetsPort}
 use Rattle.node_agents.specs.Answers.{Met, after_answer}
-use Rattle.node_agents.specs.AnswerLaws.{IsPacket, IsTaken, SetsPort, SetsTop, SetsBlock}
+use Rattle.node_agents.specs.AnswerLaws.{IsPacket, IsTaken}
+use Rattle.node_agents.specs.LftBlock.{SetsBlock}
+use Rattle.node_agents.specs.SwitchInfo.{SetsTop}
 use Rattle.node_agents.proofs.Outcomes.{what_is_set}
 use Rattle.node_agents.proofs.Sets.{blocks_are_set, tops_are_set, ports_are_set}
 use Rattle.node_agents.proofs.Told.{answered-agent, taken_to, port_taken, refusals_change_nothing}

@@ -24,7 +24,7 @@ use Rattle.subnet_view.specs.Reading.{Cells, IsUsable}
 use Rattle.subnet_view.specs.EndPorts as view_ports
 use Rattle.subnet_view.specs.Wires as view_wires
 use Rattle.subnet_view.specs.Wires.{CanHaveWire}
-use Rattle.subnet_view.specs.Agreement.{AgreesOn, IsEndPortIn, HasEndPort, HasWire, TellsEndPort}
+use Rattle.subnet_view.specs.FabricAgreement.{AgreesOn, IsEndPortIn, HasEndPort, HasWire, TellsEndPort}
 use Rattle.sweep.specs.declared.vertex.Vertex.{Vertex}
 use Rattle.sweep.specs.Sweep.{Sweep, Asking, path_to}
 use Rattle.manager_laws.specs.Truth.{HasNode, IsTrueOf, IsTrueSighting}

@@ -2,14 +2,14 @@
 use Rattle.std.proofs.Common.{◌≡◌, ℕ, zero, suc, map, List, [], ◌∷◌, refl, sym, ap, ◌∙◌, subst}
 use Rattle.std.specs.Prelude.{Option, Some, slice_get}
 use Rattle.fabric_model.specs.declared.cable.NodePort.{NodePort}
-use Rattle.fabric_model.specs.Fabric.{Fabric, IsEndPort, IsEndPortNumber, Node}
+use Rattle.fabric_model.specs.Fabric.{Fabric, IsEndPort, IsEndPortNumber, Node, IsPortNamed}
 use Rattle.fabric_model.specs.FabricWalks.{IsJoinedTo, Walk}
 use Rattle.node_agents.specs.declared.agent_node.AgentNode.{AgentNode}
 use Rattle.node_agents.specs.Agent.{Agent, node_of, port_guid}
 use Rattle.fabric_sim.specs.Simulation.{Simulation, across, fabric_of}
 use Rattle.fabric_sim.proofs.TripShapes.{IsAlong, nodes_of}
 use Rattle.subnet_view.specs.Reading.{Cells}
-use Rattle.subnet_view.specs.Agreement.{AgreesOn, HasEndPort, HasWire, IsEndPortIn, IsPortNamed}
+use Rattle.subnet_view.specs.FabricAgreement.{AgreesOn, HasEndPort, HasWire, IsEndPortIn}
 
 module _ (f : Fabric) (base_lid lmc : NodePort → ℕ) (entry : ℕ → ℕ → ℕ) (top : ℕ → ℕ) where
   -- the same nodes and cables, with other LIDs and tables

@@ -7,10 +7,10 @@ use Rattle.fabric_model.specs.Fabric as fabrics
 use Rattle.fabric_model.specs.FabricWalks.{IsJoinedTo}
 use Rattle.fabric_sim.specs.Simulation.{fabric_of}
 use Rattle.fact_store.specs.View.{cells_of}
-use Rattle.subnet_view.specs.Agreement.{AgreesOn}
+use Rattle.subnet_view.specs.FabricAgreement.{AgreesOn}
 use Rattle.subnet_view.specs.EndPorts.{IsEndPort}
 use Rattle.lft_blocks.specs.InForce.{HoldsPlan}
-use Rattle.sweep.specs.Sweep.{Sweep, path_to}
+use Rattle.sweep.specs.Sweep.{Sweep, path_to, IsReached}
 use Rattle.sm_manager.specs.Writing.{is_written}
 use Rattle.manager_laws.specs.Pings.{EachPingArrives}
 use Rattle.manager_laws.specs.Scene.{Scene}
@@ -21,7 +21,7 @@ use Rattle.manager_laws.proofs.Alike.{end_port_along}
 use Rattle.manager_laws.proofs.Done.{done_sweeps_are_complete, seat_end}
 use Rattle.manager_laws.specs.Managing.{Managing, ManagerEvent, Begin, CanBe, after_manager_event, after_manager_events}
 use Rattle.manager_laws.specs.WritingPings.{AreNoSweeps, PingsArriveOnceWritten}
-use Rattle.manager_laws.specs.Written.{AllKeep, IsReached, IsWritingRun, at_end, at_first_steps, at_writing, own_sets, plan_at}
+use Rattle.manager_laws.specs.Written.{AllKeep, IsWritingRun, at_end, at_first_steps, at_writing, own_sets, plan_at}
 use Rattle.manager_laws.proofs.After.{Writes, event_writes}
 use Rattle.manager_laws.proofs.Followed.{SeenBySweeps, on_scene, runs_append, can_append, nothing_seen, event_seen, seen_further}
 use Rattle.manager_laws.proofs.Follows.{holds_all}

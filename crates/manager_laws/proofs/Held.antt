@@ -5,7 +5,7 @@ use Rattle.std.specs.Prelude.{Contains, Option, Some, None, IsSome}
 use Rattle.std.specs.Option.{option_map_or}
 use Rattle.fabric_model.specs.declared.cable.NodePort.{NodePort}
 use Rattle.smp_bytes.specs.Header.{port_info, switch_info, linear_forwarding_table}
-use Rattle.fabric_model.specs.Fabric.{Node, IsNodeAt, range_at as range_in_fabric}
+use Rattle.fabric_model.specs.Fabric.{Node, IsNodeAt, range_at as range_in_fabric, IsPortNamed}
 use Rattle.fabric_model.specs.DirectedWalk.{directed_end}
 use Rattle.attr_codec.specs.declared.port_state.PortState.{PortState}
 use Rattle.attr_codec.specs.declared.port_state.PortState.TheVariants.{NoChange}
@@ -18,11 +18,10 @@ use Rattle.fabric_sim.proofs.TripShapes.{IsAlong}
 use Rattle.fabric_sim.proofs.TracedCalls.{AreTraced}
 use Rattle.subnet_view.specs.declared.end_port.EndPort.{EndPort}
 use Rattle.subnet_view.proofs.Members.{contains_none}
-use Rattle.subnet_view.specs.Agreement.{IsPortNamed}
 use Rattle.lid_assign.specs.Lids.{range_of, top_of}
 use Rattle.lft_blocks.specs.InForce.{HoldsBlock}
 use Rattle.lft_blocks.specs.Plan.{PlanValue, plan_of, block_at, switches_of}
-use Rattle.sweep.specs.Sweep.{Sweep, path_to, seen_state, switch_image}
+use Rattle.sweep.specs.Sweep.{Sweep, path_to, seen_state, switch_image, IsReached}
 use Rattle.plan_steps.specs.declared.step.Step.{Step}
 use Rattle.plan_steps.specs.Carried.{port_read}
 use Rattle.plan_steps.specs.LidSets.{own_lid, port_data}
@@ -34,7 +33,8 @@ use Rattle.manager_laws.specs.Truth.{HasNode, AreGuidsDistinct}
 use Rattle.manager_laws.proofs.Answers as scenes
 use Rattle.manager_laws.proofs.Swept as swept_laws
 use Rattle.manager_laws.specs.Managing.{Managing, ManagerEvent, Begin, Starts, after_manager_event, after_manager_events}
-use Rattle.manager_laws.specs.Written.{IsReached, IsHeldWhere, IsWritingRun, WrittenPlansAreHeld, at_first_steps, at_writing, at_end, own_sets, plan_at}
+use Rattle.manager_laws.specs.Written.{IsHeldWhere, IsWritingRun, WrittenPlansAreHeld, at_first_steps, at_writing}
+use Rattle.manager_laws.specs.Written.{at_end, own_sets, plan_at}
 use Rattle.manager_laws.specs.Sets.{Carries, IsOwnSet}
 use Rattle.manager_laws.proofs.After.{IsOnWay, Writes, phase_writes, after_writes, written_done}
 use Rattle.manager_laws.proofs.AgentSets.{Holds}

@@ -16,7 +16,7 @@ use Rattle.subnet_view.specs.declared.end_port.EndPort.{EndPort}
 use Rattle.reply_facts.specs.Known as values
 use Rattle.subnet_view.specs.Reading.{Cells, switches}
 use Rattle.subnet_view.specs.EndPorts.{IsEndPort}
-use Rattle.subnet_view.specs.Agreement.{Part, AgreesOn, IsEndPortIn, TellsEndPort}
+use Rattle.subnet_view.specs.FabricAgreement.{Part, AgreesOn, IsEndPortIn, TellsEndPort}
 use Rattle.subnet_view.proofs.Apart.{found_there, contains_map, contains-from_map}
 use Rattle.subnet_view.proofs.EndPortList.{end_ports_law}
 use Rattle.subnet_view.proofs.UsableSwitches.{switches_law}
@@ -27,9 +27,9 @@ use Rattle.lft_blocks.specs.InForce.{HoldsBlock, HoldsPlan, HoldsPlanAt}
 use Rattle.lft_blocks.specs.Plan.{SwitchTable, plan_of, block_at, switches_of, lid_routing}
 use Rattle.lft_blocks.specs.Entries.{attachment_of_lid, block_count, blocks}
 use Rattle.lft_blocks.specs.Rules.{RuleValue}
-use Rattle.sweep.specs.Sweep.{Sweep}
+use Rattle.sweep.specs.Sweep.{Sweep, IsReached}
 use Rattle.manager_laws.specs.Truth.{HasNode}
-use Rattle.manager_laws.specs.Written.{IsReached, IsHeldWhere}
+use Rattle.manager_laws.specs.Written.{IsHeldWhere}
 
 pub switch_is : (kind : NodeType) → is_switch kind ≡ true → kind ≡ Switch
 switch_is ChannelAdapter e = absurd (cc)

@@ -8,7 +8,7 @@ use Rattle.reply_facts.specs.declared.report.Report.{Report}
 use Rattle.reply_facts.specs.Report.{sightings_of}
 use Rattle.fact_store.specs.View.{Facts, cells_of, view}
 use Rattle.subnet_view.specs.EndPorts.{IsEndPort}
-use Rattle.subnet_view.specs.Agreement.{AgreesOn}
+use Rattle.subnet_view.specs.FabricAgreement.{AgreesOn}
 use Rattle.fabric_sim.specs.Simulation.{Simulation, fabric_of}
 use Rattle.sweep.specs.Sweep.{Sweep, is_done, path_to}
 use Rattle.lid_assign.specs.Lids.{IsNoRoom}

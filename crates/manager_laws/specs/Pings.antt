@@ -7,7 +7,7 @@ use Rattle.fabric_model.specs.FabricWalks.{IsJoinedTo}
 use Rattle.fact_store.specs.View.{Facts, cells_of}
 use Rattle.subnet_view.specs.declared.end_port.EndPort.{EndPort}
 use Rattle.subnet_view.specs.Reading.{Cells}
-use Rattle.subnet_view.specs.Agreement.{Part, AgreesOn}
+use Rattle.subnet_view.specs.FabricAgreement.{Part, AgreesOn}
 use Rattle.lid_assign.specs.Lids.{IsNoRoom, owner_of}
 use Rattle.lft_blocks.specs.Rules.{RuleValue}
 use Rattle.lft_blocks.specs.Plan.{PlanValue, plan_of}

@@ -22,7 +22,7 @@ pub record Handed : Type 0 where
   pub at : NodePort
   pub packet : Packet
 
--- the fabric, and all packets that were handed up so far
+-- the fabric that managers work on, and all packets that were handed up to them so far
 pub record Scene : Type 0 where
   pub fabric : Simulation
   pub handed : List Handed

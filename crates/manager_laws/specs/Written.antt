@@ -1,31 +1,27 @@
 -- Once a plan is written, the fabric holds it as far as the sweep before the writing reached, whatever else happened.
 -- InfiniBand Architecture Specification, Volume 1: subnet management, initialization.
-use Rattle.std.specs.Prelude.{◌≡◌, ◌≢◌, ◌⊎◌, ℕ, true, List, [], ◌∷◌, All, Contains, Some, None, IsSome}
+use Rattle.std.specs.Prelude.{◌≡◌, ◌≢◌, ◌⊎◌, ℕ, true, List, [], ◌∷◌, All, Contains, Some, None}
 use Rattle.fabric_model.specs.declared.cable.NodePort.{NodePort}
 use Rattle.fabric_model.specs.Fabric as fabric
-use Rattle.fabric_model.specs.Fabric.{Fabric, range_at}
+use Rattle.fabric_model.specs.Fabric.{Fabric, range_at, IsPortNamed}
 use Rattle.fact_store.specs.View.{cells_of}
 use Rattle.subnet_view.specs.declared.end_port.EndPort.{EndPort}
-use Rattle.subnet_view.specs.Agreement.{IsPortNamed}
 use Rattle.lid_assign.specs.Lids.{range_of, top_of}
 use Rattle.lft_blocks.specs.Plan.{PlanValue, plan_of, block_at, switches_of}
 use Rattle.lft_blocks.specs.InForce.{HoldsBlock}
 use Rattle.fabric_sim.specs.Simulation.{fabric_of}
-use Rattle.sweep.specs.Sweep.{Sweep, path_to}
+use Rattle.sweep.specs.Sweep.{Sweep, IsReached}
 use Rattle.lft_blocks.specs.Planning.{Planning}
 use Rattle.sm_state.specs.declared.conduct.Conduct.{Conduct}
 use Rattle.sm_manager.specs.Manager.{begin_fault, new_manager}
 use Rattle.sm_manager.specs.PlanFaults.{writing_fault}
 use Rattle.sm_manager.specs.Writing.{is_written, phases_by}
 use Rattle.manager_laws.specs.Truth.{HasNode}
-use Rattle.manager_laws.specs.Managing.{Managing, ManagerEvent, Around, Begin, Write, CanBe, Starts, after_manager_event, after_manager_events}
+use Rattle.manager_laws.specs.Managing.{Managing, ManagerEvent, Around, Begin, Write, CanBe, Starts}
+use Rattle.manager_laws.specs.Managing.{after_manager_event, after_manager_events}
 use Rattle.manager_laws.specs.Sets.{IsOwnSet, OwnSets, KeepsPlan}
 
 -- a plan where a sweep reached ----------------------------------------------------------------------
-
--- the sweep has a path to this end port: to a switch at port 0, or to an adapter's port
-abbrev pub IsReached : Sweep → ℕ → ℕ → Type 0
-IsReached s guid port = IsSome (path_to s guid port)
 
 -- in the fabric, each end port and each switch of the plan that the sweep reached holds what the plan has for it
 pub record IsHeldWhere (plan : PlanValue) (s : Sweep) (f : Fabric) : Type 0 where

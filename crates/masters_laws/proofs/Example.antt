@@ -14,7 +14,7 @@ use Rattle.reply_facts.specs.declared.key.Key.TheVariants.{Node as NodeKey, Port
 use Rattle.reply_facts.specs.declared.value.Value.TheVariants.{Kind, Guid, Peer, Up, Lid, Count}
 use Rattle.reply_facts.specs.Report.{Sightings}
 use Rattle.fact_store.specs.View.{cells_of, no_facts}
-use Rattle.subnet_view.specs.Agreement.{AgreesOn, Part}
+use Rattle.subnet_view.specs.FabricAgreement.{AgreesOn, Part}
 use Rattle.subnet_view.specs.Reading.{Cells}
 use Rattle.lft_blocks.specs.InForce.{HoldsPlan}
 use Rattle.plan_steps.specs.Phases.{Phase}

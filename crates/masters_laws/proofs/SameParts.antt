@@ -7,7 +7,7 @@ use Rattle.fabric_model.specs.Fabric as fabrics
 use Rattle.fabric_model.specs.Fabric.{Fabric, is_switch_at}
 use Rattle.fabric_model.specs.FabricWalks.{AreNeighbors, IsJoinedTo, Walk, vertex_of}
 use Rattle.fabric_model.proofs.FabricWalks.{adapter_vertex, joined_over, vertex_node}
-use Rattle.subnet_view.specs.Agreement.{AgreesOn, HasEndPort, HasWire, IsEndPortIn, Part}
+use Rattle.subnet_view.specs.FabricAgreement.{AgreesOn, HasEndPort, HasWire, IsEndPortIn, Part}
 use Rattle.subnet_view.specs.Reading.{Cells}
 
 -- an adapter's port, and the switch at the other end of its cable

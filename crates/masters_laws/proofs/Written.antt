@@ -9,7 +9,7 @@ use Rattle.fabric_model.specs.FabricWalks.{IsJoinedTo}
 use Rattle.fabric_model.proofs.FabricWalks.{same_port}
 use Rattle.fact_store.specs.View.{Facts, cells_of}
 use Rattle.fabric_sim.specs.Simulation.{fabric_of}
-use Rattle.subnet_view.specs.Agreement.{AgreesOn, HasEndPort, Part}
+use Rattle.subnet_view.specs.FabricAgreement.{AgreesOn, HasEndPort, Part}
 use Rattle.subnet_view.specs.Reading.{Cells}
 use Rattle.lft_blocks.specs.InForce.{HoldsPlan, HoldsPlanAt}
 use Rattle.lft_blocks.specs.Plan.{PlanValue}

@@ -7,7 +7,7 @@ use Rattle.fabric_model.specs.Fabric.{Fabric, range_at}
 use Rattle.fabric_model.specs.FabricWalks.{IsJoinedTo}
 use Rattle.fact_store.specs.View.{Facts, cells_of}
 use Rattle.fabric_sim.specs.Simulation.{fabric_of}
-use Rattle.subnet_view.specs.Agreement.{Part, IsEndPortIn, TellsEndPort, AgreesOn}
+use Rattle.subnet_view.specs.FabricAgreement.{Part, IsEndPortIn, TellsEndPort, AgreesOn}
 use Rattle.lid_assign.specs.Lids.{IsNoRoom, range_of}
 use Rattle.lft_blocks.specs.Plan.{PlanValue}
 use Rattle.lft_blocks.specs.InForce.{HoldsPlan}

@@ -21,8 +21,7 @@ use Rattle.next_tables.specs.declared.fault.StepFault.{StepFault}
 use Rattle.next_tables.specs.declared.fault.StepFault.TheVariants as steps
 use Rattle.lanes_file.specs.Lanes.{LanesSaid}
 use Rattle.next_run.specs.StepVerdict.{IsSound, IsVerdict, Verdict, verdict_text}
-use Rattle.sm_cli.specs.Asked.{texts_for}
-use Rattle.sm_cli.specs.InputOrders.{texts_if}
+use Rattle.sm_cli.specs.Asked.{texts_for, texts_if}
 use Rattle.sm_cli.specs.InputReaders.{step_reader}
 use Rattle.sm_cli.specs.Inputs.{IsInputFault, Reader, WithInputs}
 use Rattle.sm_cli.specs.declared.input_steps.StepInputs.{StepInputs}

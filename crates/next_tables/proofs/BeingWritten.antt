@@ -12,7 +12,7 @@ use Rattle.fabric_model.specs.FabricWalks.{IsJoinedTo}
 use Rattle.fabric_model.proofs.FabricWalks.{port_at, same_port, type_at, switch_number}
 use Rattle.fact_store.specs.View.{Facts, cells_of}
 use Rattle.subnet_view.specs.Reading.{Cells, switches}
-use Rattle.subnet_view.specs.Agreement.{Part, IsEndPortIn}
+use Rattle.subnet_view.specs.FabricAgreement.{Part, IsEndPortIn}
 use Rattle.subnet_view.proofs.UsableSwitches.{switches_law, usable_law}
 use Rattle.held_tables.specs.Held.{HeldPlan}
 use Rattle.packet_walks.specs.declared.packet_end.End.TheVariants.{Lost}

@@ -7,7 +7,7 @@ use Rattle.std.proofs.lemmas.Option.{same_Some}
 use Rattle.fabric_model.specs.declared.cable.NodePort.{NodePort}
 use Rattle.fabric_model.specs.declared.course.Course.TheVariants.{Delivers, LeavesBy, Drops}
 use Rattle.smp_bytes.specs.NodeType.{is_switch}
-use Rattle.fabric_model.specs.Fabric.{Node, Fabric, IsNodeAt, owns}
+use Rattle.fabric_model.specs.Fabric.{Node, Fabric, IsNodeAt, owns, IsPortNamed}
 use Rattle.fabric_model.specs.FabricWalks.{IsJoinedTo, vertex_of}
 use Rattle.fabric_model.specs.Forwarding.{Standing, sent_from, arrived_at, course, entry_course, Hop}
 use Rattle.fabric_model.proofs.FabricWalks.{port_at, same_port, EndNumber, type_at, switch_vertex, adapter_vertex, switch_number}
@@ -16,7 +16,7 @@ use Rattle.fact_store.specs.View.{Facts, cells_of}
 use Rattle.subnet_view.specs.declared.end_port.EndPort.{EndPort}
 use Rattle.subnet_view.specs.Reading.{Cells, switches}
 use Rattle.subnet_view.specs.Wires.{across}
-use Rattle.subnet_view.specs.Agreement.{Part, IsEndPortIn, IsPortNamed}
+use Rattle.subnet_view.specs.FabricAgreement.{Part, IsEndPortIn}
 use Rattle.held_tables.specs.declared.held.HeldLid.{HeldLid}
 use Rattle.held_tables.specs.Held.{HeldPlan}
 use Rattle.packet_walks.specs.declared.packet_end.Cause.{Cause}

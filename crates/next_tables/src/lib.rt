@@ -5,9 +5,9 @@
 #![tactic(auto)]
 
 mod assembly;
-mod deliveries;
 mod entries_by_lid;
 mod fault;
+mod held_arrivals;
 pub mod laws;
 mod ordered_entries;
 mod settled_entries;

@@ -8,7 +8,7 @@ ghost use Rattle.next_tables.specs.OrderComputed.{entered_of, flag, is_differing
 ghost use Rattle.next_tables.specs.OrderComputed.{entries_by, entry_by, enters, going_up_of, ordered_of, tried_by};
 ghost use Rattle.next_tables.specs.OrderComputed.{tried_of, turns_well_by};
 
-use crate::deliveries::{arrives_by, delivered, flag, hops, leads_in};
+use crate::held_arrivals::{arrives_by, delivered, flag, hops, leads_in};
 use crate::up_down::{is_down, is_up};
 use packet_walks::ends_by_switch::ends;
 use packet_walks::{NextHop, SwitchStep};

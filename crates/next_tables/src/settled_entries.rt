@@ -4,7 +4,7 @@ ghost use Rattle.packet_walks.specs.EndsBySwitch.{HaveEnded};
 ghost use Rattle.next_tables.specs.SettledComputed.{agreed_by, agreed_of, arrives_by, chosen_by, hops_of, mending_by};
 ghost use Rattle.next_tables.specs.SettledComputed.{mending_of, is_whole, next_by, next_of, patch_by, patch_entry_by};
 
-use crate::deliveries::{arrives_by, hops};
+use crate::held_arrivals::{arrives_by, hops};
 use packet_walks::ends_by_switch::{ends, is_to};
 use packet_walks::{Cause, End, NextHop, SwitchStep};
 use std::alloc::{AllocError, Global};

@@ -20,12 +20,13 @@ use Rattle.attr_codec.specs.declared.port_state.PortState.TheVariants.{NoChange,
 use Rattle.attr_codec.proofs.PortStates.{state_small}
 use Rattle.node_agents.specs.declared.port.Port.{Port}
 use Rattle.node_agents.specs.Agent.{Agent, IsAgent, is_switch, port_in, port_at, range_at, with_port}
-use Rattle.node_agents.specs.SwitchInfo.{get_switch_info}
-use Rattle.node_agents.specs.PortInfo.{has_lid, max_lmc, is_next_state, state_after, port_with, are_lids_taken, port_after, port_meant, port_info_of}
-use Rattle.node_agents.specs.LftBlock.{has_block}
+use Rattle.node_agents.specs.SwitchInfo.{get_switch_info, SetsTop}
+use Rattle.node_agents.specs.PortInfo.{has_lid, max_lmc, is_next_state, state_after, port_with, are_lids_taken}
+use Rattle.node_agents.specs.PortInfo.{port_after, port_meant, port_info_of, SetsPort}
+use Rattle.node_agents.specs.LftBlock.{has_block, SetsBlock}
 use Rattle.node_agents.specs.declared.refusal.Refusal.{Refusal}
 use Rattle.node_agents.specs.Answers.{get_of, after_answer}
-use Rattle.node_agents.specs.AnswerLaws.{SetsBlock, BlocksAreSet, SetsTop, TopsAreSet, SetsPort, PortsAreSet}
+use Rattle.node_agents.specs.AnswerLaws.{BlocksAreSet, TopsAreSet, PortsAreSet}
 use Rattle.node_agents.proofs.PortSteps.{lid_taken}
 use Rattle.node_agents.proofs.Shapes.{block_within}
 use Rattle.node_agents.proofs.Lengths.{port_entries, port_marked, port_ranged, switch_entries, length-port_image, length-port_marked, length-port_ranged}

@@ -1,19 +1,22 @@
 -- What an answer is, what it leaves unchanged in the agent, and what an accepted Set does.
-use Rattle.std.specs.Prelude.{◌≡◌, ◌≢◌, ◌↔◌, ◌⊎◌, ℕ, ◌+◌, ◌*◌, ◌<◌, ◌≤◌, Bool, true, false, List, length, slice_index, None, Some}
+use Rattle.std.specs.Prelude.{◌≡◌, ◌≢◌, ◌↔◌, ℕ, ◌≤◌, Bool, true, false, List, length, None, Some}
 use Rattle.smp_bytes.specs.Header.{get, set, done, node_info, switch_info, port_info, linear_forwarding_table}
 use Rattle.smp_bytes.specs.Field.{number_in, bytes_in, bits_in}
 use Rattle.smp_bytes.specs.Packet.{method, attribute_id, attribute_modifier, attribute_data, status, fault_of}
 use Rattle.smp_bytes.specs.ReadBack.{HoldsAnswer}
 use Rattle.attr_codec.specs.NodeInfo.{node_info_in}
-use Rattle.attr_codec.specs.PortInfo.{range_in, port_state, number_of_state}
-use Rattle.attr_codec.specs.SwitchInfo.{linear_fdb_cap, linear_fdb_top}
+use Rattle.attr_codec.specs.PortInfo.{port_state, number_of_state}
+use Rattle.attr_codec.specs.SwitchInfo.{linear_fdb_cap}
 use Rattle.attr_codec.specs.declared.port_state.PortState.{PortState}
 use Rattle.attr_codec.specs.declared.port_state.PortState.TheVariants.{NoChange, Down}
 use Rattle.node_agents.specs.declared.agent_node.AgentNode.{AgentNode}
-use Rattle.node_agents.specs.Agent.{Agent, IsAgent, IsAgentNode, is_switch, state_at, has_seat, port_at, range_at, entry_at, fresh_agent, after_set_wired, after_set_seat}
+use Rattle.node_agents.specs.Agent.{Agent, IsAgent, IsAgentNode, is_switch, state_at, has_seat, fresh_agent}
+use Rattle.node_agents.specs.Agent.{after_set_wired, after_set_seat}
 use Rattle.node_agents.specs.NodeInfo.{node_info_of}
-use Rattle.node_agents.specs.PortInfo.{has_lid, port_meant}
+use Rattle.node_agents.specs.PortInfo.{port_meant, SetsPort}
 use Rattle.node_agents.specs.Answers.{after_request, status_told, payload_told, after_answer}
+use Rattle.node_agents.specs.SwitchInfo.{SetsTop}
+use Rattle.node_agents.specs.LftBlock.{SetsBlock}
 
 -- agents stay agents --------------------------------------------------------------------
 
@@ -118,14 +121,6 @@ GetsTellAsSets =
     → bytes_in attribute_data (after_answer (after_answer a p arrival).agent q arrival).packet
     ≡ bytes_in attribute_data (after_answer a p arrival).packet
 
--- `told`, the block that the answer returns, is `payload`, and `after` has these entries in its table as the block
--- `block`; nothing else in the agent changes
-pub record SetsBlock (a after : Agent) (block : ℕ) (payload told : List ℕ) : Type 0 where
-  pub is_told : told ≡ payload
-  pub inside : (i : ℕ) → i < 64 → entry_at after (64 * block + i) ≡ slice_index payload i
-  pub outside : (lid : ℕ) → (lid < 64 * block) ⊎ (64 * block + 64 ≤ lid) → entry_at after lid ≡ entry_at a lid
-  pub all_else : after ≡ record a { table = after.table }
-
 -- if a Set of a forwarding block is accepted, the answer returns this block, and the table has it at its offset;
 -- nothing else changes
 abbrev pub BlocksAreSet : Type 0
@@ -135,11 +130,6 @@ BlocksAreSet =
     (bytes_in attribute_data packet)
     (bytes_in attribute_data (after_answer a packet arrival).packet)
 
--- `told`, the SwitchInfo that the answer returns, has the top in `payload`, and `after` is `a` with this top
-pub record SetsTop (a after : Agent) (payload told : List ℕ) : Type 0 where
-  pub is_told : number_in linear_fdb_top told ≡ number_in linear_fdb_top payload
-  pub all_else : after ≡ record a { top = number_in linear_fdb_top payload }
-
 -- if a Set of SwitchInfo is accepted, the answer returns the top in the Set, and the agent has this top; nothing else
 -- changes
 abbrev pub TopsAreSet : Type 0
@@ -147,16 +137,6 @@ TopsAreSet =
     (a : Agent) (packet : List ℕ) (arrival : ℕ) → IsTaken a packet arrival switch_info
     → SetsTop a (after_answer a packet arrival).agent (bytes_in attribute_data packet)
     (bytes_in attribute_data (after_answer a packet arrival).packet)
-
--- if `port` has a LID of its own, its LID and LMC afterwards are those of `payload`, and `told` returns them. `told`
--- returns the state in `payload` too, unless that is 0 (no change). No other port changes, and nothing in the agent
--- changes except its ports
-pub record SetsPort (a after : Agent) (port : ℕ) (payload told : List ℕ) : Type 0 where
-  pub lids : has_lid a port ≡ true → range_at after port ≡ range_in payload
-  pub lids_told : has_lid a port ≡ true → range_in told ≡ range_in payload
-  pub state_told : bits_in port_state payload ≢ 0 → bits_in port_state told ≡ bits_in port_state payload
-  pub others : (index : ℕ) → index ≢ port → port_at after index ≡ port_at a index
-  pub all_else : after ≡ record a { ports = after.ports }
 
 -- an accepted Set of PortInfo sets the LID and the LMC of the port that it is about, if this port has a LID of its
 -- own. The answer returns this LID and LMC, and the state in the Set unless that is 0 (no change). No other port

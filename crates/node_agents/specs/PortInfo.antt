@@ -1,14 +1,16 @@
 -- Port information: which port a request means, what a Get returns and a Set writes.
 -- InfiniBand Architecture Specification, Volume 1: subnet management, PortInfo.
-use Rattle.std.specs.Prelude.{ℕ, ◌+◌, Bool, not, ◌&&◌, ◌||◌, ◌==◌, List, [], ◌∷◌, nat_le, if◌then◌else◌, Option, Some, None, option_map, option_and_then}
+use Rattle.std.specs.Prelude.{ℕ, ◌+◌, Bool, not, ◌&&◌, ◌||◌, ◌==◌, List, [], ◌∷◌, nat_le, if◌then◌else◌, Option, Some}
+use Rattle.std.specs.Prelude.{None, option_map, option_and_then, ◌≡◌, ◌≢◌, true}
 use Rattle.smp_bytes.specs.Field.{number_in, bits_in, with_bits}
 use Rattle.smp_bytes.specs.Requests.{flag}
 use Rattle.smp_bytes.specs.LidRange.{may_have}
 use Rattle.attr_codec.specs.Image.{image}
-use Rattle.attr_codec.specs.PortInfo.{base_lid, master_sm_lid, local_port_num, lmc, port_state, is_sm_bit, number_of_state, state_of_number}
+use Rattle.attr_codec.specs.PortInfo.{base_lid, master_sm_lid, local_port_num, lmc, port_state, is_sm_bit}
+use Rattle.attr_codec.specs.PortInfo.{number_of_state, state_of_number, range_in}
 use Rattle.attr_codec.specs.declared.port_state.PortState.{PortState}
 use Rattle.node_agents.specs.declared.port.Port.{Port}
-use Rattle.node_agents.specs.Agent.{Agent, is_switch, port_at, with_port}
+use Rattle.node_agents.specs.Agent.{Agent, is_switch, port_at, with_port, range_at}
 
 -- the port that a request means: for a switch, the port `modifier`, from 0 to the port count; for an adapter, the port
 -- `arrival` at which the request arrived, if `modifier` is 0 or the number of this port; else None
@@ -90,3 +92,13 @@ changed_port a modifier arrival payload =
 abbrev pub set_port_info : Agent → ℕ → ℕ → List ℕ → Option Agent
 set_port_info a modifier arrival payload =
     option_map (λ changed. with_port a changed.0 changed.1) (changed_port a modifier arrival payload)
+
+-- if `port` has a LID of its own, its LID and LMC afterwards are those of `payload`, and `told` returns them. `told`
+-- returns the state in `payload` too, unless that is 0 (no change). No other port changes, and nothing in the agent
+-- changes except its ports
+pub record SetsPort (a after : Agent) (port : ℕ) (payload told : List ℕ) : Type 0 where
+  pub lids : has_lid a port ≡ true → range_at after port ≡ range_in payload
+  pub lids_told : has_lid a port ≡ true → range_in told ≡ range_in payload
+  pub state_told : bits_in port_state payload ≢ 0 → bits_in port_state told ≡ bits_in port_state payload
+  pub others : (index : ℕ) → index ≢ port → port_at after index ≡ port_at a index
+  pub all_else : after ≡ record a { ports = after.ports }

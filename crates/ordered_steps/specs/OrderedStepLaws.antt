@@ -4,7 +4,7 @@ use Rattle.fabric_model.specs.declared.cable.NodePort.{NodePort}
 use Rattle.fabric_model.specs.Fabric.{Node, Fabric, IsEndPort}
 use Rattle.fabric_model.specs.FabricWalks.{IsJoinedTo}
 use Rattle.fact_store.specs.View.{Facts, cells_of}
-use Rattle.subnet_view.specs.Agreement.{IsEndPortIn}
+use Rattle.subnet_view.specs.FabricAgreement.{IsEndPortIn}
 use Rattle.packet_walks.specs.Fabrics.{IsSeenIn}
 use Rattle.next_tables.specs.ChangingFabric.{ArrivesMeanwhile, ChangesMeanwhile}
 use Rattle.subnet_view.specs.declared.end_port.EndPort.{EndPort}

@@ -4,11 +4,10 @@ use Rattle.std.specs.Prelude.{slice_get}
 use Rattle.std.proofs.lemmas.Option.{same_Some}
 use Rattle.fabric_model.specs.declared.cable.NodePort.{NodePort}
 use Rattle.fabric_model.specs.declared.course.Course.TheVariants.{Delivers}
-use Rattle.fabric_model.specs.Fabric.{Node, Fabric}
+use Rattle.fabric_model.specs.Fabric.{Node, Fabric, IsPortNamed}
 use Rattle.fabric_model.specs.Forwarding.{Standing, sent_from, arrived_at, course, Hop, Goes, IsDelivered}
 use Rattle.fabric_model.proofs.Forwarded.{packets_end_once}
 use Rattle.subnet_view.specs.declared.end_port.EndPort.{EndPort}
-use Rattle.subnet_view.specs.Agreement.{IsPortNamed}
 use Rattle.packet_walks.specs.declared.packet_end.End.{End}
 use Rattle.packet_walks.specs.declared.packet_end.End.TheVariants.{Taken, Lost}
 use Rattle.packet_walks.specs.Fabrics.{EndsAs}

@@ -17,7 +17,7 @@ use Rattle.fact_store.specs.View.{Facts, cells_of}
 use Rattle.reply_facts.specs.Known.{cap_of}
 use Rattle.subnet_view.specs.Reading.{Cells, is_switch_node, is_usable, switches}
 use Rattle.subnet_view.specs.Wires.{across}
-use Rattle.subnet_view.specs.Agreement.{Part, WholeFabric, IsEndPortIn}
+use Rattle.subnet_view.specs.FabricAgreement.{Part, WholeFabric, IsEndPortIn}
 use Rattle.subnet_view.proofs.Covered.{covers}
 use Rattle.subnet_view.proofs.UsableSwitches.{switches_law, usable_law}
 use Rattle.subnet_view.proofs.WireLaws.{wire_law}

@@ -12,7 +12,7 @@ use Rattle.fabric_model.proofs.FabricWalks.{port_at, type_at, switch_vertex}
 use Rattle.fact_store.specs.View.{Facts, cells_of}
 use Rattle.subnet_view.specs.Reading.{Cells, switches}
 use Rattle.subnet_view.specs.Wires.{across}
-use Rattle.subnet_view.specs.Agreement.{Part}
+use Rattle.subnet_view.specs.FabricAgreement.{Part}
 use Rattle.held_tables.specs.Held.{HeldPlan}
 use Rattle.held_tables.specs.declared.far_end.Far.TheVariants.{Nothing}
 use Rattle.packet_walks.specs.Fabrics.{IsSeenIn}

@@ -7,7 +7,7 @@ use Rattle.fabric_model.specs.declared.cable.NodePort.{NodePort}
 use Rattle.fabric_model.specs.declared.course.Course.TheVariants.{Delivers, LeavesBy, Drops}
 use Rattle.fabric_model.specs.Cables.{is_same_port}
 use Rattle.smp_bytes.specs.NodeType.{is_switch}
-use Rattle.fabric_model.specs.Fabric.{Node, Fabric, IsFabric, IsNodeAt, is_switch_at, owns}
+use Rattle.fabric_model.specs.Fabric.{Node, Fabric, IsFabric, IsNodeAt, is_switch_at, owns, IsPortNamed}
 use Rattle.fabric_model.specs.FabricWalks.{IsWire, AreNeighbors, Walk, IsJoinedTo, vertex_of}
 use Rattle.fabric_model.specs.Forwarding.{Standing, sent_from, arrived_at, course, entry_course, Hop, Goes, IsLost}
 use Rattle.fabric_model.proofs.Cabled.{same_port-is, same_port-refl}
@@ -18,7 +18,7 @@ use Rattle.fact_store.specs.View.{Facts, cells_of}
 use Rattle.subnet_view.specs.declared.end_port.EndPort.{EndPort}
 use Rattle.subnet_view.specs.Reading.{Cells, switches}
 use Rattle.subnet_view.specs.Wires.{across}
-use Rattle.subnet_view.specs.Agreement.{Part, WholeFabric, IsEndPortIn, IsPortNamed}
+use Rattle.subnet_view.specs.FabricAgreement.{Part, WholeFabric, IsEndPortIn}
 use Rattle.held_tables.specs.Held.{HeldPlan}
 use Rattle.packet_walks.specs.declared.packet_end.Cause.{Cause}
 use Rattle.packet_walks.specs.declared.packet_end.Cause.TheVariants.{NoLink, Foreign}

@@ -4,11 +4,11 @@
 use Rattle.std.specs.Prelude.{◌≡◌, ◌≤◌, ℕ, List, Option, None, Some, IsTrue}
 use Rattle.fabric_model.specs.declared.cable.NodePort.{NodePort}
 use Rattle.smp_bytes.specs.NodeType.{is_switch}
-use Rattle.fabric_model.specs.Fabric.{Node, Fabric, IsFabric, IsNodeAt, IsEndPort, owns}
+use Rattle.fabric_model.specs.Fabric.{Node, Fabric, IsFabric, IsNodeAt, IsEndPort, owns, IsPortNamed}
 use Rattle.fabric_model.specs.Forwarding.{Hop, IsDelivered, IsLost}
 use Rattle.fact_store.specs.View.{Facts, cells_of}
 use Rattle.subnet_view.specs.Reading.{Cells}
-use Rattle.subnet_view.specs.Agreement.{Part, WholeFabric, IsEndPortIn, IsPortNamed, AgreesOn, Covers}
+use Rattle.subnet_view.specs.FabricAgreement.{Part, WholeFabric, IsEndPortIn, AgreesOn, Covers}
 use Rattle.fabric_model.specs.FabricWalks.{IsJoinedTo}
 use Rattle.held_tables.specs.Held.{HeldPlan}
 use Rattle.packet_walks.specs.declared.packet_end.End.{End}

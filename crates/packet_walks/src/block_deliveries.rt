@@ -1,14 +1,14 @@
 //! The LIDs of a block whose packets arrive from every switch, found for all LIDs of the block at once.
 ghost use Rattle.std.specs.Prelude.{◌≡◌, ◌<◌, ◌+◌, ◌*◌, [], IfOk, IfSome, OnOk, length, replicate, slice_set};
-ghost use Rattle.packet_walks.specs.BlockDeliveries.{AreAfterRounds, AreDelivered, AreSeenBy, IsExit, IsWithExit, IsWithHop};
-ghost use Rattle.packet_walks.specs.BlockDeliveries.{arrived_more, back_by, from_each, lids_at};
+ghost use Rattle.packet_walks.specs.BlockDeliveries.{AreAfterRounds, AreDelivered, AreSeenBy, IsExit, IsWithExit};
+ghost use Rattle.packet_walks.specs.BlockDeliveries.{IsWithHop, arrived_more, back_by, from_each, lids_at};
 ghost use Rattle.packet_walks.specs.LidSets.{no_lids};
 ghost use Rattle.packet_walks.specs.Deliveries.{is_delivered};
 
-use crate::ends_by_sender::is_at;
 use crate::hops_by_tables::{entry_of, next_hop_at, switch_by};
 use crate::lid_set::LidSet;
 use crate::next_hop::NextHop;
+use crate::packet_end::is_at;
 use held_tables::{AuditedSwitch, Owner, sole_owner};
 use smp_bytes::Lid;
 use std::alloc::{AllocError, Global};

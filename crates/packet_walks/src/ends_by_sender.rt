@@ -9,7 +9,7 @@ ghost use Rattle.packet_walks.specs.HopsByTables.{is_at};
 use crate::ends_by_switch::{end_of, onward};
 use crate::hops_by_tables::first_hop;
 use crate::next_hop::NextHop;
-use crate::packet_end::End;
+use crate::packet_end::{End, is_at};
 use held_tables::{Sender, is_same_end};
 use std::alloc::{AllocError, Global};
 use std::marker::Model;
@@ -211,14 +211,4 @@ fn all_arrive(arrive: &[bool]) -> bool
     ensures { result ≡ list_all (λ arrives. arrives) arrive.now }
 {
     arrive.iter().all(|arrives| *arrives)
-}
-
-/// Returns whether `end` is a delivery at `port`.
-pub fn is_at(port: &EndPort, end: &Option<End>) -> bool
-    ensures { result ≡ is_at port.now end.now }
-{
-    match end {
-        Some(End::Taken(at)) => is_same_end(port, at),
-        _ => false,
-    }
 }

@@ -13,9 +13,9 @@ mod network;
 mod next_hop;
 mod packet_end;
 
-pub use ends_by_sender::{Ends, is_at};
+pub use ends_by_sender::Ends;
 pub use held_tables::{Far, Sender, is_same_end};
 pub use lid_cursor::LidCursor;
 pub use network::Network;
 pub use next_hop::{NextHop, SwitchStep};
-pub use packet_end::{Cause, End};
+pub use packet_end::{Cause, End, is_at};

@@ -185,8 +185,8 @@ impl<'n> LidCursor<'n> {
     }
 }
 
-/// Returns the deliveries that are found in `blocks` if `asked`, and otherwise `None`. `blocks` must be held blocks
-/// of `network`.
+/// Returns the deliveries that a cursor keeps: those found in `blocks` if `asked`, and otherwise `None`. `blocks` must
+/// be held blocks of `network`.
 fn deliveries_if(
     alloc: Global,
     asked: bool,

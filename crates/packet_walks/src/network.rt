@@ -257,7 +257,7 @@ impl<'a> Network<'a> {
         edges(alloc, &self.nodes, &blocks.rows, lid)
     }
 
-    /// Returns the number of usable switches.
+    /// Returns the number of usable switches of the network.
     pub fn switch_count(&self) -> usize
         ensures { result ≡ length (switches (cells_of self.now.facts)) }
     {

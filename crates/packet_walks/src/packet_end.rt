@@ -1,3 +1,7 @@
+ghost use Rattle.std.specs.Prelude.{◌≡◌};
+ghost use Rattle.packet_walks.specs.HopsByTables.{is_at};
+
+use held_tables::is_same_end;
 use smp_bytes::Guid;
 use subnet_view::EndPort;
 
@@ -24,4 +28,14 @@ pub enum Cause {
     NoLink,
     /// The packet reached a port that does not hold the packet's LID, at a node that is not a usable switch.
     Foreign,
+}
+
+/// Returns whether `end` is a delivery at `port`.
+pub fn is_at(port: &EndPort, end: &Option<End>) -> bool
+    ensures { result ≡ is_at port.now end.now }
+{
+    match end {
+        Some(End::Taken(at)) => is_same_end(port, at),
+        _ => false,
+    }
 }

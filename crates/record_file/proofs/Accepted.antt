@@ -9,7 +9,8 @@ use Rattle.reply_facts.specs.declared.report_fault.ReportFault.{ReportFault}
 use Rattle.record_file.specs.declared.file_fault.FileFault.{FileFault}
 use Rattle.record_file.specs.declared.format.Format.{Format}
 use Rattle.record_file.specs.declared.format.Format.TheVariants.{Reports}
-use Rattle.record_file.specs.Laws.{IsGoodReport, ReportFilesAreAccepted}
+use Rattle.record_file.specs.Laws.{ReportFilesAreAccepted}
+use Rattle.record_file.specs.ReportFile.{IsGoodReport}
 use Rattle.record_file.specs.ReportRecord.{report_judged}
 use Rattle.record_file.specs.Head.{IsFormat, format_in, head_bytes, head_size}
 use Rattle.record_file.specs.Reading.{fault_in, fault_or, first_fault, first_records, of_report, outcome, record_size, records}

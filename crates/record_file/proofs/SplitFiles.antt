@@ -10,7 +10,8 @@ use Rattle.reply_facts.specs.declared.key.Key.{Key}
 use Rattle.fact_store.specs.View.{Facts, cells_of}
 use Rattle.fact_store.proofs.Entries.{cells_in_order}
 use Rattle.record_file.specs.declared.format.Format.TheVariants.{Cells, Reports}
-use Rattle.record_file.specs.Laws.{AreParts, IsGoodReport, IsReportFile, report_file}
+use Rattle.record_file.specs.Laws.{AreParts}
+use Rattle.record_file.specs.ReportFile.{IsGoodReport, IsReportFile, report_file}
 use Rattle.record_file.specs.Head.{IsFormat, floor_of, head_bytes}
 use Rattle.record_file.specs.Reading.{floor_in, kept, last_key, outcome, records, sightings_by}
 use Rattle.record_file.specs.CellRecord.{record_bytes}

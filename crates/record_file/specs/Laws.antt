@@ -1,14 +1,17 @@
 -- Laws of reading files: what is accepted, which fault is found first, and that a fault of the head or a record stays.
-use Rattle.std.specs.Prelude.{◌≡◌, ◌↔◌, ℕ, ◌+◌, ◌*◌, ◌<◌, ◌≤◌, ◌^◌, List, ◌++◌, None, Some, Ok, Err, IsOk, length, slice_index}
-use Rattle.std.specs.List.{AllByRecursion, concat}
+use Rattle.std.specs.Prelude.{◌≡◌, ◌↔◌, ℕ, ◌+◌, ◌*◌, ◌<◌, ◌≤◌, ◌^◌, List, ◌++◌, None, Some, Ok, Err, length}
+use Rattle.std.specs.Prelude.{slice_index}
+use Rattle.std.specs.List.{concat}
 use Rattle.reply_facts.specs.declared.report.Report.{Report}
 use Rattle.record_file.specs.declared.file_fault.FileFault.{FileFault}
-use Rattle.record_file.specs.declared.file_fault.FileFault.TheVariants.{Truncated, BadReport, BadCell, CellOrder, BadFloor}
+use Rattle.record_file.specs.declared.file_fault.FileFault.TheVariants.{Truncated, BadReport, BadCell, CellOrder}
+use Rattle.record_file.specs.declared.file_fault.FileFault.TheVariants.{BadFloor}
 use Rattle.record_file.specs.declared.format.Format.{Format}
 use Rattle.record_file.specs.declared.format.Format.TheVariants.{Reports}
 use Rattle.record_file.specs.Head.{IsFormat, format_in, head_bytes, head_size}
 use Rattle.record_file.specs.Reading.{AreGoodRecords, floor_in, judged, kept, last_key, outcome, record_size}
-use Rattle.record_file.specs.ReportRecord.{context_guid, report_bytes, report_judged, report_of}
+use Rattle.record_file.specs.ReportRecord.{context_guid, report_bytes, report_of}
+use Rattle.record_file.specs.ReportFile.{IsReportFile}
 
 -- the fault is that of a bad header or a bad record
 abbrev pub IsBadPart : FileFault → Type 0
@@ -29,10 +32,6 @@ pub record StaysBad (bytes rest : List ℕ) (f : FileFault) : Type 0 where
 -- the same, whatever follows
 abbrev pub BadPartStays : Type 0
 BadPartStays = (bytes rest : List ℕ) (f : FileFault) → IsBadPart f → outcome bytes ≡ Err f → StaysBad bytes rest f
-
--- `r` has 272 bytes, and spells a report without a fault
-abbrev pub IsGoodReport : List ℕ → Type 0
-IsGoodReport r = (length r ≡ 272) × IsOk (report_judged r)
 
 -- each number of `bytes` is less than 256
 abbrev pub AreBytes : List ℕ → Type 0
@@ -69,16 +68,6 @@ FirstBadRecordIsTold =
     → length r ≡ record_size format → judged format (last_key format None rs) r ≡ Err f
     → length (head_bytes format ++ (concat rs ++ r)) ≤ 2 ^ 40
     → outcome (head_bytes format ++ (concat rs ++ (r ++ rest))) ≡ Err (f (length rs))
-
--- the file of reports with the records `rs`
-abbrev pub report_file : List (List ℕ) → List ℕ
-report_file rs = head_bytes Reports ++ concat rs
-
--- `bytes` are the file of the good reports `rs`, and are fewer than 2^40 bytes
-pub record IsReportFile (bytes : List ℕ) (rs : List (List ℕ)) : Type 0 where
-  pub whole : bytes ≡ report_file rs
-  pub each : AllByRecursion IsGoodReport rs
-  pub short : length bytes < 2 ^ 40
 
 -- bytes have the head of a file of reports and are accepted exactly when they are fewer than 2^40 bytes and are the
 -- file of some good reports

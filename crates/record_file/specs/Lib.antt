@@ -8,6 +8,7 @@ pub mod Laws
 pub mod PieceFault
 pub mod PieceLaws
 pub mod Reading
+pub mod ReportFile
 pub mod ReportRecord
 pub mod StoreFile
 pub mod StoreLaws

@@ -7,7 +7,8 @@ use Rattle.std.specs.Prelude.{Option, Some, None, slice_get}
 use Rattle.std.specs.Option.{option_map_or}
 use Rattle.topo_file.specs.Topology.{Layout}
 use Rattle.topo_file.specs.declared.node.Node.{Node}
-use Rattle.schedule_file.specs.Schedule.{Script, SeatCommand}
+use Rattle.schedule_file.specs.Schedule.{Script}
+use Rattle.schedule_file.specs.Resolve.{SeatCommand}
 use Rattle.schedule_file.specs.declared.command.Command.TheVariants.{Merge, Show}
 use Rattle.schedule_file.specs.declared.command.Shown.TheVariants.{Plan}
 use Rattle.reply_facts.specs.Report.{Sightings}

@@ -3,7 +3,7 @@ use Rattle.std.proofs.Common.{◌≡◌, ℕ, cond, List, [], ◌∷◌, refl, s
 use Rattle.std.proofs.lemmas.List.Elements.{All-nil}
 use Rattle.std.specs.Prelude.{◌-◌, ◌^◌, ◌==◌, if◌then◌else◌, All, Option, Some, None, is_none, slice_get}
 use Rattle.topo_file.specs.declared.node.Node.{Node}
-use Rattle.schedule_file.specs.Schedule.{SeatCommand}
+use Rattle.schedule_file.specs.Resolve.{SeatCommand}
 use Rattle.schedule_file.specs.declared.command.Ask.TheVariants as ask
 use Rattle.schedule_file.specs.declared.command.Command.TheVariants as command
 use Rattle.fabric_sim.specs.Simulation.{fabric_of}

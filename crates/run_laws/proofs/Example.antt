@@ -9,7 +9,7 @@ use Rattle.smp_bytes.specs.Field.{with_bytes}
 use Rattle.node_agents.specs.Agent.{fresh_agent}
 use Rattle.node_agents.specs.Answers.{after_answer, get_of, set_of}
 use Rattle.node_agents.specs.PortInfo.{changed_port}
-use Rattle.schedule_file.specs.Schedule.{SeatCommand}
+use Rattle.schedule_file.specs.Resolve.{SeatCommand}
 use Rattle.schedule_file.specs.declared.command.Ask.TheVariants as ask
 use Rattle.schedule_file.specs.declared.command.Command.TheVariants as command
 use Rattle.schedule_file.specs.declared.command.Fate.TheVariants as fate

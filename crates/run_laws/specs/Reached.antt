@@ -1,14 +1,14 @@
 -- What `ping` prints if a plan is held, and once it is written.
 use Rattle.std.specs.Prelude.{◌≡◌, ℕ, List, Some}
 use Rattle.fabric_model.specs.declared.cable.NodePort.{NodePort}
-use Rattle.fabric_model.specs.Fabric.{IsEndPort}
+use Rattle.fabric_model.specs.Fabric.{IsEndPort, IsPortNamed}
 use Rattle.fabric_model.specs.FabricWalks.{IsJoinedTo}
 use Rattle.topo_file.specs.declared.node.Node.{Node}
 use Rattle.fabric_sim.specs.Simulation.{fabric_of, IsSimulation}
 use Rattle.fabric_sim.specs.declared.ping.Ping.TheVariants.{Reached}
 use Rattle.fact_store.specs.View.{Facts, cells_of}
 use Rattle.subnet_view.specs.declared.end_port.EndPort.{EndPort}
-use Rattle.subnet_view.specs.Agreement.{AgreesOn, IsPortNamed}
+use Rattle.subnet_view.specs.FabricAgreement.{AgreesOn}
 use Rattle.lid_assign.specs.Lids.{IsNoRoom, owner_of}
 use Rattle.lft_blocks.specs.Rules.{RuleValue}
 use Rattle.lft_blocks.specs.Plan.{PlanValue, plan_of}

@@ -12,7 +12,8 @@ use Rattle.schedule_file.specs.ScheduleFault.{IsRefused}
 use Rattle.schedule_file.specs.declared.line.ScheduleLine.TheVariants as line
 use Rattle.schedule_file.specs.declared.schedule.Seat.{Seat}
 use Rattle.schedule_file.specs.Command.{line_of}
-use Rattle.schedule_file.specs.Schedule.{◌>>=◌, Script, SeatCommand, command_of, is_free, new_seat, port_of, schedule_of, seat_at, seat_of}
+use Rattle.schedule_file.specs.Schedule.{◌>>=◌, Script, new_seat, schedule_of, seat_at}
+use Rattle.schedule_file.specs.Resolve.{SeatCommand, command_of, is_free, port_of, seat_of}
 use Rattle.schedule_file.specs.Schedule.{schedule_of_lines, where_known, with_command, with_line, with_lines, with_seat}
 use Rattle.schedule_file.specs.FirstFault.{IsSoundOrCrowded, Leaves, fault_of, seats_with}
 

@@ -27,8 +27,9 @@ use Rattle.schedule_file.specs.declared.schedule.Seat.{Seat}
 use Rattle.schedule_file.specs.Command.{NamedCommand, line_of}
 use Rattle.schedule_file.specs.Printed.{named_words, port_word, sm_key_words, PrintedSchedulesAreRead, command_words}
 use Rattle.schedule_file.specs.Printed.{manager_at, port_at, seat_words}
-use Rattle.schedule_file.specs.Schedule.{◌>>=◌, Script, SeatCommand, command_of, is_free, new_seat, port_of, schedule_of, schedule_of_lines, seat_at}
-use Rattle.schedule_file.specs.Schedule.{seat_of, where_known, with_command, with_line, with_lines, with_seat}
+use Rattle.schedule_file.specs.Schedule.{◌>>=◌, Script, new_seat, schedule_of, schedule_of_lines, seat_at}
+use Rattle.schedule_file.specs.Resolve.{SeatCommand, command_of, is_free, port_of, seat_of}
+use Rattle.schedule_file.specs.Schedule.{where_known, with_command, with_line, with_lines, with_seat}
 use Rattle.schedule_file.proofs.Lines.{IsLine, IsNamed, IsNew, line_range, named_are_words, named_is_read, new_are_words, new_is_read, new_words}
 
 -- names --------------------------------------------------------------------------------------

@@ -18,8 +18,9 @@ use Rattle.schedule_file.specs.declared.line.ScheduleLine.TheVariants as line
 use Rattle.schedule_file.specs.declared.line.NewManager.{NewManager}
 use Rattle.schedule_file.specs.declared.schedule.Seat.{Seat}
 use Rattle.schedule_file.specs.Command.{NamedCommand, line_of}
-use Rattle.schedule_file.specs.Schedule.{◌>>=◌, IsScript, NamesManagers, Script, SeatCommand, seat_of, is_seat, is_taken}
-use Rattle.schedule_file.specs.Schedule.{command_of, is_free, port_of, with_command, seat_at, new_seat}
+use Rattle.schedule_file.specs.Schedule.{◌>>=◌, IsScript, NamesManagers, Script}
+use Rattle.schedule_file.specs.Resolve.{SeatCommand, seat_of, is_seat, is_taken, command_of, is_free, port_of}
+use Rattle.schedule_file.specs.Schedule.{with_command, seat_at, new_seat}
 use Rattle.schedule_file.specs.Schedule.{with_seat, with_line, with_lines, schedule_of_lines, where_known}
 
 -- names -------------------------------------------------------------------------------------

@@ -155,5 +155,4 @@ line_in (word ∷ args) =
 
 -- what a line says; None if the grammar has no such line
 unfoldable pub line_of : List ℕ → Option ScheduleLine
-
 line_of line = line_in (words line)

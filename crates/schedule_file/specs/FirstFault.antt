@@ -6,7 +6,8 @@ use Rattle.schedule_file.specs.declared.fault.ScheduleFault.TheVariants.{Syntax}
 use Rattle.schedule_file.specs.declared.line.ScheduleLine.{ScheduleLine}
 use Rattle.schedule_file.specs.declared.line.ScheduleLine.TheVariants as line
 use Rattle.schedule_file.specs.declared.schedule.Seat.{Seat}
-use Rattle.schedule_file.specs.Schedule.{◌>>=◌, Script, command_of, new_seat, schedule_of_lines, where_known}
+use Rattle.schedule_file.specs.Schedule.{◌>>=◌, Script, new_seat, schedule_of_lines, where_known}
+use Rattle.schedule_file.specs.Resolve.{command_of}
 
 -- the fault of a result; None if it is a value
 abbrev pub fault_of : {T : Type 0} → Result T ScheduleFault → Option ScheduleFault

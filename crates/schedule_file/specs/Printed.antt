@@ -9,7 +9,8 @@ use Rattle.schedule_file.specs.declared.command.Command.TheVariants as command
 use Rattle.schedule_file.specs.declared.named_command.PortName.{PortName}
 use Rattle.schedule_file.specs.declared.schedule.Seat.{Seat}
 use Rattle.schedule_file.specs.Command.{NamedCommand}
-use Rattle.schedule_file.specs.Schedule.{Script, SeatCommand, schedule_of}
+use Rattle.schedule_file.specs.Schedule.{Script, schedule_of}
+use Rattle.schedule_file.specs.Resolve.{SeatCommand}
 use Rattle.schedule_file.specs.declared.command.Ask.{Ask}
 use Rattle.schedule_file.specs.declared.command.Ask.TheVariants.{Sweep, Write, Handover, Poll}
 use Rattle.schedule_file.specs.declared.command.Fate.{Fate}
@@ -43,7 +44,7 @@ shown_word Silent = codes "silent"
 shown_word Written = codes "written"
 shown_word State = codes "state"
 
--- the words of a request to the manager `name`
+-- the words that a schedule prints for a request to the manager `name`
 abbrev pub ask_words : Ask → List ℕ → List (List ℕ)
 ask_words Sweep name = codes "sweep" ∷ name ∷ []
 ask_words Write name = codes "write" ∷ name ∷ []

@@ -1,7 +1,8 @@
 //! Commands with their names resolved, as they are run.
 ghost use Rattle.std.specs.Prelude.{◌≡◌};
-ghost use Rattle.schedule_file.specs.Schedule.{command_of, is_free, is_seat, is_taken, may_seat};
-ghost use Rattle.schedule_file.specs.Schedule.{port_of, seat_of, where_known};
+ghost use Rattle.schedule_file.specs.Resolve.{command_of, is_free, is_seat, is_taken, may_seat};
+ghost use Rattle.schedule_file.specs.Schedule.{where_known};
+ghost use Rattle.schedule_file.specs.Resolve.{port_of, seat_of};
 
 use crate::command::Command;
 use crate::fault::ScheduleFault;

@@ -11,7 +11,7 @@ use Rattle.smp_bytes.specs.declared.node_type.NodeType.TheVariants.{ChannelAdapt
 use Rattle.text_words.proofs.Names.{both}
 use Rattle.topo_file.specs.Topology.{IsNode, IsOfKind}
 use Rattle.topo_file.specs.declared.node.Node.{Node}
-use Rattle.schedule_file.specs.Schedule.{is_seat, may_seat}
+use Rattle.schedule_file.specs.Resolve.{is_seat, may_seat}
 
 of_adapter : (kind : NodeType) (ports guid cap : ℕ) → not (is_switch kind) ≡ true → IsOfKind kind ports guid cap → guid + ports < 2 ^ 64
 of_adapter Switch ports guid cap adapter h = cc

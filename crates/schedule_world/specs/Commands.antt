@@ -8,7 +8,8 @@ use Rattle.topo_file.specs.Reading.{topology_of}
 use Rattle.topo_file.specs.Topology.{Layout}
 use Rattle.topo_file.specs.declared.fault.TopoFault.{TopoFault}
 use Rattle.topo_file.specs.declared.node.Node.{Node}
-use Rattle.schedule_file.specs.Schedule.{Script, SeatCommand, schedule_of}
+use Rattle.schedule_file.specs.Schedule.{Script, schedule_of}
+use Rattle.schedule_file.specs.Resolve.{SeatCommand}
 use Rattle.schedule_file.specs.declared.command.Ask.{Ask}
 use Rattle.schedule_file.specs.declared.command.Command.TheVariants as command
 use Rattle.schedule_file.specs.declared.command.Fate.{Fate}

@@ -1,7 +1,7 @@
 //! A simulated fabric and the managers that sit in it.
 ghost use Rattle.std.specs.Prelude.{◌≡◌, ◌+◌, ◌<◌, true, All, IfOk, IfSome, OnOk, Some, length};
 ghost use Rattle.std.specs.Prelude.{option_map, slice_get};
-ghost use Rattle.schedule_file.specs.Schedule.{is_seat};
+ghost use Rattle.schedule_file.specs.Resolve.{is_seat};
 ghost use Rattle.fabric_sim.specs.Changes.{after_inject};
 ghost use Rattle.schedule_world.specs.Commands.{seat_at, world_of};
 ghost use Rattle.schedule_world.specs.NamedPackets.{packet_out};

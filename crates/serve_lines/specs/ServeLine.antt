@@ -30,7 +30,7 @@ transaction_of word = if length word == 16 then hex_number word else None
 abbrev pub show_of : List ℕ → Option ServeLine
 show_of word = option_map Show (shown_by word)
 
--- the meaning of a line of one word; None if the grammar has no such line
+-- what a line of one word says to a live manager; None if the grammar has no such line
 abbrev pub bare_of : List ℕ → Option ServeLine
 bare_of word =
     option_map_or (λ what. Some (Ask what)) (asked_by word)
@@ -38,7 +38,7 @@ bare_of word =
     else if bytes_eq word (codes "managers") then Some Managers
     else show_of word)
 
--- the meaning of a line of two words; None if the grammar has no such line
+-- what a line of two words says to a live manager; None if the grammar has no such line
 abbrev pub of_one : List ℕ → List ℕ → Option ServeLine
 of_one word arg =
     if bytes_eq word (codes "poll") then option_map (λ lid. Ask (Poll (Some lid))) (lid_of arg)
@@ -55,7 +55,7 @@ packet_in word hex between lid =
 
 -- lines ------------------------------------------------------------------------------------------
 
--- the meaning of the words of a line; None if the grammar has no such line
+-- what the line with these words says to a live manager; None if the grammar has no such line
 abbrev pub line_in : List (List ℕ) → Option ServeLine
 line_in [] = Some Empty
 line_in (word ∷ []) = bare_of word

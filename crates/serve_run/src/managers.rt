@@ -52,7 +52,7 @@ fn write_reported<W: Sink>(sink: &mut W, info: &SmInfo) -> Result<(), WriteFault
     sink.write(b"\n")
 }
 
-/// Writes the word of the state with the number `number`, or `number` in decimal if no state has this number.
+/// Writes the word of the manager state with the number `number`, or `number` in decimal if no state has this number.
 fn write_told_state<W: Sink>(sink: &mut W, number: SmStateNumber) -> Result<(), WriteFault>
     ensures writes { Writes W.written W.has_failed result sink.old sink.new (told_state number) }
 {

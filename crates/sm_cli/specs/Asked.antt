@@ -1,7 +1,8 @@
 -- What is asked for in a run over files: the rule of routing, and the number of texts that are read first for it.
-use Rattle.std.specs.Prelude.{ℕ}
+use Rattle.std.specs.Prelude.{ℕ, Bool, true, false}
 use Rattle.sm_cli.specs.declared.asked.RuleAsked.{RuleAsked}
-use Rattle.sm_cli.specs.declared.asked.RuleAsked.TheVariants.{UpDown, Spread, SpreadFromRoots, SpreadInOrder, Balance, BalanceInOrder}
+use Rattle.sm_cli.specs.declared.asked.RuleAsked.TheVariants.{UpDown, Spread, SpreadFromRoots, SpreadInOrder, Balance}
+use Rattle.sm_cli.specs.declared.asked.RuleAsked.TheVariants.{BalanceInOrder}
 use Rattle.sm_cli.specs.declared.asked.Output.{Output}
 use Rattle.sm_cli.specs.declared.asked.Output.TheVariants.{Facts, Join, Plan, Order}
 
@@ -20,3 +21,8 @@ rule_for Facts = UpDown
 rule_for Join = UpDown
 rule_for (Plan lmc asked) = asked
 rule_for (Order asked) = asked
+
+-- the number of texts that an option adds to the inputs: 1 if the option is given (true), otherwise 0
+abbrev pub texts_if : Bool → ℕ
+texts_if false = 0
+texts_if true = 1

@@ -4,13 +4,9 @@ use Rattle.byte_io.specs.Source.{SourceState}
 use Rattle.sm_cli.specs.declared.fault.Fault.{Fault}
 use Rattle.sm_cli.specs.declared.input_orders.OrderAndTables.{OrderAndTables}
 use Rattle.sm_cli.specs.InputTables.{AreNoTablesAndFiles, AreTablesAndFiles}
-use Rattle.sm_cli.specs.Inputs.{IsSwitchList, IsSwitchListFault}
+use Rattle.sm_cli.specs.SwitchLists.{IsSwitchList, IsSwitchListFault}
 use Rattle.sm_cli.specs.Sources.{AreReadInParts, IsOneRead}
-
--- the number of texts that an option adds to the inputs: 1 if the option is given (true), otherwise 0
-abbrev pub texts_if : Bool → ℕ
-texts_if false = 0
-texts_if true = 1
+use Rattle.sm_cli.specs.Asked.{texts_if}
 
 -- the text of an order was read and names `switches`. If there is no such text (false), `switches` is empty, and no
 -- input was touched

@@ -6,7 +6,8 @@ use Rattle.lanes_file.specs.Lanes.{LanesSaid}
 use Rattle.sm_cli.specs.declared.fault.Fault.{Fault}
 use Rattle.sm_cli.specs.declared.input_steps.StepInputs.{StepInputs}
 use Rattle.sm_cli.specs.InputLanes.{AreLanes, AreNoLanes}
-use Rattle.sm_cli.specs.InputOrders.{AreNoOrderAndTables, AreOrderAndTables, texts_if}
+use Rattle.sm_cli.specs.InputOrders.{AreNoOrderAndTables, AreOrderAndTables}
+use Rattle.sm_cli.specs.Asked.{texts_if}
 use Rattle.sm_cli.specs.Sources.{AreReadInParts}
 
 -- the text of lanes was read and says `lanes`. If there is no such text (false), `lanes` is None, and no input was

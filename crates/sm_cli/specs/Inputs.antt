@@ -1,21 +1,19 @@
 -- The inputs of a run: the text of roots or of an order is read if the rule takes one, and then the inputs after it;
 -- the roots are checked once the switches are known.
-use Rattle.std.specs.Prelude.{◌≡◌, ◌⊎◌, ℕ, Bool, List, [], ◌∷◌, Option, None, Some, Ok, Err, find, not, option_map}
+use Rattle.std.specs.Prelude.{◌≡◌, ◌⊎◌, ℕ, Bool, List, [], ◌∷◌, Option, None, Some, find, not, option_map}
 use Rattle.byte_io.specs.Source.{SourceState}
-use Rattle.record_file.specs.Whole.{IsReadWhole, FailsToRead}
-use Rattle.roots_file.specs.Reading.{roots_of}
-use Rattle.roots_file.specs.RootsTextFault.{RootsTextFault as RootsFault}
-use Rattle.text_words.specs.declared.fault.LinesFault.TheVariants as wrong
 use Rattle.lft_blocks.specs.Rules.{RuleValue, spread_in, up_and_down}
 use Rattle.spread_routes.specs.SwitchOrders.{OrderValue, as_named, balanced_as, from_roots, least_loaded}
 use Rattle.sm_cli.specs.Asked.{texts_for}
 use Rattle.sm_cli.specs.Sources.{AreReadInParts, IsOneRead}
 use Rattle.sm_cli.specs.declared.asked.RuleAsked.{RuleAsked}
-use Rattle.sm_cli.specs.declared.asked.RuleAsked.TheVariants.{UpDown, Spread, SpreadFromRoots, SpreadInOrder, Balance, BalanceInOrder}
+use Rattle.sm_cli.specs.declared.asked.RuleAsked.TheVariants.{UpDown, Spread, SpreadFromRoots, SpreadInOrder, Balance}
+use Rattle.sm_cli.specs.declared.asked.RuleAsked.TheVariants.{BalanceInOrder}
 use Rattle.sm_cli.specs.declared.fault.Fault.{Fault}
-use Rattle.sm_cli.specs.declared.fault.Fault.TheVariants.{File, Text}
+use Rattle.sm_cli.specs.declared.fault.Fault.TheVariants.{Text}
 use Rattle.sm_cli.specs.declared.text_fault.TextFault.{TextFault}
 use Rattle.sm_cli.specs.declared.text_fault.TextFault.TheVariants as texts
+use Rattle.sm_cli.specs.SwitchLists.{IsSwitchList, IsSwitchListFault}
 
 -- checking --------------------------------------------------------------------------------------
 
@@ -53,37 +51,6 @@ rule_fault usable Balance rule = None
 rule_fault usable BalanceInOrder rule = None
 
 -- rules ------------------------------------------------------------------------------------------
-
--- the source was read to its end, and its text has no fault and names the switches `roots`
-pub record IsSwitchList {S : Type 0} (state : S → SourceState) (old new : S) (roots : List ℕ) : Type 0 where
-  pub text : List ℕ
-  pub read : IsReadWhole state old new text
-  pub told : roots_of text ≡ Ok roots
-
--- the fault is the first one of `text`, or `text` has none and memory ran out
-abbrev pub IsFaultOfText : List ℕ → RootsFault → Type 0
-IsFaultOfText text (wrong.Line fault) = roots_of text ≡ Err fault
-IsFaultOfText text wrong.Memory = (roots : List ℕ) × (roots_of text ≡ Ok roots)
-
--- the source was read to its end, and its text of switches is refused for `fault`
-pub record RefusesRootsText {S : Type 0} (state : S → SourceState) (old new : S) (fault : RootsFault) : Type 0 where
-  pub text : List ℕ
-  pub read : IsReadWhole state old new text
-  pub refused : IsFaultOfText text fault
-
--- the source's text of roots or of an order is refused for the given fault of a text
-abbrev pub IsTextRefused : {S : Type 0} → (S → SourceState) → S → S → TextFault → Type 0
-IsTextRefused state old new (texts.Roots fault) = RefusesRootsText state old new fault
-IsTextRefused state old new fault = ⊥
-
--- reading the text of roots or of an order, the input `at`, fails with a fault of the run: the source fails, or its
--- text is refused
-abbrev pub IsSwitchListFault : {S : Type 0} → (S → SourceState) → ℕ → S → S → Fault → Type 0
-IsSwitchListFault state at old new (File input fault) =
-    (input ≡ at) × FailsToRead state old new fault
-IsSwitchListFault state at old new (Text input fault) =
-    (input ≡ at) × IsTextRefused state old new fault
-IsSwitchListFault state at old new fault = ⊥
 
 -- there is one source, and its text, of roots or of an order, names `guids`; `rule` spreads in the order that `grows`
 -- makes of them

@@ -1,7 +1,7 @@
 pub mod Asked
 pub mod ExitStatus
-pub mod Faults
 pub mod FaultText
+pub mod Faults
 pub mod InputFiles
 pub mod InputLanes
 pub mod InputOrders
@@ -9,8 +9,9 @@ pub mod InputReaders
 pub mod InputSteps
 pub mod InputTables
 pub mod Inputs
-pub mod Run
 pub mod OrderText
+pub mod Run
 pub mod RunLaws
 pub mod Sources
+pub mod SwitchLists
 pub mod TextFault

@@ -8,7 +8,7 @@ use Rattle.fact_store.specs.Seen.{HaveSameMembers}
 use Rattle.fact_store.specs.View.{Facts, cells_of, AreInRange}
 use Rattle.subnet_view.specs.Reading.{switches}
 use Rattle.roots_file.specs.Reading.{roots_of}
-use Rattle.record_file.specs.Laws.{IsReportFile, report_file}
+use Rattle.record_file.specs.ReportFile.{IsReportFile, report_file}
 use Rattle.record_file.specs.Reading.{kept, outcome}
 use Rattle.record_file.specs.StoreFile.{cells_file}
 use Rattle.record_file.specs.StoreLaws.{IsStoreFile}

@@ -1,5 +1,6 @@
 //! What a run over files is asked for.
 ghost use Rattle.std.specs.Prelude.{◌≡◌};
+ghost use Rattle.sm_cli.specs.Asked.{texts_if};
 
 use attr_codec::Lmc;
 use smp_bytes::Generation;
@@ -70,4 +71,11 @@ pub struct Invocation {
     pub output: Output,
     /// The least floor at which the files are read. Facts below the floor are ignored.
     pub floor: Generation,
+}
+
+/// Returns the number of texts that an option adds to the inputs: 1 if `has_text` is true, otherwise 0.
+pub fn texts_if(has_text: bool) -> usize
+    ensures { result ≡ texts_if has_text }
+{
+    if has_text { 1 } else { 0 }
 }

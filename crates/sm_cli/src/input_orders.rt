@@ -1,8 +1,9 @@
 //! Reading of a text of an order of switches, if it is given, of a text of tables, and of the files after them.
 ghost use Rattle.std.specs.Prelude.{◌≡◌, ◌+◌, ◌≤◌, length, IfErr, IfOk};
 ghost use Rattle.sm_cli.specs.InputOrders.{AreNoOrderAndTables, AreNoSwitches, AreOrderAndTables, AreSwitches};
-ghost use Rattle.sm_cli.specs.InputOrders.{texts_if};
+ghost use Rattle.sm_cli.specs.Asked.{texts_if};
 
+use crate::asked::texts_if;
 use crate::fault::Fault;
 use crate::input_tables::{TablesAndFacts, read_tables_and_files};
 use crate::inputs::read_switches;
@@ -17,13 +18,6 @@ pub struct OrderAndTables {
     pub order: Vec<Guid>,
     /// What the tables and the files after the order say.
     pub read: TablesAndFacts,
-}
-
-/// Returns the number of texts that an option adds to the inputs: 1 if `has_text` is true, otherwise 0.
-pub fn texts_if(has_text: bool) -> usize
-    ensures { result ≡ texts_if has_text }
-{
-    if has_text { 1 } else { 0 }
 }
 
 /// Reads the text of an order if `has_order` is true, then the text of tables, and then the files. What the files say

@@ -1,12 +1,13 @@
 //! The inputs of a step after the text that its rule takes: a text of lanes and a text of an order, each only if it is
 //! given, then the text of tables, and then the files.
 ghost use Rattle.std.specs.Prelude.{◌≡◌, ◌+◌, ◌≤◌, length, IfErr, IfOk};
-ghost use Rattle.sm_cli.specs.InputOrders.{texts_if};
+ghost use Rattle.sm_cli.specs.Asked.{texts_if};
 ghost use Rattle.sm_cli.specs.InputSteps.{AreLanesIf, AreNoLanesIf, AreNoStepInputs, AreStepInputs};
 
+use crate::asked::texts_if;
 use crate::fault::Fault;
 use crate::input_lanes::read_lanes;
-use crate::input_orders::{OrderAndTables, read_order_and_tables, texts_if};
+use crate::input_orders::{OrderAndTables, read_order_and_tables};
 use crate::inputs::InputReader;
 use byte_io::Source;
 use lanes_file::Lanes;
@@ -36,7 +37,7 @@ pub struct StepReader {
 
 impl<S: Source> InputReader<S> for StepReader {
     ghost use Rattle.std.specs.Prelude.{◌+◌, ◌≤◌};
-    ghost use Rattle.sm_cli.specs.InputOrders.{texts_if};
+    ghost use Rattle.sm_cli.specs.Asked.{texts_if};
     ghost use Rattle.sm_cli.specs.InputReaders.{step_reader};
 
     type Told = StepInputs;

@@ -2,7 +2,8 @@
 ghost use Rattle.std.specs.Prelude.{◌≡◌, ◌+◌, ◌-◌, ◌≤◌, ℕ, length, IfErr, IfOk};
 ghost use Rattle.lft_blocks.specs.Rules.{value_of};
 ghost use Rattle.sm_cli.specs.Asked.{texts_for};
-ghost use Rattle.sm_cli.specs.Inputs.{AreInputs, IsInputFault, IsSwitchList, IsSwitchListFault, IsRuleFault, IsRuleRead};
+ghost use Rattle.sm_cli.specs.Inputs.{AreInputs, IsInputFault, IsRuleFault, IsRuleRead};
+ghost use Rattle.sm_cli.specs.SwitchLists.{IsSwitchList, IsSwitchListFault};
 ghost use Rattle.sm_cli.specs.Inputs.{fault_of_first, first_unusable, order_fault, rule_fault};
 ghost use Rattle.spread_routes.specs.SwitchOrders.{order_value_of};
 

@@ -16,13 +16,13 @@ mod order_text;
 mod run;
 mod text_fault;
 
-pub use asked::{Invocation, Output, RuleAsked};
+pub use asked::{Invocation, Output, RuleAsked, texts_if};
 pub use exit_status::ExitStatus;
 pub use fault::Fault;
 pub use fault_text::write_fault;
 pub use input_files::FilesFrom;
 pub use input_lanes::{LanesAndFiles, read_lanes_and_files};
-pub use input_orders::{OrderAndTables, texts_if};
+pub use input_orders::OrderAndTables;
 pub use input_steps::{StepInputs, StepReader};
 pub use input_tables::{TablesAndFacts, TablesAndFiles, read_tables_and_files};
 pub use inputs::{InputReader, read_inputs};

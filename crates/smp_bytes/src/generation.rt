@@ -32,7 +32,7 @@ impl Generation {
         }
     }
 
-    /// Returns the number.
+    /// Returns the generation as a number.
     pub fn number(self) -> u32
         ensures value { result ≡ self }
         ensures positive { 0 < result }

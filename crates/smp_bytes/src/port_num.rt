@@ -29,7 +29,7 @@ impl PortNum {
         PortNum(number)
     }
 
-    /// Returns the number.
+    /// Returns the number of the port.
     pub const fn number(self) -> u8
         ensures { result ≡ self }
     {

@@ -1,7 +1,7 @@
 -- Facts that agree with a part cover it.
 use Rattle.fabric_model.specs.Fabric.{Fabric}
 use Rattle.subnet_view.specs.Reading.{Cells}
-use Rattle.subnet_view.specs.Agreement.{Part, AgreesOn, Covers}
+use Rattle.subnet_view.specs.FabricAgreement.{Part, AgreesOn, Covers}
 
 pub covers : {part : Part} {cells : Cells} {f : Fabric} → AgreesOn part cells f → Covers part cells f
 covers agrees = record {

@@ -5,12 +5,12 @@ use Rattle.std.specs.Prelude.{Some, Contains, is_some, slice_get}
 use Rattle.std.specs.Option.{option_map_or}
 use Rattle.fabric_model.specs.declared.cable.NodePort.{NodePort}
 use Rattle.smp_bytes.specs.NodeType.{is_switch as is_switch_type}
-use Rattle.fabric_model.specs.Fabric.{Node, Fabric, IsFabric, IsEndPort, is_switch_at}
+use Rattle.fabric_model.specs.Fabric.{Node, Fabric, IsFabric, IsEndPort, is_switch_at, IsPortNamed}
 use Rattle.fabric_model.specs.FabricWalks.{IsWire, IsJoinedTo, vertex_of}
 use Rattle.fabric_model.proofs.FabricWalks.{port_at, same_port, EndNumber, type_at, walk_further, vertex_node, switch_vertex, vertex_is_end}
 use Rattle.reply_facts.specs.Known.{cap_of}
 use Rattle.subnet_view.specs.Reading.{Cells, is_switch_node, is_usable, switches}
-use Rattle.subnet_view.specs.Agreement.{IsEndPortIn, IsPortNamed, HasWire, Covers}
+use Rattle.subnet_view.specs.FabricAgreement.{IsEndPortIn, HasWire, Covers}
 use Rattle.subnet_view.specs.Wires.{IsWire as IsToldWire}
 use Rattle.subnet_view.specs.Graph.{graph_of}
 use Rattle.subnet_view.specs.GraphLaws.{IsGraph}

@@ -1,6 +1,8 @@
 -- A sweep: what it has asked, what it waits for, and what it has found.
 -- InfiniBand Architecture Specification, Volume 1: subnet management, topology discovery; directed route SMPs.
-use Rattle.std.specs.Prelude.{ℕ, ◌+◌, ◌*◌, ◌^◌, ◌≤◌, Bool, true, false, ◌&&◌, List, [], ◌∷◌, ◌++◌, length, find, replicate, ◌==◌, if◌then◌else◌, Option, Some, None, option_map, is_some, slice_get}
+use Rattle.std.specs.Prelude.{ℕ, ◌+◌, ◌*◌, ◌^◌, ◌≤◌, Bool, true, false, ◌&&◌, List, [], ◌∷◌, ◌++◌, length, find}
+use Rattle.std.specs.Prelude.{replicate, ◌==◌, if◌then◌else◌, Option, Some, None, option_map, is_some, slice_get}
+use Rattle.std.specs.Prelude.{IsSome}
 use Rattle.smp_bytes.specs.Header.{get, node_info, switch_info, port_info, sm_info}
 use Rattle.smp_bytes.specs.Requests.{directed}
 use Rattle.attr_codec.specs.declared.port_state.PortState.{PortState}
@@ -232,3 +234,7 @@ pub record IsSweep (s : Sweep) : Type 0 where
   pub states : AreInOrder state_key s.states
   pub counted : s.unanswered + s.too_far + length (s.outstanding ++ s.queued) ≤ s.next
   pub silent : s.silent_managers ≤ s.unanswered
+
+-- the sweep has a path to this end port: to a switch at port 0, or to an adapter's port
+abbrev pub IsReached : Sweep → ℕ → ℕ → Type 0
+IsReached s guid port = IsSome (path_to s guid port)

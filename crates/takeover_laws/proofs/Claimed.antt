@@ -32,7 +32,7 @@ use Rattle.fact_store.specs.View.{view, cells_of, cell_for}
 use Rattle.fact_store.proofs.Views.{view_cells}
 use Rattle.fabric_sim.specs.Simulation.{fabric_of}
 use Rattle.fabric_sim.proofs.SeenFabrics.{simulations_are_fabrics}
-use Rattle.subnet_view.specs.Agreement.{IsEndPortIn}
+use Rattle.subnet_view.specs.FabricAgreement.{IsEndPortIn}
 use Rattle.fact_store.proofs.Entries.{known_by_cells}
 use Rattle.sweep.specs.Sweep.{Sweep, Asking, started}
 use Rattle.manager_laws.specs.Sweeping.{Sweeping, SweepEvent, CanBe, Begins, after_sweep_events}

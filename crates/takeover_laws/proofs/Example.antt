@@ -22,7 +22,7 @@ use Rattle.node_agents.specs.PortInfo.{changed_port}
 use Rattle.reply_facts.specs.Report.{Sightings}
 use Rattle.fact_store.specs.View.{cells_of}
 use Rattle.fact_store.proofs.Entries.{cells_of_view}
-use Rattle.subnet_view.specs.Agreement.{AgreesOn, Part}
+use Rattle.subnet_view.specs.FabricAgreement.{AgreesOn, Part}
 use Rattle.subnet_view.specs.Reading.{Cells}
 use Rattle.lid_assign.specs.Lids.{IsNoRoom}
 use Rattle.lft_blocks.specs.InForce.{HoldsPlan, HoldsPlanAt}

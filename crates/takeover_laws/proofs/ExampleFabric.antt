@@ -8,7 +8,7 @@ use Rattle.smp_bytes.specs.declared.node_type.NodeType.TheVariants.{ChannelAdapt
 use Rattle.smp_bytes.specs.LidRange.{lid_end}
 use Rattle.fabric_model.specs.declared.cable.NodePort.{NodePort}
 use Rattle.fabric_model.specs.Fabric.{IsEndPortNumber, IsNodeAt, Node}
-use Rattle.subnet_view.specs.Agreement.{IsEndPortIn, Part}
+use Rattle.subnet_view.specs.FabricAgreement.{IsEndPortIn, Part}
 use Rattle.node_agents.specs.Agent.{Agent, IsAgent, fresh_agent, node_of, port_at, with_port}
 use Rattle.node_agents.proofs.PortSteps.{stays}
 use Rattle.node_agents.proofs.Shapes.{Keeps, keeps-with_port}

@@ -14,7 +14,7 @@ use Rattle.fact_store.specs.View.{cells_of, view}
 use Rattle.fact_store.proofs.Entries.{cells_of_view, entries-view}
 use Rattle.fabric_sim.specs.Simulation.{fabric_of}
 use Rattle.fabric_sim.specs.Changes.{cabled_at}
-use Rattle.subnet_view.specs.Agreement.{IsEndPortIn, TellsEndPort}
+use Rattle.subnet_view.specs.FabricAgreement.{IsEndPortIn, TellsEndPort}
 use Rattle.subnet_view.specs.Reading.{Cells}
 use Rattle.lid_assign.specs.Lids.{IsNoRoom, range_of}
 use Rattle.lft_blocks.specs.Plan.{plan_of}

@@ -26,7 +26,7 @@ use Rattle.fabric_sim.proofs.TripShapes.{IsAlong, agent_there}
 use Rattle.lid_assign.specs.Lids.{range_of, top_of}
 use Rattle.lft_blocks.specs.InForce.{HoldsPlan, HoldsPlanAt}
 use Rattle.lft_blocks.specs.Plan.{PlanValue, block_at, switches_of}
-use Rattle.subnet_view.specs.Agreement.{Part, IsEndPortIn}
+use Rattle.subnet_view.specs.FabricAgreement.{Part, IsEndPortIn}
 use Rattle.manager_laws.proofs.Alike.{holding, joined_there, nodes_along}
 use Rattle.manager_laws.specs.Sets.{Carries, TakesSet}
 use Rattle.manager_laws.proofs.AgentSets.{Effect, effect, unset}

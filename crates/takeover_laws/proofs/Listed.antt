@@ -5,7 +5,7 @@ use Rattle.smp_bytes.specs.declared.node_type.NodeType.TheVariants.{Switch}
 use Rattle.fact_store.specs.View.{Facts, cells_of}
 use Rattle.fabric_sim.specs.Simulation.{Simulation, fabric_of}
 use Rattle.reply_facts.specs.Known as values
-use Rattle.subnet_view.specs.Agreement.{Part, AgreesOn}
+use Rattle.subnet_view.specs.FabricAgreement.{Part, AgreesOn}
 use Rattle.subnet_view.proofs.UsableSwitches.{switches_law}
 use Rattle.lft_blocks.specs.Rules.{RuleValue}
 use Rattle.lft_blocks.specs.Plan.{plan_of}

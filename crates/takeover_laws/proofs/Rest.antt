@@ -22,7 +22,7 @@ use Rattle.reply_facts.specs.Known as values
 use Rattle.reply_facts.specs.Known.{cap_of, claim_of}
 use Rattle.subnet_view.specs.Reading.{Cells, switches}
 use Rattle.subnet_view.specs.EndPorts.{IsEndPort, end_ports}
-use Rattle.subnet_view.specs.Agreement.{AgreesOn, IsEndPortIn, Part, TellsEndPort}
+use Rattle.subnet_view.specs.FabricAgreement.{AgreesOn, IsEndPortIn, Part, TellsEndPort}
 use Rattle.subnet_view.proofs.Apart.{Apart, before_apart, contains-from_map}
 use Rattle.subnet_view.proofs.EndPortList.{end_ports_law}
 use Rattle.subnet_view.proofs.EndPorts.{end_ports_apart}

@@ -17,7 +17,7 @@ use Rattle.fact_store.specs.View.{Facts, cells_of}
 use Rattle.subnet_view.specs.Reading.{Cells, is_up, port_count_of, IsUsable}
 use Rattle.subnet_view.specs.EndPorts.{IsEndPort}
 use Rattle.subnet_view.specs.Wires.{CanHaveWire, IsWire}
-use Rattle.subnet_view.specs.Agreement.{Part, WholeFabric, IsEndPortIn, HasEndPort, TellsEndPort, AgreesOn}
+use Rattle.subnet_view.specs.FabricAgreement.{Part, WholeFabric, IsEndPortIn, HasEndPort, TellsEndPort, AgreesOn}
 use Rattle.subnet_view.specs.declared.end_port.EndPort.{EndPort}
 use Rattle.subnet_view.proofs.Apart.{contains_map}
 use Rattle.subnet_view.proofs.BesideClaims.{is_claim}

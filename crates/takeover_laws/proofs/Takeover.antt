@@ -6,7 +6,7 @@ use Rattle.fabric_model.specs.Fabric.{Fabric}
 use Rattle.fabric_model.specs.FabricWalks.{IsJoinedTo}
 use Rattle.fabric_sim.specs.Simulation.{fabric_of}
 use Rattle.fact_store.specs.View.{cells_of}
-use Rattle.subnet_view.specs.Agreement.{AgreesOn}
+use Rattle.subnet_view.specs.FabricAgreement.{AgreesOn}
 use Rattle.lft_blocks.specs.Plan.{plan_of}
 use Rattle.lft_blocks.specs.InForce.{HoldsPlan}
 use Rattle.lid_assign.specs.Lids.{IsNoRoom}

@@ -15,7 +15,7 @@ use Rattle.fabric_sim.specs.Changes.{after_lose, after_repeat}
 use Rattle.fabric_sim.specs.Delivery.{after_deliver}
 use Rattle.fabric_sim.proofs.Courses.{AnySends, SaysSo}
 use Rattle.fabric_sim.proofs.TracedCalls.{agents_after, injected_agents, lost_agents, repeated_agents}
-use Rattle.subnet_view.specs.Agreement.{AgreesOn}
+use Rattle.subnet_view.specs.FabricAgreement.{AgreesOn}
 use Rattle.lid_assign.specs.Lids.{IsNoRoom}
 use Rattle.lft_blocks.specs.Rules.{RuleValue}
 use Rattle.lft_blocks.specs.InForce.{HoldsPlan}

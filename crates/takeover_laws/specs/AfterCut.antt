@@ -10,7 +10,7 @@ use Rattle.subnet_view.specs.declared.end_port.EndPort.{EndPort}
 use Rattle.reply_facts.specs.Known.{claim_of}
 use Rattle.subnet_view.specs.Reading.{Cells}
 use Rattle.subnet_view.specs.EndPorts.{end_ports}
-use Rattle.subnet_view.specs.Agreement.{IsEndPortIn, TellsEndPort}
+use Rattle.subnet_view.specs.FabricAgreement.{IsEndPortIn, TellsEndPort}
 use Rattle.lid_assign.specs.Lids.{IsNoRoom, lids, lid_of, range_of, top_of}
 use Rattle.lid_assign.specs.Claims.{room}
 use Rattle.sm_manager.specs.Manager.{new_manager, newest_held, next_generation}

@@ -8,7 +8,7 @@ use Rattle.subnet_view.proofs.Members.{list_any_at, list_any_true}
 use Rattle.held_tables.specs.Held.{HeldPlan}
 use Rattle.told_order.specs.declared.turns.SwitchTurn.{SwitchTurn}
 use Rattle.told_order.specs.Turns.{AreTurns, IsTurn}
-use Rattle.told_order.specs.MayBeLast.{IsLastBy, NoneFromBy, may_be_last, turns_in}
+use Rattle.told_order.specs.LastByTurns.{IsLastBy, NoneFromBy, may_be_last, turns_in}
 use Rattle.told_order.specs.ToldOrder.{IsLast, MayBeLast, NoneFrom, is_left}
 
 not_true : (t : Bool) → (t ≡ true → ⊥) → t ≡ false

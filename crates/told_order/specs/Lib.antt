@@ -1,4 +1,4 @@
-pub mod MayBeLast
+pub mod LastByTurns
 pub mod ToldLaws
 pub mod ToldOrder
 pub mod Turns

@@ -1,6 +1,6 @@
 //! Which of the switches left may be the last of them.
 ghost use Rattle.std.specs.Prelude.{◌≡◌};
-ghost use Rattle.told_order.specs.MayBeLast.{IsNextBy, may_be_last, turns_in};
+ghost use Rattle.told_order.specs.LastByTurns.{IsNextBy, may_be_last, turns_in};
 ghost use Rattle.told_order.specs.ToldOrder.{is_left};
 ghost use Rattle.told_order.specs.Turns.{lists_of};
 

@@ -4,7 +4,7 @@ use Rattle.std.proofs.lemmas.List.FromFn.{map-range_with_len_more}
 use Rattle.std.specs.List.{range_with_len}
 use Rattle.fact_store.specs.View.{cells_of}
 use Rattle.subnet_view.specs.Reading.{switches}
-use Rattle.lane_channels.specs.Stops.{far_port_by}
+use Rattle.lane_channels.specs.FarPorts.{far_port_by}
 use Rattle.lane_channels.proofs.far_ports.far_ports.Goals as goal
 
 pub loop-number-preserved : goal.loop-number-preserved

@@ -3,7 +3,8 @@ use Rattle.std.proofs.Common.{◌∙◌, sym, ap, arith}
 use Rattle.fact_store.specs.View.{cells_of}
 use Rattle.subnet_view.specs.EndPorts.{end_ports}
 use Rattle.held_tables.specs.Switches.{first_switch}
-use Rattle.lane_channels.specs.Stops.{far_port, first_stop, stop_from}
+use Rattle.lane_channels.specs.Stops.{first_stop, stop_from}
+use Rattle.lane_channels.specs.FarPorts.{far_port}
 use Rattle.lane_channels.proofs.FarPorts.{first_below, item_more, sender_is}
 use Rattle.lane_channels.proofs.far_ports.first_stops.Goals as goal
 

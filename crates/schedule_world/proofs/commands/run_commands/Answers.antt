@@ -3,7 +3,8 @@ use Rattle.std.specs.Prelude.{All}
 use Rattle.std.proofs.lemmas.List.{append-nil, length-map}
 use Rattle.std.proofs.lemmas.Option.{slice_get_read}
 use Rattle.std.proofs.lemmas.Result.{err_from_is_err_and}
-use Rattle.schedule_file.specs.Schedule.{NamesManagers, SeatCommand, is_seat}
+use Rattle.schedule_file.specs.Schedule.{NamesManagers}
+use Rattle.schedule_file.specs.Resolve.{SeatCommand, is_seat}
 use Rattle.schedule_file.specs.declared.schedule.Seat.{Seat}
 use Rattle.schedule_world.specs.Commands.{after_command, after_commands, new_seated, script_text, world_of}
 use Rattle.schedule_lines.specs.Prints.{Prints}

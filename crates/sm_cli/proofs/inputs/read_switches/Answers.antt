@@ -8,7 +8,7 @@ use Rattle.roots_file.specs.RootsTextFault.{RootsLineFault}
 use Rattle.roots_file.specs.RootsTextFault.{RootsTextFault as RootsFault}
 use Rattle.text_words.specs.Faults.{is_memory}
 use Rattle.text_words.specs.declared.fault.LinesFault.TheVariants as wrong
-use Rattle.sm_cli.specs.Inputs.{IsFaultOfText}
+use Rattle.sm_cli.specs.SwitchLists.{IsFaultOfText}
 use Rattle.sm_cli.proofs.inputs.read_switches.Goals as goal
 
 -- a text's first fault, or lack of memory if it has none

@@ -1,5 +1,5 @@
 -- None of those that stand behind may be the last.
-use Rattle.told_order.specs.MayBeLast.{NoneFromBy}
+use Rattle.told_order.specs.LastByTurns.{NoneFromBy}
 use Rattle.told_order.specs.Turns.{lists_of}
 use Rattle.told_order.proofs.last.last_of.Given as goal
 

@@ -4,7 +4,7 @@ use Rattle.std.specs.Prelude.{slice_set}
 use Rattle.std.specs.List.{list_any}
 use Rattle.fact_store.specs.View.{cells_of}
 use Rattle.told_order.specs.declared.turns.SwitchTurn.{SwitchTurn}
-use Rattle.told_order.specs.MayBeLast.{IsNextBy}
+use Rattle.told_order.specs.LastByTurns.{IsNextBy}
 use Rattle.told_order.specs.ToldOrder.{AreTaken, all_left}
 use Rattle.told_order.specs.Turns.{lists_of}
 use Rattle.told_order.proofs.MayBeLast.{last_is, left_by, none_is}

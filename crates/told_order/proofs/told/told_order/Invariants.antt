@@ -2,7 +2,7 @@
 use Rattle.std.proofs.Common.{◌≡◌, length}
 use Rattle.fact_store.specs.View.{cells_of}
 use Rattle.subnet_view.specs.Reading.{switches}
-use Rattle.told_order.specs.MayBeLast.{IsNextBy}
+use Rattle.told_order.specs.LastByTurns.{IsNextBy}
 use Rattle.told_order.specs.ToldOrder.{AreTaken, all_left}
 use Rattle.told_order.specs.Turns.{AreTurns, lists_of}
 use Rattle.told_order.proofs.Orders.{lefts}

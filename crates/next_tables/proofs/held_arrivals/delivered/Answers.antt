@@ -6,7 +6,7 @@ use Rattle.packet_walks.specs.declared.next_hop.SwitchStep.{SwitchStep}
 use Rattle.next_tables.specs.SettledComputed.{arrives_by}
 use Rattle.next_tables.specs.OrderComputed.{delivered_of}
 use Rattle.next_tables.proofs.Ordered.{delivered_is}
-use Rattle.next_tables.proofs.deliveries.delivered.Goals as goal
+use Rattle.next_tables.proofs.held_arrivals.delivered.Goals as goal
 
 pub returns : goal.returns
 returns c =

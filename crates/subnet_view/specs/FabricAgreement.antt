@@ -4,7 +4,7 @@ use Rattle.std.specs.Prelude.{◌≡◌, ◌↔◌, ℕ, Some, IsTrue}
 use Rattle.fabric_model.specs.declared.cable.NodePort.{NodePort}
 use Rattle.smp_bytes.specs.NodeType.{is_switch}
 use Rattle.fabric_model.specs.Fabric as fabric
-use Rattle.fabric_model.specs.Fabric.{Fabric, IsNodeAt}
+use Rattle.fabric_model.specs.Fabric.{Fabric, IsNodeAt, IsPortNamed}
 use Rattle.fabric_model.specs.FabricWalks as walks
 use Rattle.fabric_model.specs.FabricWalks.{vertex_of}
 use Rattle.reply_facts.specs.Known.{node_of, port_guid_of, cap_of}
@@ -25,13 +25,6 @@ pub record IsEndPortIn (part : Part) (f : Fabric) (port : NodePort) (node : fabr
   pub node_there : IsNodeAt f port.node node
   pub end_port : fabric.IsEndPort f port
   pub in_part : part port
-
--- `port` is port `p` of a node with the GUID `g`
-pub record IsPortNamed (f : Fabric) (g p : ℕ) (port : NodePort) : Type 0 where
-  pub node : fabric.Node
-  pub node_there : IsNodeAt f port.node node
-  pub guid_is : node.guid ≡ g
-  pub port_is : port.port ≡ p
 
 -- port `p` of a node with the GUID `g` is an end port of the part
 pub record HasEndPort (part : Part) (f : Fabric) (g p : ℕ) : Type 0 where
