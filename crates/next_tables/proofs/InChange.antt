@@ -8,7 +8,7 @@ use Rattle.fabric_model.specs.declared.cable.NodePort.{NodePort}
 use Rattle.fabric_model.specs.declared.course.Course.TheVariants.{Delivers, LeavesBy, Drops}
 use Rattle.smp_bytes.specs.NodeType.{is_switch}
 use Rattle.fabric_model.specs.Fabric.{Node, Fabric, IsNodeAt, owns, IsPortNamed}
-use Rattle.fabric_model.specs.FabricWalks.{IsJoinedTo, vertex_of}
+use Rattle.fabric_model.specs.FabricWalks.{vertex_of}
 use Rattle.fabric_model.specs.Forwarding.{Standing, sent_from, arrived_at, course, entry_course, Hop}
 use Rattle.fabric_model.proofs.FabricWalks.{port_at, same_port, EndNumber, type_at, switch_vertex, adapter_vertex, switch_number}
 use Rattle.fabric_model.proofs.NodeCourses.{adapter_sends, adapter_takes, switch_enters}

@@ -1,13 +1,12 @@
 -- Which switch may be the last, by the lists of turns that packets make.
-use Rattle.std.proofs.Common.{◌≡◌, ℕ, ◌+◌, ◌<◌, Bool, true, false, List, [], refl, sym, ap, ◌∙◌, arith}
-use Rattle.std.specs.Prelude.{◌&&◌, not, Contains, Some, slice_get, slice_index_or}
-use Rattle.std.specs.List.{list_any}
+use Rattle.std.proofs.Common.{◌≡◌, ℕ, ◌+◌, Bool, true, false, List, [], refl}
+use Rattle.std.specs.Prelude.{◌&&◌, not, slice_index_or}
 use Rattle.std.proofs.lemmas.Bool.{and_from, and_parts}
 use Rattle.subnet_view.specs.Reading.{Cells}
 use Rattle.subnet_view.proofs.Members.{list_any_at, list_any_true}
 use Rattle.held_tables.specs.Held.{HeldPlan}
 use Rattle.told_order.specs.declared.turns.SwitchTurn.{SwitchTurn}
-use Rattle.told_order.specs.Turns.{AreTurns, IsTurn}
+use Rattle.told_order.specs.Turns.{AreTurns}
 use Rattle.told_order.specs.LastByTurns.{IsLastBy, NoneFromBy, may_be_last, turns_in}
 use Rattle.told_order.specs.ToldOrder.{IsLast, MayBeLast, NoneFrom, is_left}
 
