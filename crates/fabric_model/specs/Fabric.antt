@@ -5,7 +5,6 @@ use Rattle.smp_bytes.specs.declared.node_type.NodeType.{NodeType}
 use Rattle.fabric_model.specs.declared.cable.NodePort.{NodePort}
 use Rattle.smp_bytes.specs.NodeType.{is_switch}
 use Rattle.smp_bytes.specs.LidRange.{has_lid}
-use Rattle.fabric_model.specs.Fabric as fabric
 
 -- a node as built: its GUID, its type, its number of ports without port 0, the number of LIDs that its table has room
 -- for, and the GUID of each port. Only the GUIDs of end ports are read (subnet management chapter, NodeInfo and
@@ -69,7 +68,7 @@ switch_count f = count_by (λ node. is_switch node.kind) f.nodes
 
 -- `port` is port `p` of a node with the GUID `g`
 pub record IsPortNamed (f : Fabric) (g p : ℕ) (port : NodePort) : Type 0 where
-  pub node : fabric.Node
+  pub node : Node
   pub node_there : IsNodeAt f port.node node
   pub guid_is : node.guid ≡ g
   pub port_is : port.port ≡ p
