@@ -1,6 +1,6 @@
-"""The texts of ibsm and its tools as values for JSON. docs/FORMATS.md has the schema, "As JSON".
+"""The texts of ibsm and its tools as values for JSON. docs/FORMATS.md has the schema under "As JSON".
 
-A reader takes the lines of a text one by one, and says of each whether it is one of its form.
+A reader takes the lines of a text one by one, and returns for each whether it belongs to the text's form.
 """
 from __future__ import annotations
 
