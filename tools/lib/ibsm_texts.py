@@ -365,7 +365,7 @@ class Plan:
             entries = bytes.fromhex(digits)
         except ValueError:
             return False
-        # `fromhex` also takes other spellings, which give other digits here.
+        # `fromhex` also takes blanks and upper-case digits, which no plan has.
         if self.last is None or len(entries) != ENTRIES or entries.hex() != digits:
             return False
         if number != str(len(self.blocks)) and not (BLOCK_NUMBER.fullmatch(number) and int(number) == len(self.blocks)):
