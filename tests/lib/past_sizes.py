@@ -164,8 +164,8 @@ def check_rooted_run(room: Room) -> None:
 
 
 def polled(times: int) -> str:
-    """Returns a schedule in which a standby polls a master `times` times, and once more: each poll is a line of 64
-    bytes."""
+    """Returns a schedule in which a standby polls a master `times` times, and then once more. Each of the `times` polls
+    is a line of 64 bytes."""
     lines = [
         'manager A "H1"[1] 2',
         'manager B "H2"[1] 1',

@@ -91,7 +91,7 @@ Fab, Ends = Callable[..., None], Callable[..., dict[str, Any]]
 
 @contextlib.contextmanager
 def fake_opensm(room: Room, *words: str) -> Iterator[int]:
-    """Runs a process named opensm that writes what it is told at HUP, and yields its id."""
+    """Runs a process named opensm that changes the held tables at HUP, and yields its id."""
     process = subprocess.Popen(
         [room.path / "opensm", *words],
         cwd=room.path,

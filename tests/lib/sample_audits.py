@@ -349,7 +349,7 @@ def rings(plan: Callable[..., Ended]) -> Iterator[tuple[str, str, Ended]]:
         plan(RING_LIDS, *cut).printed.decode(),
         prints(counted(25, 0) + NEITHER + "credit loop none\n"),
     )
-    # Of 25 packets of one kind, 20 are listed.
+    # Of 25 packets of the same kind, 20 are listed.
     first = [f"{guid:x}/0 {lid}" for lid in range(1, 5) for guid in RING]
     nowhere = "".join(lost(f"{int(packet.split('/')[0], 16):016x} by 9: no such port", packet) for packet in first)
     yield "no port of any switch", plan(RING_LIDS, *ring(*["9 9 9 9 9"] * 5)).printed.decode(), found(

@@ -86,7 +86,8 @@ class Fabric:
         return "\n".join(lines) + "\n"
 
     def facts(self) -> str:
-        """Returns what `ibsm facts` prints of a first sweep, without LIDs and with tables that have room for 1,024."""
+        """Returns what `ibsm facts` prints of a first sweep, without LIDs and with tables that have room for 1,024
+        LIDs."""
         found = collections.defaultdict(list)
         for name, (kind, guid, _) in self.nodes.items():
             least = 0 if kind == SWITCH else 1
@@ -337,7 +338,7 @@ def apart() -> Fabric:
 
 
 def without_adapters(count: int) -> Fabric:
-    """Returns a ring of switches, with more wires between those three apart."""
+    """Returns a ring of switches, with more wires between switches that are three apart."""
     fabric = Fabric()
     switches = fabric.switches(count)
     for step in (1, 3):

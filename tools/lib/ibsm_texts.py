@@ -176,7 +176,7 @@ NAMED = re.compile(r"\b(?:0x)?([0-9a-f]{16})(?:/[0-9]{1,3})?(?![0-9A-Za-z_])")
 
 
 def with_names(line: str, names: Names) -> str:
-    """Returns a line with names behind its GUIDs and ends."""
+    """Returns a line with names after its GUIDs and ends."""
 
     def called(found: re.Match) -> str:
         name = names.get(int(found[1], 16))
