@@ -1,7 +1,8 @@
-# make install PREFIX=/usr/local: the program, which is proved and built first, or with UNPROVED=1 compiled without its proofs; the
-# tools for live subnets, manual pages, completion for bash and zsh, and what they read and write (FORMATS) and how they go together
-# (OPERATORS). make uninstall PREFIX=/usr/local takes off what that installed.
-# make dist: the same as an archive in out/, which installs without a kit, a compiler or make.
+# make install PREFIX=/usr/local: installs the program, which is first proved and built or, with UNPROVED=1, compiled
+# without its proofs; also the tools for live subnets, manual pages, completion for bash and zsh, and the documents on
+# what they read and write (FORMATS) and how they go together (OPERATORS).
+# make uninstall PREFIX=/usr/local: removes what that installed.
+# make dist: makes an archive of the same in out/, which installs without a kit, a compiler or make.
 # make prove: proves and builds the program.
 # Needs the Rattle kit, a C compiler, libibumad (Debian: libibumad-dev) and Python 3.
 PREFIX ?= /usr/local

@@ -1,6 +1,7 @@
 /*
- * Preloaded to OpenSM over ibsim, which drops each TrapRepress. OpenSM waits for the one to its own trap before it
- * sweeps again, so its traps are repressed here: the next receive returns the last trap, with the method TrapRepress.
+ * A library to load before OpenSM's over ibsim, which drops each TrapRepress. OpenSM waits for the TrapRepress to its
+ * own trap before it sweeps again. So its traps are repressed here: the next receive returns the last trap, with the
+ * method TrapRepress.
  */
 #define _GNU_SOURCE
 #include <dlfcn.h>

@@ -1,6 +1,6 @@
-"""The rule of routing that spreads with balanced loads in the order of the least trial load, worked out from its
-definitions in docs/MODEL.md, apart from the program. Graphs are those of spread_rule, and so are labels and candidates.
-`adapters` has how many adapters each switch has, as a Counter by GUID.
+"""The routing rule that spreads with balanced loads in the order of the least trial load, worked out from its
+definitions in docs/MODEL.md, independently of the program. Graphs, labels and candidates are those of spread_rule.
+`adapters` says how many adapters each switch has, as a Counter by GUID.
 """
 from __future__ import annotations
 
@@ -49,7 +49,7 @@ def by_depth(graph: Graph, keys: Keys, root: int, backwards: bool = False) -> li
 
 
 def is_even(loads: Loads, graph: Graph) -> bool:
-    """Returns whether no load of a channel is over the mean of all channels by more than an eighth of that."""
+    """Returns whether no channel's load exceeds the mean of all channels by more than an eighth of the mean."""
     channels = sum(map(len, graph.values()))
     mean = sum(loads.values()) // channels if channels else 0
     return max(loads.values(), default=0) - mean <= mean // 8
@@ -57,13 +57,14 @@ def is_even(loads: Loads, graph: Graph) -> bool:
 
 def trial_loads(graph: Graph, keys: Keys, adapters: Adapters) -> Loads:
     """Returns what the channels carry in the order that grows by `keys`, if each adapter sends `PACKETS` packets to
-    each adapter, and each switch shares what it has evenly over its candidates."""
+    each adapter, and each switch shares its packets evenly among its candidates."""
     positions = spread_rule.positions_of(graph, keys)
     loads = collections.Counter()
     for target, receivers in adapters.items():
         cost, down = spread_rule.rounds(graph, positions, target)
         packets = collections.Counter({switch: PACKETS * senders * receivers for switch, senders in adapters.items()})
-        # A candidate has a cost one less, so all has come to a switch when those of greater cost have shared.
+        # A candidate leads to a switch whose cost is one less. So all packets have come to a switch once the switches
+        # of greater cost have shared theirs.
         for switch in sorted(cost, key=cost.get, reverse=True):
             exits = spread_rule.candidates(graph, positions, cost, down, switch)
             for port, to in exits:
@@ -74,8 +75,8 @@ def trial_loads(graph: Graph, keys: Keys, adapters: Adapters) -> Loads:
 
 
 def keys_of(graph: Graph, adapters: Adapters) -> Keys:
-    """Returns the keys that the rule goes by: those without roots if their trial loads are even, and otherwise, of
-    these and those by depth, the first by which the busiest channel carries least."""
+    """Returns the keys that the rule goes by: those without roots if their trial loads are even. Otherwise, of these
+    and of those by depth, returns the first by which the busiest channel carries least."""
     keys = spread_rule.keys_of(graph, list(adapters), ())
     if is_even(trial_loads(graph, keys, adapters), graph):
         return keys
@@ -99,7 +100,8 @@ class Choices:
         self.graph, self.positions, self.adapters = graph, positions, adapters
         self.in_order = sorted(graph, key=positions.get)
         leaves = [switch for switch in self.in_order if adapters[switch]]
-        # Each leaf switch takes as many numbers as the most adapters that a switch has, by its leaf number.
+        # Each leaf switch takes as many numbers as the greatest number of adapters at a switch, in order of leaf
+        # number.
         most = max(adapters.values(), default=0)
         leaf_numbers = spread_rule.leaf_numbers_of(graph, leaves)
         self.first_numbers = {switch: leaf_numbers[switch] * most for switch in graph}
@@ -119,7 +121,7 @@ class Choices:
         return found
 
     def near_first(self, exits: dict[int, list[Edge]]) -> list[int]:
-        """Returns the switches, each behind those that its candidates lead to."""
+        """Returns the switches, each after those that its candidates lead to."""
         def goes_up(switch: int) -> bool:
             return any(self.positions[to] < self.positions[switch] for _, to in exits[switch])
 
@@ -127,7 +129,7 @@ class Choices:
         return above + [switch for switch in self.in_order if goes_up(switch)]
 
     def way(self, exits: dict[int, list[Edge]], taken: dict[int, int], switch: int) -> list[tuple[int, int]]:
-        """Returns the channels of the way from a switch."""
+        """Returns the channels on the way from a switch."""
         found = []
         while exits[switch]:
             port, to = exits[switch][taken[switch]]
@@ -136,8 +138,8 @@ class Choices:
         return found
 
     def add(self, exits: dict[int, list[Edge]], taken: dict[int, int], switch: int, sign: int = 1) -> None:
-        """Adds the packets that a switch sends to one adapter, one from each adapter there, to the way from it; with
-        `sign` -1, takes them away."""
+        """Adds the packets that a switch sends to one adapter, one from each adapter at the switch, to the loads on its
+        way. If `sign` is -1, takes them away."""
         if self.adapters[switch]:
             for channel in self.way(exits, taken, switch):
                 self.loads[channel] += sign * self.adapters[switch]
@@ -185,8 +187,8 @@ class Choices:
                     self.choose(exits, order, target, own, number == 0)
 
     def of(self, number: int, switch: int, target: int) -> int:
-        """Returns the number of the candidate that a LID with this number takes at a switch towards a target, to be
-        counted round."""
+        """Returns the number of the candidate that a LID with this number takes at a switch towards a target. It is to
+        be taken modulo the number of candidates."""
         if self.adapters[target]:
             return self.taken[target, number % self.adapters[target]][switch]
         return 0 if self.are_counted else self.first_choice(switch, target, 0)

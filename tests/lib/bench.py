@@ -64,7 +64,7 @@ class Bench:
         self.wrong += not holds
 
     def end(self, began: float) -> int:
-        """Says what was measured and how many checks hold, and returns the exit status."""
+        """Prints what was measured and how many checks hold, and returns the exit status."""
         print("\n".join(self.figures))
         print(f"test: {self.held} checks hold, {self.wrong} do not; {time.monotonic() - began:.0f} s")
         return 1 if self.wrong else 0

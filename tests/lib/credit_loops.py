@@ -1,4 +1,4 @@
-"""Credit loops, by a search over channels and those that packets take next."""
+"""Credit loops, found by a search over channels and the channels that packets take next."""
 from __future__ import annotations
 
 import collections
@@ -10,7 +10,7 @@ from routes import Channel, Routes
 
 
 def followers(ways: Routes) -> dict[Channel, set[Channel]]:
-    """Returns for each channel, a switch and its port, the channels that packets take next, for any LID up to the
+    """Returns, for each channel (a switch and its port), the channels that packets take next, for any LID up to the
     greatest top."""
     ends, found = ways.ends(), collections.defaultdict(set)
     last = max(*ways.owners, *ways.plan.tops.values())
@@ -40,8 +40,8 @@ def count_round(after: Mapping[Channel, Collection[Channel]], first: Channel) ->
 def check_told(
     line: str, after: Mapping[Channel, Collection[Channel]], channel_of: Callable[[End], Channel], what: str
 ) -> int:
-    """Checks that `line` tells a loop, with the fewest channels of all, and returns its length. `channel_of` maps an
-    end to its channel."""
+    """Checks that `line` reports a loop with the fewest channels, or none if there is none, and returns its length.
+    `channel_of` maps an end to its channel."""
     least = min(filter(None, (count_round(after, first) for first in list(after))), default=0)
     told = line.split(" ")
     head = ["credit", "loop", "on", "one", "lane"] if least else ["credit", "loop", "none"]

@@ -1,6 +1,6 @@
-"""What `tests/test-files` tries of from-dumps, and of topologies for ibsim, in its room. tests/dumps/ has what
-ibnetdiscover, OpenSM and dump_fts wrote of two fabrics of ibsim: the triangle, also with LMC 1, and a tree of two lower
-switches below two higher ones."""
+"""What `tests/test-files` checks of from-dumps, and of topologies for ibsim. tests/dumps/ has what ibnetdiscover,
+OpenSM and dump_fts wrote of two fabrics of ibsim: the triangle, also with LMC 1, and a tree of two lower switches below
+two higher ones."""
 from __future__ import annotations
 
 import shutil
@@ -77,7 +77,7 @@ def from_dumps(room: Room) -> None:
 
 
 def lmcs(room: Room) -> None:
-    """Checks the ways to tell an LMC: by ibnetdiscover, by the names of dump_fts, or by an option."""
+    """Checks the ways to give an LMC: by ibnetdiscover, by the names of dump_fts, or by an option."""
     facts, tables = wanted("triangle-lmc")
     dumps = "triangle-lmc.lst triangle-lmc.fdbs --cap 1024 --tables held"
     turned(room, f"{dumps} --lmc 1", facts)
@@ -191,7 +191,7 @@ def faults(room: Room) -> None:
 
 
 def contradictions(room: Room) -> None:
-    """Checks dumps that were taken at two times."""
+    """Checks dumps that were taken at different times."""
     moved = room.text("triangle.lst").replace("{S3} LID:0005", "{S3} LID:0006")
     room.put(moved_lst=moved, other_fts=room.text("triangle.fts").replace("0x0001 002", "0x0001 001", 1))
     room.refused(

@@ -1,4 +1,4 @@
-"""What `tests/test-files` tries of the tools at the edges of their numbers, in its room."""
+"""What `tests/test-files` checks of the tools at the limits of their numbers."""
 from __future__ import annotations
 
 import os
@@ -49,7 +49,7 @@ def greatest_lid(room: Room) -> None:
 
 
 def several_blocks(room: Room) -> None:
-    """Checks that each block that differs is to be written: the first, one in between, and the last."""
+    """Checks that each block that differs counts as one to write: the first, one in between, and the last."""
     lids, tables, _ = triangle_plan(4, GREATEST)
     for entries, blocks in (
         ({GREATEST: 1}, 1), ({1: 3, GREATEST: 1}, 2), ({1: 3, 2: 3, 20000: 3, GREATEST - 63: 3, GREATEST: 1}, 3)
@@ -86,7 +86,7 @@ def largest_picture(room: Room) -> None:
 
 
 def ranges_planned(room: Room) -> None:
-    """Checks that a plan without a cable has the LMC of the tables. Switches have none."""
+    """Checks that what-if plans without a cable by the LMC of the tables. Switches have none."""
     for lmc in 0, 1, 3:
         plan = triangle_plan(8, 16, lmc)[2]
         room.put(lmc_plan=plan, fake_plan=plan, fake=FAKE, calls="")
@@ -113,7 +113,7 @@ def parts_of_dumps(room: Room) -> None:
 
 
 def means(room: Room) -> None:
-    """Checks means whose decimals end in a digit behind a zero, or in zeros: 49 adapters at a switch, and one at
+    """Checks means whose decimals end in a digit after a zero, or in zeros: 49 adapters at a switch, and one at
     another."""
     fabric = sample_fabrics.Fabric()
     fabric.switches(2)
@@ -126,7 +126,7 @@ def means(room: Room) -> None:
 
 
 def written_through(room: Room) -> None:
-    """Checks that tools sync a file to disk before they rename it: none is empty after a power cut."""
+    """Checks that tools sync a file to disk before they rename it, so that none is empty after a power cut."""
     fsync, rename = os.fsync, os.rename
 
     def note(*words: object) -> None:

@@ -1,5 +1,5 @@
-"""The fabrics by which rules of routing are compared: rings, tori, meshes and cubes, dragonflies, random fabrics, and
-trees, whole and with cables out."""
+"""The fabrics on which routing rules are compared: rings, tori, meshes and cubes, dragonflies, random fabrics, and
+trees, whole and with cables missing."""
 from __future__ import annotations
 
 import itertools
@@ -11,7 +11,7 @@ from sample_fabrics import Fabric
 
 
 def grid(sizes: Sequence[int], closes: bool) -> Fabric:
-    """Returns switches in a grid, with an adapter at each; rows of more than two close to rings if `closes`."""
+    """Returns switches in a grid, with an adapter at each; rows of more than two close into rings if `closes`."""
     points = list(itertools.product(*(range(size) for size in reversed(sizes))))
     fabric = Fabric()
     switches = dict(zip(points, fabric.switches(len(points))))
@@ -65,7 +65,8 @@ def is_connected(count: int, pairs: list[tuple[int, int]]) -> bool:
 
 
 def simple_pairs(stubs: list[int], chance: random.Random) -> list[tuple[int, int]] | None:
-    """Returns pairs of different stubs, no pair twice, by exchanges at random; None if many exchanges did not do."""
+    """Returns stubs in pairs of different ones, with no pair twice, made by random exchanges. Returns None if 10,000
+    exchanges are not enough."""
     pairs = [tuple(sorted(stubs[at : at + 2])) for at in range(0, len(stubs), 2)]
     for _ in range(10000):
         bad = [at for at, pair in enumerate(pairs) if pair[0] == pair[1] or pairs.count(pair) > 1]
@@ -94,7 +95,7 @@ def regular(count: int, degree: int, hosts: int, seed: int) -> Fabric:
 
 
 def without(fabric: Fabric, cables: int, dead: Sequence[str] = ()) -> Fabric:
-    """Returns the fabric without so many cables between switches, at random, and without `dead` switches and their
+    """Returns the fabric without `cables` random cables between switches, and without `dead` switches and their
     adapters."""
     chance = random.Random(3)
     whole = [
@@ -114,7 +115,8 @@ def without(fabric: Fabric, cables: int, dead: Sequence[str] = ()) -> Fabric:
 
 
 def parallel(low: int, high: int, times: int, hosts: int) -> Fabric:
-    """Returns two levels of switches with `times` cables between each two, and `hosts` adapters at each lower one."""
+    """Returns two levels of switches with `times` cables between each lower and each higher one, and `hosts` adapters
+    at each lower one."""
     fabric = Fabric()
     switches = fabric.switches(low + high)
     fabric.hosts([switch for switch in switches[:low] for _ in range(hosts)])
@@ -125,7 +127,7 @@ def parallel(low: int, high: int, times: int, hosts: int) -> Fabric:
 
 
 def doubled_torus(size: int) -> Fabric:
-    """Returns a torus with two cables in place of each, and two adapters at each switch."""
+    """Returns a torus with each cable doubled, and two adapters at each switch."""
     fabric = Fabric()
     switches = fabric.switches(size * size)
     fabric.hosts([switch for switch in switches for _ in range(2)])

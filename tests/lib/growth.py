@@ -1,6 +1,6 @@
-"""How the cost of commands grows, for `tests/at-scale`: each at a size and at twice the size, by counted instructions.
-`valgrind` counts them if the machine has it, else `perf`. If it has neither, processor time is taken, the least of some
-runs, and twice as much is allowed; the bounds on instructions are left out then."""
+"""How the cost of commands grows, for `tests/at-scale`: each runs at a size and at twice that size, and its
+instructions are counted. `valgrind` counts them if the machine has it, else `perf`. If it has neither, the least
+processor time of some runs is taken, and twice as much is allowed; bounds on instructions are then left out."""
 from __future__ import annotations
 
 import collections
@@ -25,12 +25,12 @@ LINEAR, SQUARED = 2 * 4 / 3, 4 * 4 / 3
 STAYS = 3 / 2
 # How many times a run is timed if instructions cannot be counted, and the slack allowed then.
 TIMES, SLACK = 5, 2
-# Processor time that tells nothing, in microseconds.
+# Less processor time than this says nothing, in microseconds.
 LEAST = 20000
 SPREAD = "--routing", "spread"
 # The GUID of a switch without wires.
 LONE = 0x8000
-# What stands behind `ibsm` on a command line.
+# The words after `ibsm` on a command line.
 Words = tuple[str, ...]
 
 
@@ -159,7 +159,7 @@ class Costs:
 
 
 def replies(costs: Costs, count: int) -> str:
-    """Makes replies of `count` adapters, each about itself."""
+    """Makes a file with replies of `count` adapters, each about itself."""
     return costs.put(f"replies{count}", lambda: make.reports(
         *(make.node_info(make.START, make.ADAPTER, 1, 16 * it, 16 * it + 1, 1) for it in range(1, count + 1))
     ))
@@ -252,7 +252,7 @@ def apart(costs: Costs, switches: int, hosts: int) -> str:
 
 
 def printed(costs: Costs, *words: str) -> str:
-    """Makes the file of what the program prints."""
+    """Makes a file of what the program prints."""
     return costs.put(
         "".join(words), lambda: subprocess.run([costs.program, *words], cwd=costs.folder, capture_output=True).stdout
     )
@@ -271,7 +271,7 @@ def swept(costs: Costs, adapters: int) -> str:
 
 
 def row(costs: Costs, switches: int, hosts: int = 0) -> str:
-    """Makes a row of switches, for long ways, with adapters at each."""
+    """Makes a row of switches, for long routes, with adapters at each."""
     return costs.put(f"row{switches}by{hosts}", lambda: make.store(*chain(switches, hosts).cells()))
 
 
@@ -296,13 +296,13 @@ def remarks(costs: Costs, count: int) -> str:
 
 
 def remarked(costs: Costs, count: int) -> str:
-    """Makes the tables of a small tree behind `count` comment lines."""
+    """Makes the tables of a small tree after `count` comment lines."""
     return costs.put(f"remarked{count}", lambda: ("#" * 63 + "\n").encode() * count + tree_of(8, 10).plan())
 
 
 def one_lane(costs: Costs, maps: int) -> str:
-    """Makes a text of lanes by which all packets have one level and one lane, with `maps` maps of switches that are not
-    there, by which that level has lane 15. If there is such a map, packets are followed by lane."""
+    """Makes a text on lanes by which all packets have the same level and the same lane. It has `maps` maps of switches
+    that do not exist, by which that level has lane 15. If there is such a map, the program follows packets by lane."""
     lanes = "00" * 16
     said = "".join(f"sl2vl {0x8000 + it // 200:x} 1 {it % 200} 0f{lanes[2:]}\n" for it in range(maps))
     return costs.put(f"lanes{maps}", lambda: f"lanes {lanes}\nlevel 0\n{said}")
@@ -321,7 +321,8 @@ def scheduled(costs: Costs, hosts: int, line: str, times: int) -> tuple[str, str
     return "run", topology, costs.put(f"schedule{len(costs.files)}of{hosts}", lambda: text)
 
 
-# A command: `words` makes it for a size, `limit` bounds its cost at twice that size, `status` is its exit status.
+# A command: `words` makes it for a size, `limit` bounds how many times as much it costs at twice that size, `status` is
+# its exit status.
 Row = collections.namedtuple("Row", "title words size limit status", defaults=[0])
 GROWING = (
     Row("facts of replies", lambda c, n: ("facts", replies(c, n)), 4000, LINEAR),
@@ -391,7 +392,7 @@ GROWING = (
     Row("run of a topology of comments", lambda c, n: ("run", remarks(c, n), remarks(c, 1)), 5000, LINEAR),
 )
 
-# Lines of a schedule that cost the same in a fabric of any size, but for a search among its ports.
+# Lines of a schedule that cost the same in a fabric of any size, except for a search among its ports.
 STEADY = (
     ("a poll that is answered", "poll B LID/drain 100"),
     ("a poll over a path", "poll B/drain 100"),

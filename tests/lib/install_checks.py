@@ -1,4 +1,4 @@
-"""What `tests/test-files` tries of an installed copy: it is laid out over scripts in place of programs, in its room."""
+"""What `tests/test-files` checks of an installed copy, in which scripts take the place of programs."""
 from __future__ import annotations
 
 import os
@@ -60,7 +60,7 @@ def installed(room: Room, program: pathlib.Path) -> None:
 
 
 def runs(room: Room, to: pathlib.Path, tools: list[str]) -> None:
-    """Checks that each tool runs from anywhere under its installed name, and that the version tells how the program was
+    """Checks that each tool runs from anywhere under its installed name, and that the version says how the program was
     built."""
     for tool in tools[1:]:
         done = run([to / "bin" / tool, "--help"], cwd="/", env={"PATH": os.environ["PATH"]})

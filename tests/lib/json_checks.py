@@ -1,4 +1,4 @@
-"""What `tests/test-files` tries of json, in its room: each line of each text, and texts that are cut or of no form."""
+"""What `tests/test-files` checks of json: each line of each text, and texts that are cut or of no form."""
 from __future__ import annotations
 
 import json
@@ -335,7 +335,7 @@ def faults(room: Room) -> None:
 
 
 def named(room: Room) -> None:
-    """Checks that names behind GUIDs become a member of their own, whatever they contain."""
+    """Checks that names after GUIDs become a separate member, whatever they contain."""
     room.put(map=f'0x{ONE} "the [1] \xfc"\n0x{HOST} "node {TWO}"\n', facts=FACTS)
     room.put(it=room.run("names map", 0, stdin="facts"))
     names = {ONE: "the [1] \xfc", HOST: f"node {TWO}"}

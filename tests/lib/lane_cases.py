@@ -1,4 +1,4 @@
-"""Lanes of a ring of four, worked out by hand, and of small fabrics at random."""
+"""Lanes of a ring of four, worked out by hand, and of small random fabrics."""
 from __future__ import annotations
 
 import random
@@ -11,7 +11,8 @@ from ibsm_texts import ENTRIES, End, name_of
 from lane_rule import DROPS, LEVELS, NO_LEVEL
 from next_rule import Tables
 
-# The maps by which each level has its own lane, all have lane 0, level 1 has lane 1, and all packets are dropped.
+# Four maps: each level has its own lane; all have lane 0; level 1 has lane 1, and all others lane 0; all packets are
+# dropped.
 IDENTITY, PLAIN = bytes(range(LEVELS)), bytes(LEVELS)
 ONE_APART, NONE = bytes([0, 1, *bytes(LEVELS - 2)]), bytes([DROPS]) * LEVELS
 Maps = dict[tuple[int, int, int], bytes]
@@ -19,7 +20,8 @@ LevelOf = Callable[[End, int], int]
 
 
 class Case(NamedTuple):
-    """A fabric's facts, tables and lanes as texts, and whether answers have the levels of what they answer."""
+    """A fabric's facts, tables and lanes as texts, and whether answers have the levels of the packets that they
+    answer."""
 
     facts: str
     tables: str
@@ -79,7 +81,7 @@ def rows() -> Iterator[Row]:
         return Row(title, Case(facts, tables, lanes, answers), **found)
 
     def passes_s4(end: End, lid: int) -> bool:
-        """Returns whether packets go from S4 to S1."""
+        """Returns whether packets from an end to a LID go from S4 to S1."""
         return (lid - 1) % 4 < place[end]
 
     levels = [*level_lines(ends, 8, lambda end, lid: int(passes_s4(end, lid)))]
@@ -108,7 +110,8 @@ def rows() -> Iterator[Row]:
 
 
 def a_fabric(chance: random.Random) -> make.Fabric:
-    """Returns a ring, mostly, of some switches with wires across, and adapters at some of them or at each other."""
+    """Returns a fabric that is mostly a ring of some switches with wires across. Adapters are at some of them, or wired
+    to each other."""
     fabric = make.Fabric()
     switches = fabric.switches(chance.choice((1, 2, 3, 4, 4, 5, 5, 6, 6)), 16)
     for one, other in zip(switches, switches[1:] + switches[:1]):
@@ -126,7 +129,7 @@ def a_fabric(chance: random.Random) -> make.Fabric:
 
 
 def some_facts(chance: random.Random, fabric: make.Fabric) -> str:
-    """Returns the facts of a fabric, of which some are sometimes missing or some ports are down."""
+    """Returns the facts of a fabric. Sometimes some of them are missing, or some ports are down."""
     share = chance.choice((0, 0, 0, 0.05))
     lines = []
     for line in fabric.facts().splitlines(True):
@@ -137,13 +140,13 @@ def some_facts(chance: random.Random, fabric: make.Fabric) -> str:
 
 
 def some_tables(chance: random.Random, fabric: make.Fabric) -> Tables:
-    """Returns tables of shortest ways or of ways that turn round, mostly with some other entries, LIDs or tops."""
+    """Returns tables of shortest routes or of routes round a ring, mostly with some other entries, LIDs or tops."""
     tables = Tables(fabric.plan(fabric.some_shortest(chance)))
     names = [name for name in fabric.nodes if fabric.is_switch(name)]
     kind, share = chance.randrange(8), chance.choice((0, 0, 0, 0, 0.05, 0.5))
     for place, name in enumerate(names):
         guid, exits = fabric.guid(name), fabric.exits(name)
-        # Round the ring, whatever way is shorter: to the next switch, or to the one before.
+        # Round the ring, whichever way is shorter: to the next switch, or to the one before.
         beside = names[(place + (1 if kind < 3 else -1)) % len(names)] if kind < 4 else ""
         turn, blocks = [port for port, far in exits if far == beside], tables.blocks[guid]
         for number, entries in blocks.items():
@@ -204,7 +207,7 @@ def some_levels(chance: random.Random, fabric: make.Fabric, many: int) -> tuple[
 
 
 def a_case(seed: str) -> Case:
-    """Returns a case at random, made from a seed."""
+    """Returns a random case, made from a seed."""
     chance = random.Random(seed)
     fabric = a_fabric(chance)
     lanes, levels = chance.choice((1, 2, 2, 3, 8)), chance.choice((1, 2, 2, 4, 16))

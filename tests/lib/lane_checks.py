@@ -1,5 +1,5 @@
-"""What `tests/test-lanes --ibsim` tries: OpenSM's engines that need lanes, over ibsim, and what record, from-dumps, the
-rule of lane_rule.py and ibdmchk say of them."""
+"""What `tests/test-lanes --ibsim` checks: OpenSM's engines that need lanes, over ibsim, and what record, from-dumps,
+the rule of lane_rule.py and ibdmchk say of them."""
 from __future__ import annotations
 
 import pathlib
@@ -20,7 +20,7 @@ from next_rule import Tables
 TORUS = "torus 4 4 1\nxp_link 0x10 0x20\nxm_link 0x10 0x40\nyp_link 0x10 0x50\nym_link 0x10 0xd0\n"
 ODD = "torus 5 5 1\nxp_link 0x10 0x20\nyp_link 0x10 0x60\n"
 MESH = "mesh 4 4 1\nxp_link 0x10 0x20\nyp_link 0x10 0x50\n"
-# Fabrics, and the texts by which torus-2QoS knows them.
+# Fabrics, and the texts that describe them to torus-2QoS.
 FABRICS = {
     "a torus of 4 x 4": (lambda: make.torus(4, 4), TORUS),
     "a torus of 5 x 5": (lambda: make.torus(5, 5), ODD),
@@ -53,7 +53,7 @@ class Read:
         return Rule(self.facts, self.tables, Lanes(lanes)).judge(with_answers)
 
     def between(self, counts: Callable[[End, End], bool]) -> str:
-        """Returns the text on lanes in which no other packets have a level than those between ends that count."""
+        """Returns the text on lanes in which only packets between ends that count have a level."""
         maps = [line for line in self.text.splitlines() if not line.startswith("level")]
 
         def level_of(end: End, lid: int) -> int:
@@ -102,11 +102,11 @@ def recorded(bench: Bench) -> Read | None:
 
 
 def as_ibdmchk_says(bench: Bench, read: Read, found: dict[str, bool]) -> None:
-    """Checks whether there is a loop against ibdmchk, which is a program of its own: between adapters, and in all."""
+    """Checks against ibdmchk, an independent program, whether there is a loop: between adapters, and among all ends."""
     (bench.path / "psl").write_text(read.for_ibdmchk())
     files = ["-s", "d/opensm-subnet.lst", "-f", "d/opensm.fdbs", "-m", "d/opensm.mcfdbs"]
     for words, pairs in ((["-a"], "all"), ([], "between adapters")):
-        # It says what it found, and often ends with a segmentation fault then.
+        # ibdmchk says what it found, and then often ends with a segmentation fault.
         bench.run("ibdmchk", *words, *files, "-c", "psl", "-d", "d/opensm-sl2vl.dump")
         told = set(VERDICT.findall(bench.printed))
         wanted = {"Found credit loop" if found[pairs] else "no credit loops found"}
@@ -194,7 +194,7 @@ def refused(bench: Bench) -> None:
 
 
 def cabled(bench: Bench) -> list[End]:
-    """Returns the ports of switches with a cable."""
+    """Returns the ports of switches that have a cable."""
     return [(bench.fabric.guid(name), port) for name, port in bench.fabric.peers if bench.fabric.is_switch(name)]
 
 

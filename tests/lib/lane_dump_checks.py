@@ -1,5 +1,5 @@
-"""What `tests/test-files` tries of lanes in from-dumps, in its room. tests/dumps/ has what OpenSM dumped by its engine
-dfsssp of the triangle, and what saquery printed of each pair."""
+"""What `tests/test-files` checks of lanes in from-dumps. tests/dumps/ has what OpenSM with its engine dfsssp dumped of
+the triangle, and what saquery printed of each pair."""
 from __future__ import annotations
 
 import re
@@ -16,7 +16,7 @@ LINKS = "triangle.lst --cap 1024 --lanes lanes"
 
 
 def pairs_of(text: str) -> dict[tuple[int, int], int]:
-    """Returns the level of each pair of LIDs that saquery told."""
+    """Returns the level of each pair of LIDs that saquery printed."""
     found = {}
     for record in text.split("PathRecord dump:\n")[1:]:
         fields = dict(re.findall(r"\s+(\w+)\.+(\S+)\n", record))
@@ -66,7 +66,7 @@ def other_forms(room: Room, levels: dict[tuple[int, int], int], text: str) -> No
 
 
 def other_maps(room: Room) -> None:
-    """Checks a map that only one pair of ports has, and switches whose port 0 tells no GUID."""
+    """Checks a map that only one pair of ports has, and switches whose port 0 has no GUID in the dump."""
     changed = room.text("triangle.sl2vl").replace("3   2   : 0  1 ", "3   2   : 15 14", 1)
     room.put(some_sl2vl=changed)
     lanes = told(room, f"some.sl2vl triangle.saquery {LINKS}")
@@ -81,7 +81,7 @@ def other_maps(room: Room) -> None:
 
 
 def gaps(room: Room, levels: dict[tuple[int, int], int]) -> None:
-    """Checks that what no dump tells is said, and is not made up."""
+    """Checks that what no dump has is reported, and is not made up."""
     lanes = told(room, f"triangle.saquery {LINKS}", 1)
     room.check("by the text all packets are dropped" in room.said and lanes.usual is None, "no maps")
     lanes = told(room, f"triangle.sl2vl {LINKS}", 1)

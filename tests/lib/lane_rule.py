@@ -1,5 +1,5 @@
-"""Credit loops lane by lane, worked out from docs/FORMATS.md ("LANES", "Audit by lane") apart from the program: each
-packet is followed by itself.
+"""Credit loops lane by lane, worked out from docs/FORMATS.md ("LANES", "Audit by lane") independently of the program:
+each packet is followed separately.
 
 A channel is the GUID of a switch, a port by which packets leave it for a switch, and their lane.
 """
@@ -51,7 +51,7 @@ class Line(NamedTuple):
 
 
 def line_of(text: str) -> Line | None:
-    """Returns what a line says, or None if it has another form. It has words with a blank between them."""
+    """Returns what a line says, or None if it is malformed. Words are separated by one blank."""
     word = text.split(" ")[0]
     form = FORMS[word].fullmatch(text) if word in FORMS else None
     if form is None:
@@ -63,7 +63,7 @@ def line_of(text: str) -> Line | None:
 
 
 class Lanes:
-    """What a text on lanes says, up to its first fault: the number of that line, and a word."""
+    """What a text on lanes says, up to its first fault. `fault` has the number of that line, and a word."""
 
     def __init__(self, text: str = "") -> None:
         self.usual, self.maps = None, {}  # the map of the line `lanes`; by switch, in-port and out-port
@@ -108,7 +108,7 @@ class Lanes:
 
 
 class Drop(NamedTuple):
-    """Packets for a LID are dropped at a switch, where they come in and would leave by these ports, on this level."""
+    """Packets of a level for a LID, dropped at a switch where they come in and would leave by these ports."""
 
     lid: int
     guid: int
@@ -117,13 +117,13 @@ class Drop(NamedTuple):
     level: int
 
     def line(self) -> str:
-        """Returns the line that tells of these packets."""
+        """Returns the line that reports these packets."""
         return f"dropped {self.lid} at {self.guid:016x} {self.into} {self.out} level {self.level}"
 
 
 class Judged(NamedTuple):
-    """What an audit by lane finds: for each channel those that packets take next, the length of a shortest credit loop
-    or 0, the pairs of an end and a LID without a level, in order, and what is dropped."""
+    """What an audit by lane finds: for each channel, the channels that packets take next, the length of a shortest
+    credit loop or 0, the pairs of an end and a LID without a level, in order, and what is dropped."""
 
     after: dict[Channel, set[Channel]]
     loop: int
@@ -131,7 +131,7 @@ class Judged(NamedTuple):
     drops: set[Drop]
 
     def passes(self) -> bool:
-        """Returns whether nothing of this is amiss."""
+        """Returns whether there is no loop, no pair without a level, and nothing dropped."""
         return not (self.loop or self.without or self.drops)
 
 
@@ -140,7 +140,7 @@ class Rule:
 
     def __init__(self, facts: Facts, tables: Tables, lanes: Lanes, following: Tables | None = None) -> None:
         self.subnet, self.tables, self.lanes, self.following = Subnet(facts), tables, lanes, following
-        # A known GUID of another port than port 0 of a switch, or than a port of another node, makes no end port.
+        # Known GUIDs make end ports only of port 0 of a switch and of the ports of other nodes.
         self.ends = [
             (guid, port)
             for guid, port in self.subnet.ends
@@ -149,7 +149,7 @@ class Rule:
         either = [tables] if following is None else [tables, following]
         self.top = max((them.tops.get(guid, 0) for guid in self.subnet.switches for them in either), default=0)
         self.ends.sort(key=lambda end: (facts.port_guids[end], end))
-        # A LID with each end that holds it, in the order of lines.
+        # Each LID with each end that holds it, in the order of the lines.
         self.lines = list(dict.fromkeys(
             (lid, end) for first, end, lmc in tables.ranges for lid in range(first, first + 2**lmc)
         ))
@@ -162,8 +162,8 @@ class Rule:
         return far if far and far[0] in self.subnet.switches else None
 
     def walk(self, end: End, lid: int, level: int) -> tuple[list[Channel], Drop | None]:
-        """Returns the channels that a packet takes in turn, and whether it is dropped then. If it goes round, it ends
-        with the first channel that it takes again."""
+        """Returns the channels that a packet takes in turn, and whether it is dropped then. If the packet loops, the
+        list ends with the first channel that it takes again."""
         at, taken, met = self.start(end), [], set()
         while at is not None:
             guid, into = at
@@ -228,7 +228,7 @@ class Rule:
         return [end for held, end in self.lines if held == lid]
 
     def components(self) -> dict[End, End]:
-        """Returns an end for each end port, the same for those of a component."""
+        """Returns, for each end port, the end that stands for its component."""
         graph, found, first = self.subnet.graph(), {}, {}
         for end in self.ends:
             start = self.start(end)
@@ -252,8 +252,8 @@ class Rule:
         ]
 
     def judge(self, with_answers: bool = False) -> Judged:
-        """Returns what an audit by lane finds. With answers, packets to whom asked also have the level on which it
-        asked."""
+        """Returns what an audit by lane finds. With answers, packets to an end that asked also have the level on which
+        it asked."""
         after, drops = collections.defaultdict(set), set()
         for end in self.ends:
             for lid in range(1, self.top + 1):

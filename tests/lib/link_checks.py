@@ -1,4 +1,4 @@
-"""What `tests/test-files` tries of widths and speeds of links, in its room: of recordings that are made here."""
+"""What `tests/test-files` checks of widths and speeds of links, with recordings that are made here."""
 from __future__ import annotations
 
 from collections.abc import Iterable
@@ -99,7 +99,7 @@ def links(room: Room) -> None:
 
 
 def odd_links(room: Room, fabric: Fabric, edr: bytes) -> None:
-    """Checks links that are gone, down, or told by one end or by none, and files that are no recordings."""
+    """Checks links that are gone, down, or reported by one end or by none, and files that are not recordings."""
     end, far = ("S1", 1), fabric.peers["S1", 1]
     for said, status, last in (
         ({end: info(1)}, 0, "4 links: 4 of 4x EDR 100 Gb/s; below what both ends can, or not told: 0\n"),

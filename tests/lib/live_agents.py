@@ -1,5 +1,5 @@
-"""Agents of a fabric, written for the tests of `serve`: what each answers to a directed request, and what it holds
-then."""
+"""Agents of a fabric, written for the tests of `serve`: what each answers to a directed request, and what it then
+holds."""
 from __future__ import annotations
 
 import random
@@ -22,8 +22,9 @@ def field(packet: bytes, at: int, size: int) -> int:
 class Agents:
     """The agents of a fabric of sample_fabrics, all in their first state.
 
-    `images` is a source of random numbers, by which all else that ports and switches tell has values; without one it is
-    0. `read` has each attribute as it was first told, and `sets` each that was set, by node, attribute and modifier."""
+    `images` is a source of random numbers for all other values that ports and switches report. Without it they are 0.
+    `read` has each attribute as it was first reported, and `sets` each one that was set, by node, attribute and
+    modifier."""
 
     def __init__(self, fabric: Fabric, seat: Port, images: random.Random | None = None) -> None:
         self.fabric, self.seat, self.images = fabric, seat, images
@@ -59,7 +60,7 @@ class Agents:
         return bytes(head) + data + packet[128:192] + bytes(back)
 
     def note(self, name: str, came_by: int, packet: bytes, data: bytes) -> None:
-        """Notes what was told first, and what was set."""
+        """Notes what was reported first, and what was set."""
         attribute, modifier = field(packet, 16, 2), field(packet, 20, 4)
         if attribute == PORT_INFO and not self.fabric.is_switch(name):
             modifier = modifier or came_by
@@ -68,7 +69,8 @@ class Agents:
             self.sets.append((name, attribute, modifier, packet[64:128]))
 
     def blank(self, name: str, attribute: int, modifier: int) -> bytearray:
-        """Returns an attribute before anything is known of it: zeros, or the values of an image that is kept."""
+        """Returns an attribute before its known values are filled in: zeros, or a random image, the same at each
+        request."""
         known = self.read.get((name, attribute, modifier))
         if self.images is None or attribute not in (SWITCH_INFO, PORT_INFO):
             return bytearray(64)

@@ -1,4 +1,4 @@
-"""What `tests/test` tries of `send` and of rounds that go by it, over ibsim, on its bench."""
+"""What `tests/test` checks of `send`, and of rounds that write by it, in fabrics that ibsim simulates."""
 from __future__ import annotations
 
 import contextlib
@@ -213,7 +213,7 @@ def next_round(process: subprocess.Popen[str]) -> str:
 
 
 def interrupted(bench: Bench) -> None:
-    """Checks going from the plan to minhop's tables: `send`, if ended half-way, leaves each block old or new, and can
+    """Checks going from the plan to minhop's tables: `send`, if stopped half-way, leaves each block old or new, and can
     go on from there."""
     plan, minhop = ((bench.path / name).read_text().splitlines() for name in ("min.plan", "min.held"))
     told = {

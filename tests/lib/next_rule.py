@@ -1,6 +1,6 @@
-"""The tables to write next, worked out from docs/MODEL.md, "From the tables that switches hold to a plan", apart from
-the program; and what becomes of packets that meet, at each switch and whenever they come there, an entry of one of
-several tables.
+"""The tables to write next, worked out from docs/MODEL.md, "From the tables that switches hold to a plan",
+independently of the program. Also, what becomes of packets that meet an entry of any of several tables, at each switch
+and at each visit.
 
 A hop of a packet is a pair: ON and a switch, TAKEN and the end that took it, or LOST and None.
 """
@@ -36,7 +36,7 @@ class Tables:
                 self.blocks[at][int(first)] = bytes.fromhex(rest[0])
 
     def owners(self) -> dict[int, list[End]]:
-        """Returns for each LID the ends that hold it, without repetition."""
+        """Returns, for each LID, the ends that hold it, without repetition."""
         found = collections.defaultdict(list)
         for first, end, lmc in self.ranges:
             for lid in range(first, first + 2**lmc):
@@ -61,7 +61,8 @@ class Tables:
 
 
 class Subnet:
-    """What counts among facts: the usable switches, the end ports, and where the wires in ports lead."""
+    """What counts among facts: the usable switches (those with a known table size), the end ports, and where the wires
+    in ports lead."""
 
     def __init__(self, facts: Facts) -> None:
         self.switches = sorted(guid for guid in facts.caps if facts.is_switch(guid))
@@ -70,7 +71,7 @@ class Subnet:
         self.wires = {end: far for end in wired if (far := facts.wire(end)) in wired}
 
     def graph(self) -> dict[int, list[tuple[int, int]]]:
-        """Returns for each switch its ports with a wire to a switch, and that switch, by rising port."""
+        """Returns, for each switch, its ports with a wire to a switch, each with that switch, in order of port."""
         found = {guid: [] for guid in self.switches}
         for (guid, port), (far, _) in sorted(self.wires.items()):
             if guid in found and far in found:
@@ -93,7 +94,7 @@ class Subnet:
         return (TAKEN, far) if far in owners else NOWHERE
 
     def hop(self, guid: int, entry: int, owners: list[End]) -> Hop:
-        """Returns what a switch does with a packet for a LID that `owners` own."""
+        """Returns what a switch does with a packet for a LID that `owners` hold."""
         return (TAKEN, (guid, 0)) if entry == 0 else self.over((guid, entry), owners)
 
     def hops(self, column: dict[int, int], owners: list[End]) -> dict[int, Hop]:
@@ -107,7 +108,7 @@ class Subnet:
 
 
 def walk(hops: dict[int, Hop], hop: Hop) -> tuple[list[int], Hop | None]:
-    """Returns the switches that a packet meets from a hop on, and its last hop, or None if it goes round."""
+    """Returns the switches that a packet meets from a hop on, and its last hop, or None if it loops."""
     met = []
     while hop[0] == ON:
         if hop[1] in met:
@@ -119,7 +120,7 @@ def walk(hops: dict[int, Hop], hop: Hop) -> tuple[list[int], Hop | None]:
 
 def ways(tables: list[dict[int, Hop]], hop: Hop) -> tuple[set[Hop], set[int], bool]:
     """Returns how a packet may end if each switch takes any of its hops in `tables`, the switches that it may meet, and
-    whether it may go round."""
+    whether it may loop."""
     met, ends, waiting = set(), set(), [hop]
     while waiting:
         kind, at = waiting.pop()
@@ -130,15 +131,15 @@ def ways(tables: list[dict[int, Hop]], hop: Hop) -> tuple[set[Hop], set[int], bo
             waiting += [hops[at] for hops in tables]
     after = {guid: {hops[guid][1] for hops in tables if hops[guid][0] == ON} for guid in met}
     over = set()
-    # Finds the switches from which every way ends, by and by.
+    # Finds, step by step, the switches from which every way ends.
     while more := {guid for guid in met - over if after[guid] <= over}:
         over |= more
     return ends, met, over != met
 
 
 def turns(subnet: Subnet, tables: Tables) -> dict[int, set[tuple[int, int]]]:
-    """Returns for each switch the pairs of switches between which it forwards packets: for some LID they come from the
-    first and leave for the second."""
+    """Returns, for each switch, the pairs of switches between which it forwards packets: for some LID, packets come
+    from the first and leave for the second."""
     found = {guid: set() for guid in subnet.switches}
     for lid in range(1, max(tables.tops.values(), default=0) + 1):
         hops = subnet.hops(tables.column(subnet.switches, lid), [])
@@ -149,9 +150,9 @@ def turns(subnet: Subnet, tables: Tables) -> dict[int, set[tuple[int, int]]]:
 
 
 def told_order(subnet: Subnet, tables: Tables, preferred: list[int] | None = None) -> list[int] | None:
-    """Returns an order of the switches by which the tables lead packets up and then down, or None. It is built from the
-    last switch on. Each time it takes a switch at which no packet turns between two that are left: of several, the last
-    in `preferred`, or the one of the greatest GUID."""
+    """Returns an order of the switches by which the tables lead packets up and then down, or None if there is none. The
+    order is built from its last switch backwards. Each step takes a switch at which no packet turns between two
+    switches that are left: of several, the last in `preferred`, or the one with the greatest GUID."""
     found, left, taken = turns(subnet, tables), set(subnet.switches), []
     rank = {guid: number for number, guid in enumerate(preferred or subnet.switches)}
     while left:
@@ -214,8 +215,8 @@ class Order:
         delivers = {guid for guid in held if walk(by_held, (ON, guid))[1] == there}
         differs = {guid for guid in held if held[guid] != planned[guid]}
         onward = {guid: hop[1] for guid, hop in by_held.items() if hop[0] == ON}
-        # The switches to which packets come down by an entry that is not the plan's, and the switches that send them up
-        # by one.
+        # The switches to which packets come down by an entry that is not the plan's, and the switches that send packets
+        # up by such an entry.
         entered = {far for guid, far in onward.items() if guid in differs and self.is_down(guid, far)}
         going_up = {guid for guid, far in onward.items() if guid in differs and self.is_up(guid, far)}
 
@@ -246,13 +247,13 @@ def by_rank(subnet: Subnet) -> Order:
 
 
 def by_spread(subnet: Subnet, roots: Iterable[int]) -> Order:
-    """Returns the order of the rule that spreads."""
+    """Returns the order of the rule `spread`."""
     graph = subnet.graph()
     return Order(spread_rule.positions_of(graph, spread_rule.keys_of(graph, subnet.leaves(), roots)))
 
 
 def as_named(subnet: Subnet, named: Iterable[int]) -> Order:
-    """Returns the order of the rule that spreads, if `named` switches are given."""
+    """Returns the order of the rule `spread`, if `named` switches are given."""
     graph = subnet.graph()
     return Order(spread_rule.positions_of(graph, spread_rule.keys_as_named(graph, named)))
 
@@ -272,8 +273,8 @@ def tree_of(graph: dict[int, list[tuple[int, int]]], order: Order) -> dict[int, 
 
 
 def two_orders(subnet: Subnet, held: Tables, plan: Order, preferred: Order) -> tuple[Order, Order] | None:
-    """Returns the order by which a step goes from the held tables, if these tell one, and the next order. Of several
-    that they tell, it is the one nearest to `preferred`."""
+    """Returns the order by which a step goes from the held tables, and the next order, or None if the held tables imply
+    no order. Of several orders that they imply, it is the one nearest to `preferred`."""
     graph = subnet.graph()
     told = told_order(subnet, held, sorted(graph, key=grown(graph, preferred).positions.get))
     if told is None:
@@ -286,9 +287,9 @@ def two_orders(subnet: Subnet, held: Tables, plan: Order, preferred: Order) -> t
 
 
 def labels_to(subnet: Subnet, orders: tuple[Order, Order], targets: set[int]) -> dict[int, tuple[bool, bool]]:
-    """Returns for each switch from which a packet gets to the targets whether its channel there leads up by each order.
-    A packet that came down by an order goes up by it no more. The labels come in four rounds, each until no switch gets
-    one."""
+    """Returns, for each switch from which packets get to the targets, whether its channel towards them leads up by each
+    order. A packet that has come down by an order does not go up by it again. Labels are given in four rounds, each of
+    which goes on until no switch gets one."""
     graph, found = subnet.graph(), dict.fromkeys(targets, (False, False))
     for label in (False, False), (True, False), (False, True), (True, True):
         while more := [
@@ -304,7 +305,7 @@ def leads_on(
     orders: tuple[Order, Order], labels: dict[int, tuple[bool, bool]], label: tuple[bool, bool], one: int, other: int
 ) -> bool:
     """Returns whether a channel leads up by the orders that its label names and down by the others, to a switch whose
-    label names no more orders."""
+    label names no order besides these."""
     if one == other or other not in labels:
         return False
     up = tuple(order.positions[other] < order.positions[one] for order in orders)
@@ -351,8 +352,9 @@ def tables_between(subnet: Subnet, held: Tables, plan: Tables, orders: tuple[Ord
 def told_step(
     subnet: Subnet, held: Tables, plan: Tables, order: Order, last: list[int] | None = None
 ) -> tuple[Tables, Order | None]:
-    """Returns the next tables if a step may go by the order that the held tables tell, and that order if it does. Of
-    several that they tell, it is the one nearest to the order of the last step, if its switches are given."""
+    """Returns the next tables if a step may go by an order that the held tables imply, and that order, or None if the
+    step does not go by it. Of several such orders, it is the one nearest to the order of the last step, if `last` gives
+    that one's switches."""
     preferred = order if last is None else as_named(subnet, last)
     orders = None if order.is_right(subnet, held) else two_orders(subnet, held, order, preferred)
     if orders is not None:
@@ -369,7 +371,8 @@ def first_moved(held: Tables, plan: Tables) -> int | None:
 
 
 def next_tables(subnet: Subnet, held: Tables, plan: Tables, order: Order) -> Tables:
-    """Returns the next tables. They follow the plan's order if the held tables are right by that order."""
+    """Returns the next tables. They follow the plan's order if, by that order, the held tables lead no packet down and
+    then up."""
     before, after, is_right = held.owners(), plan.owners(), order.is_right(subnet, held)
     columns = {}
     for lid, (end,) in after.items():
@@ -395,7 +398,7 @@ def assembled(subnet: Subnet, held: Tables, plan: Tables, columns: dict[int, dic
 
 
 def waits(subnet: Subnet, tables: Collection[Tables]) -> dict[End, dict[End, int]]:
-    """Returns for each channel the channels that packets may take after it, each with the least LID of such a packet.
+    """Returns, for each channel, the channels that packets may take after it, each with the least LID of such a packet.
     The first is taken by an entry of any of `tables`, and the next by an entry of any. A channel is a switch and its
     port with a wire to a switch."""
     found = collections.defaultdict(dict)

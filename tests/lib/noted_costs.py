@@ -1,8 +1,8 @@
-"""What runs cost, as `tests/costs.table` notes it, for `tests/at-scale`: instructions and allocations of those in
-growth.py, and memory of those in past_sizes.py. A run asks for memory no more often than noted. Valgrind counts
-instructions alike on each run, and on all machines but for what the C library chooses by the processor, so a run may
-take a tenth more than noted. The processor's own counter counts some besides, and memory goes by pages: there it may be
-more."""
+"""What runs cost, for `tests/at-scale`, compared with what `tests/costs.table` notes: instructions and allocations of
+the runs in growth.py, and memory of those in past_sizes.py. A run asks for memory no more often than noted. Valgrind
+counts the same instructions on each run, and on all machines except for what the C library chooses by processor, so a
+run may take a tenth more than noted. The processor's own counter counts some others too, and memory comes in pages, so
+these may exceed the note by more."""
 from __future__ import annotations
 
 from paths import ROOT
@@ -38,7 +38,7 @@ class Noted:
                 kind = line
 
     def find(self, kind: str, title: str, number: float) -> None:
-        """Keeps the cost of a run; of several runs with one title, the greatest."""
+        """Keeps the cost of a run, or the greatest one of several runs with the same title."""
         self.found[kind][title] = max(round(number, 2), self.found[kind].get(title, LEAST if kind == MEMORY else 0))
 
     def check_all(self, counter: str) -> None:

@@ -1,6 +1,5 @@
-"""Inputs past each size at which a program could stop for want of room in what it counts by, for `tests/at-scale`. What
-is printed is compared as a whole: with what is known of a tree, with the same by another way, or with what has to come
-of it."""
+"""Inputs for `tests/at-scale` past each size at which one of the program's counters could overflow. All that is printed
+is compared: with what is known of a tree, with what another way prints, or with what must result."""
 from __future__ import annotations
 
 import itertools
@@ -12,7 +11,8 @@ import sample_audits as audits
 from noted_costs import MEMORY, Noted
 from scale import Fabric, Run, Tree, chain, check, levels
 
-# More than 2^16 lines, cells or commands, than 2^20 cells, and than 2^22 bytes of a text.
+# More than 2^16 lines, cells or commands; more than 2^20 cells; and the bytes of a line, for texts of more than 2^22
+# bytes.
 LINES, CELLS, PADDED = 70000, 1050000, 64
 SPREAD = "--routing", "spread"
 
@@ -91,7 +91,7 @@ def check_ranges(room: Room) -> None:
     for lmc in 1, 3:
         for rule in "updown", "spread":
             room.prints(tree.plan(lmc), "plan", "--lmc", str(lmc), "--routing", rule, "ranges")
-    # The tables behind more than 5 MB of comments.
+    # The tables after more than 5 MB of comments.
     room.put("long.plan", padded("# ", 80000) + tree.plan())
     room.prints(tree.audit()[2], "audit", "long.plan", "ranges")
     room.prints(tree.plan(), "next", "long.plan", "ranges")
@@ -140,7 +140,7 @@ def check_managers(room: Room) -> None:
 
 
 def check_writing(room: Room) -> None:
-    """Checks a writing on 2,009 end ports, with two LIDs for each port of an adapter."""
+    """Checks that a manager writes to 2,009 end ports, with one LID or two for each port of an adapter."""
     tree = Tree([0] * 8, [0] + [250] * 8, 2)
     room.put("wide", tree.topology())
     room.put(
@@ -164,8 +164,8 @@ def check_rooted_run(room: Room) -> None:
 
 
 def polled(times: int) -> str:
-    """Returns a schedule in which a standby polls a master `times` times, and once more: each poll is a line of 64
-    bytes."""
+    """Returns a schedule in which a standby polls a master `times` times, and then once more. Each of the `times` polls
+    is a line of 64 bytes."""
     lines = [
         'manager A "H1"[1] 2',
         'manager B "H2"[1] 1',

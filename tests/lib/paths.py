@@ -1,4 +1,4 @@
-"""Where the repository and its tools are. Whoever imports this finds the modules of tools/lib by their names."""
+"""Where the repository and its tools are. A file that imports this module can import those of tools/lib by name."""
 import pathlib
 import sys
 

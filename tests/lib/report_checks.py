@@ -1,4 +1,4 @@
-"""What `tests/test-files` tries of pages of `tools/report`, in its room, and in a browser if there is one."""
+"""What `tests/test-files` checks of pages of `tools/report`, also in a browser if there is one."""
 from __future__ import annotations
 
 import html.parser
@@ -30,7 +30,7 @@ VOID = {"meta", "br", "line", "rect"}
 
 
 class Balanced(html.parser.HTMLParser):
-    """A page whose elements close in order."""
+    """A parser that checks that a page's elements close in order."""
 
     def __init__(self, text: str) -> None:
         super().__init__()
@@ -52,7 +52,7 @@ class Balanced(html.parser.HTMLParser):
 
 
 def in_a_browser(room: Room, path: pathlib.Path) -> None:
-    """Checks the page's script in a browser: its count of the busiest channels is that of the table."""
+    """Checks the page's script in a browser: its count of the busiest channels must be that of the table."""
     browser = next((name for name in ("chromium", "chromium-browser", "google-chrome") if shutil.which(name)), None)
     if not browser:
         print("test-files: there is no chromium here, so no page is tried in a browser")
@@ -146,7 +146,7 @@ def not_sound(room: Room, words: str) -> None:
 
 
 def with_a_credit_loop(room: Room, words: str) -> None:
-    """Checks that a credit loop is told, and what is told of a program that does not say whether it is proved."""
+    """Checks that a credit loop is reported, and what is said of a program that does not say whether it is proved."""
     loop = SOUND.replace("loop none", "loop on one lane 0000000000000010/1 0000000000000020/1")
     room.put(audit_text=loop, audit_ends="no\n", version_text="")
     room.run(words, 1)
@@ -170,7 +170,7 @@ def names_as_text(room: Room, words: str) -> None:
 
 
 def refused(room: Room) -> None:
-    """Checks files and words for which there is no page."""
+    """Checks files and command lines for which there is no page."""
     for words, why, status in (
         ("none t.plan -o x.html", "none: no nodes", 3),
         ("t.facts nothing -o x.html", "nothing", 4),
@@ -186,8 +186,8 @@ def refused(room: Room) -> None:
 
 
 def large(room: Room) -> None:
-    """Checks that up to 300 switches are drawn, in less than 2 MB, and of more only the surroundings of the busiest
-    channel."""
+    """Checks that up to 300 switches are drawn, in less than 2 MB, and that of more switches only those around the
+    busiest channel are."""
     for count, is_part in ((300, False), (301, True)):
         fabric = sample_fabrics.random_fabric(count, 4, 300)
         plan = fabric.plan(fabric.shortest())

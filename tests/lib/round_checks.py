@@ -1,4 +1,4 @@
-"""What `tests/test-files` tries of whole rounds, over scripts that stand in for a subnet, in its room."""
+"""What `tests/test-files` checks of whole rounds, with scripts that stand in for a subnet."""
 from __future__ import annotations
 
 import contextlib
@@ -24,7 +24,8 @@ import sample_fabrics
 import tool_checks
 from tool_room import Room
 
-# These scripts stand in for a subnet. The folder fab has what it says and holds; a recording is the text of its facts.
+# These scripts stand in for a subnet. The folder fab has what the subnet says and holds. A recording is the text of its
+# facts.
 FAKE_RECORD = """#!/bin/sh
 for word; do tables=$file; file=$word; done
 echo "$*" >>fab/asked
@@ -84,13 +85,13 @@ while :; do sleep 0.02; done
 """
 # What an audit of the triangle prints if each packet arrives.
 ALL_ARRIVE = "pairs 25 arrive 25\n"
-# `put_in_fab` and `check_round` of a room.
+# The types of `put_in_fab` and `check_round`, each bound to a room.
 Fab, Ends = Callable[..., None], Callable[..., dict[str, Any]]
 
 
 @contextlib.contextmanager
 def fake_opensm(room: Room, *words: str) -> Iterator[int]:
-    """Runs a process named opensm that writes what it is told at HUP, and yields its id."""
+    """Runs a process named opensm that changes the held tables at HUP, and yields its id."""
     process = subprocess.Popen(
         [room.path / "opensm", *words],
         cwd=room.path,
@@ -157,7 +158,7 @@ def rounds(room: Room, program: pathlib.Path) -> None:
 
 
 def put_in_fab(room: Room, **texts: str) -> None:
-    """Writes files of the folder that has what the scripts say."""
+    """Writes files into the folder fab, from which the scripts read what they say."""
     for name, text in texts.items():
         (room.path / "fab" / name).write_text(text)
 
@@ -289,7 +290,7 @@ def by_opensm(room: Room, fab: Fab, ends: Ends) -> None:
 
 
 def waited_for(room: Room) -> None:
-    """Checks that a terminal shows which step is waited for."""
+    """Checks that a terminal shows which step a round waits for."""
     room.put(slow=FAKE_RECORD.replace("cp fab/facts", "sleep 3; cp fab/facts"))
     (room.path / "slow").chmod(0o755)
     said = tool_checks.on_a_terminal(room, "round", "rd", "--ibsm", "./ibsm", "--record", "./slow", "--look")
@@ -323,7 +324,7 @@ def by_orders_handed_on(room: Room, fab: Fab, ends: Ends, process: int) -> None:
         and room.text("rd/step.order") == "0x1\n0x2\n",
         f"the order is handed on: {stepped}",
     )
-    # The last step has nothing left to do by this order, so it is asked for without it.
+    # By this order the last step has nothing left to do, so the round asks for a step without the order.
     room.check(stepped[-1] == "next --told-order rd/after.held rd/after.reports", f"and then begun anew: {stepped}")
     fab(loop="credit loop none\n")
 
@@ -463,8 +464,8 @@ CUT_FABRICS = {
 
 
 def over_cuts(room: Room, program: pathlib.Path, name: str, flag: str = "--keep-order", count: int = 9) -> None:
-    """Checks with the built program that rounds which keep an order, or go by told ones, go through after each of some
-    cuts and repairs."""
+    """Checks with the built program that rounds succeed after each of some cuts and repairs, if they keep an order or
+    go by orders that the held tables imply."""
     fabric, chance, down = CUT_FABRICS[name], random.Random(7), set()
     between = [(end, far) for end, far in fabric.peers.items() if end < far]
     cables = [cable for cable in between if all(fabric.is_switch(name) for name, _ in cable)]
@@ -501,7 +502,7 @@ def over_cuts(room: Room, program: pathlib.Path, name: str, flag: str = "--keep-
 
 
 def changes_told(room: Room, fab: Fab, ends: Ends) -> None:
-    """Checks what is told of changes, of the number of lost pairs and for how long, and of how busy channels are."""
+    """Checks what is reported of changes, of how many pairs are lost and for how long, and of how busy channels are."""
     facts, plan, held = (room.text(name) for name in ("t.facts", "t.plan", "round.plan"))
     more = facts.replace(
         "link 0000000000000020/1 ",
@@ -602,7 +603,7 @@ def silence(room: Room, fab: Fab, ends: Ends) -> None:
 
 def silent_switches(room: Room, fab: Fab, ends: Ends) -> None:
     """Checks that nothing is kept of a silent cable between switches. A switch without a known table size is left out,
-    with the adapter that has a wire to it alone."""
+    with the adapter whose only wire leads to it."""
     facts, plan = room.text("t.facts"), room.text("t.plan")
     cut = facts.replace("link 0000000000000020/2 0000000000000030/2 @1\n", "").replace(
         "link 0000000000000030/2 0000000000000020/2 @1\n", ""
@@ -686,7 +687,7 @@ def by_a_file(room: Room, fab: Fab) -> None:
 
 
 def started(room: Room, *words: str) -> subprocess.Popen[str]:
-    """Starts rounds that go on, and returns the process, whose lines can be read."""
+    """Starts repeated rounds, and returns the process, whose lines can be read."""
     words = [
         sys.executable, paths.TOOLS / "round", "rd", "--ibsm", "./ibsm", "--record", "./record", "--send", "./send",
         *words,
@@ -712,7 +713,7 @@ def healed(room: Room, fab: Fab) -> None:
 
 
 def watched_by_log(room: Room, fab: Fab) -> None:
-    """Checks that a round starts only once OpenSM's log, if given, tells of a sweep."""
+    """Checks that a round starts only once OpenSM's log, if given, reports a sweep."""
     fab(log="SUBNET UP\n")
     process = started(room, "--look", "--watch", "0.05", "--log", "fab/log")
     first = process.stdout.readline()

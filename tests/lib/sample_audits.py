@@ -141,7 +141,7 @@ def tables_cut_short(good: str) -> Iterator[tuple[str, str, Ended]]:
     """Yields titles, texts of tables in which a switch lacks blocks or has too low a top, and how their audits end. By
     the tables in `good` all packets arrive."""
     lines = good.splitlines()
-    # The greatest LID and the last block say nothing here.
+    # The greatest LID and the last block that a text may have.
     edges = [*lines, f"block 767 {'f' * 128}"]
     edges.insert(4, f"lid 49151 {0x200:016x}/1")
     yield "with the greatest LID", "\n".join(edges), found(
@@ -180,8 +180,8 @@ def tables_cut_short(good: str) -> Iterator[tuple[str, str, Ended]]:
 
 
 def tables_with_other_lids(plan: Callable[..., Ended], good: str) -> Iterator[tuple[str, str, Ended]]:
-    """Yields titles, texts of tables, and how their audits end. Several end ports hold a LID, or none does, or there
-    are ports and switches that the facts lack. By the tables in `good` all packets arrive."""
+    """Yields titles, texts of tables, and how their audits end. Several end ports hold the same LID, or none holds it,
+    or there are ports and switches that the facts lack. By the tables in `good` all packets arrive."""
     lines = good.splitlines()
     twice = good.replace("lid 4 ", "lid 3 ")
     misdelivered = "200/1 3 at 200/1", "10/0 3 at 100/1", "20/0 3 at 100/1", "100/1 3 at 100/1"
@@ -193,7 +193,7 @@ def tables_with_other_lids(plan: Callable[..., Ended], good: str) -> Iterator[tu
             + "twice 3 100/1\ntwice 3 200/1\n" + NEITHER + "credit loop none\n"
         ),
     )
-    # A port and a switch unknown to the facts are told, and change nothing.
+    # A port and a switch unknown to the facts are reported, and change nothing.
     strange = "\n".join([*lines[:4], f"lid 5 {0x300:016x}/1", *lines[4:], f"switch {0x30:016x} top 4"]) + "\n"
     yield (
         "a port and a switch that the facts don't know",
@@ -265,17 +265,17 @@ def ranges(plan: Callable[..., Ended]) -> Iterator[tuple[str, str, Ended]]:
 
 
 def told_again(text: str, again: str) -> str:
-    """Returns the text with the line `again` behind that of 100/1."""
+    """Returns the text with the line `again` after that of 100/1."""
     line = f"lid 4 {0x100:016x}/1 lmc 1\n"
     assert line in text
     return text.replace(line, line + again)
 
 
 def unclear() -> Iterator[tuple[str, Ended]]:
-    """Yields titles and ends of audits by the good tables of facts with gaps: the room of 20 is unknown, its type is
-    disputed, nothing is known of 200, or too little of the wire between the switches, of 20, or of other nodes."""
+    """Yields titles and ends of audits by the good tables of facts with gaps: the table size of 20 is unknown, its type
+    is disputed, nothing is known of 200, or too little of the wire between the switches, of 20, or of other nodes."""
     ports = "unjoined 20/1\nunjoined 20/2\nunjoined 200/1\n"
-    # Counted are the packets of each port to itself, and those between 10 and 100.
+    # Only the packets of each port to itself, and those between 10 and 100, are counted.
     yield "no room", found(
         f"{counted(6, 2)}unknown {AT_20}\nunusable {AT_20}\nunjoined 10/1\n{ports}hops none\nload none\n"
         "credit loop none\n"
@@ -349,7 +349,7 @@ def rings(plan: Callable[..., Ended]) -> Iterator[tuple[str, str, Ended]]:
         plan(RING_LIDS, *cut).printed.decode(),
         prints(counted(25, 0) + NEITHER + "credit loop none\n"),
     )
-    # Of 25 packets of one kind, 20 are listed.
+    # Of 25 packets of the same kind, 20 are listed.
     first = [f"{guid:x}/0 {lid}" for lid in range(1, 5) for guid in RING]
     nowhere = "".join(lost(f"{int(packet.split('/')[0], 16):016x} by 9: no such port", packet) for packet in first)
     yield "no port of any switch", plan(RING_LIDS, *ring(*["9 9 9 9 9"] * 5)).printed.decode(), found(
@@ -413,7 +413,7 @@ ROW_WIRES = "10/1-20/2 20/1-30/2 10/3-100/1 10/4-300/1 30/3-200/1"
 
 
 def rows(plan: Callable[..., Ended]) -> Iterator[tuple[str, str, Ended]]:
-    """Yields audits of three switches in a row, each with an adapter."""
+    """Yields audits of three switches in a row with three adapters."""
     lids = "1 100/1 2 200/1 3 300/1 4 10/0 5 20/0 6 30/0"
     all_arrive = plan(lids, "10 3 1 4 0 1 1", "20 2 1 2 2 0 1", "30 2 3 2 2 2 0").printed.decode()
     yield (
@@ -474,13 +474,13 @@ FAULTS = (
 
 
 def faults() -> Iterator[tuple[str, Ended]]:
-    """Yields texts that are no tables, and how their audits end."""
+    """Yields texts that are not tables, and how their audits end."""
     for text, said in FAULTS:
         yield text.replace("%", "f" * 128), refused(f"TABLES: {said}")
 
 
 def orders() -> list[tuple[str, Ended]]:
-    """Returns command lines and which fault each tells first: all files are opened, then the tables are read and
+    """Returns command lines and which fault each reports first: all files are opened, then the tables are read and
     judged, then the other files in turn."""
     return [
         ("NONE KNOWN", says(4, "NONE: cannot open")),

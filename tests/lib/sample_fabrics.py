@@ -86,7 +86,8 @@ class Fabric:
         return "\n".join(lines) + "\n"
 
     def facts(self) -> str:
-        """Returns what `ibsm facts` prints of a first sweep, without LIDs and with tables that have room for 1,024."""
+        """Returns what `ibsm facts` prints of a first sweep, without LIDs and with tables that have room for 1,024
+        LIDs."""
         found = collections.defaultdict(list)
         for name, (kind, guid, _) in self.nodes.items():
             least = 0 if kind == SWITCH else 1
@@ -123,12 +124,12 @@ class Fabric:
         return tables
 
     def exits(self, name: str) -> list[tuple[int, str]]:
-        """Returns the ports of a switch with a cable to a switch, each with the other switch."""
+        """Returns the ports of a switch that have a cable to a switch, each with the other switch."""
         ends = ((port, self.peers.get((name, port), ("", 0))[0]) for port in range(1, self.ports(name) + 1))
         return [(port, far) for port, far in ends if far and self.is_switch(far)]
 
     def some_shortest(self, chance: random.Random) -> Tables:
-        """Returns tables of shortest ways. If several ports lead nearer, `chance` chooses one."""
+        """Returns tables of shortest routes. If several ports lead nearer, `chance` chooses one."""
         exits = {name: self.exits(name) for name in self.nodes if self.is_switch(name)}
         tables = {name: [255] * (len(self.ends()) // 64 + 1) * 64 for name in exits}
         for lid, (name, port) in enumerate(self.ends(), 1):
@@ -253,7 +254,7 @@ def half_linked(count: int) -> Fabric:
 
 
 def torus(rows: int, columns: int) -> Fabric:
-    """Returns switches in rows and columns that close to rings, with an adapter at each."""
+    """Returns switches in rows and columns that close into rings, with an adapter at each."""
     fabric = Fabric()
     switches = fabric.switches(rows * columns)
     fabric.hosts(switches)
@@ -296,7 +297,7 @@ def dragonfly(groups: int, size: int, hosts: int) -> Fabric:
 
 
 def nearly_complete(count: int, missing: int, seed: int) -> Fabric:
-    """Returns switches of which each two are wired, except `missing` pairs at random, and an adapter at each."""
+    """Returns switches that are all wired to each other, except for `missing` random pairs, with an adapter at each."""
     fabric = Fabric()
     switches = fabric.switches(count)
     fabric.hosts(switches)
@@ -337,7 +338,7 @@ def apart() -> Fabric:
 
 
 def without_adapters(count: int) -> Fabric:
-    """Returns a ring of switches, with more wires between those three apart."""
+    """Returns a ring of switches, with more wires between switches that are three apart."""
     fabric = Fabric()
     switches = fabric.switches(count)
     for step in (1, 3):

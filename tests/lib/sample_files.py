@@ -1,7 +1,7 @@
-"""Recordings and store files and two texts, whole and damaged, and how runs of the program over them end.
+"""Recordings, store files and two texts, whole and damaged, and how runs of the program over them end.
 
-A row is what stands behind `ibsm` on the command line, and how the run ends by docs/FORMATS.md; a word in capitals is a
-file, which `files` makes. Or it is the bytes of a file that is called FILE, and how `facts` of it ends.
+A row has the words after `ibsm` on the command line, and how the run ends by docs/FORMATS.md. A word in capitals is a
+file, which `files` makes. Or a row has the bytes of a file called FILE, and how `facts` of it ends.
 """
 from __future__ import annotations
 
@@ -21,13 +21,13 @@ def changed(data: bytes, offset: int, byte: int) -> bytes:
 
 # Files -----------------------------------------------------------------------------------------------
 
-# An adapter of one port, asked through that port, and what it tells.
+# An adapter of one port, asked through that port, and what it says.
 ADAPTER = make.node_info(make.START, make.ADAPTER, 1, 0x100, 0x101, 1)
 ADAPTER_NODE = "node 0000000000000100 ca 1 @1\n"
 ADAPTER_PORT = "portguid 0000000000000100/1 0000000000000101 @1\n"
 ADAPTER_FACTS = ADAPTER_NODE + ADAPTER_PORT
 
-# A claim with the greatest of all numbers.
+# A claim in which each number is the greatest possible.
 GREATEST = f"claim ffffffffffffffff/254 65535 @{MOST}\n"
 
 # The facts of the sample fabric from generation 2 on, with another adapter in place of the first.
@@ -71,7 +71,7 @@ def files(facts: str) -> dict[str, bytes]:
         "DOUBLED": doubled,
         "STORE": make.store(*of_adapter),
         "OLDER": make.older(make.store(*of_adapter)),
-        # The adapter's two cells, in a file each.
+        # The adapter's two cells, each in a file of its own.
         "NODE": make.older(make.store(of_adapter[0])),
         "PORT_GUID": make.store(of_adapter[1]),
         "GREATEST": make.store_of(GREATEST),
@@ -84,7 +84,7 @@ def files(facts: str) -> dict[str, bytes]:
         "CUT_CELL": make.NO_CELLS + b"\x01",
         "CUT_HEADER": make.store()[:8],
         "FLOORLESS": make.store(floor=0),
-        # A second record with an attribute that tells no facts, and one of zeros.
+        # A second record with an attribute that yields no facts, and one of zeros.
         "HALF_BAD": changed(doubled, 280 + 16 + 17, 0x10),
         "HALF_ZERO": make.reports(ADAPTER, bytes(272)),
         "EXCHANGED": make.NO_CELLS + of_adapter[1] + of_adapter[0],
@@ -101,7 +101,7 @@ def files(facts: str) -> dict[str, bytes]:
         ),
         "JOINED": make.store_of(RENEWED),
         **{f"PART_{i}": make.reports(*records[9 * i : 9 * i + 9]) for i in range(3)},
-        # The table size of a switch: told twice in one sweep, and then in the next.
+        # The table size of a switch: reported twice in one sweep, and then in the next.
         "FIRST": make.reports(make.switch_info(0x10, 1024)),
         "OTHER": make.reports(make.switch_info(0x10, 2048)),
         "NEWER": make.reports(make.switch_info(0x10, 4096, generation=2)),
@@ -120,7 +120,7 @@ def files(facts: str) -> dict[str, bytes]:
 
 
 def taken(held: dict[str, bytes], facts: str) -> Iterator[tuple[str, Ended]]:
-    """Yields files that are taken, in any order, and their facts together. `held` has the files."""
+    """Yields files that are accepted, in any order, and their facts together. `held` has the files."""
     floor_2 = "floor 2\n"
     for files_named, text in (
         ("NO_REPORTS NO_REPORTS", ""),
@@ -229,8 +229,8 @@ def schedules() -> list[tuple[str, Ended]]:
 
 
 def cut(data: bytes, head: int, size: int, lines: list[str]) -> Iterator[tuple[bytes, Ended]]:
-    """Yields each beginning of a file with a head and records of fixed size, and how a run over it ends. Each record
-    tells `lines`."""
+    """Yields each beginning of a file with a head and records of fixed size, and how a run over it ends. `lines` has
+    what each record says."""
     for length in range(len(data) + 1):
         records, rest = divmod(max(0, length - head), size)
         if length < 8:
@@ -252,13 +252,13 @@ def cuts(held: dict[str, bytes]) -> Iterator[tuple[bytes, Ended]]:
 
 
 def damages(held: dict[str, bytes]) -> Iterator[tuple[bytes, Ended]]:
-    """Yields a store file with another byte."""
+    """Yields a store file with one byte changed, and how a run over it ends."""
     bad_cell, bad_floor = refused("FILE: bad cell 0"), refused("FILE: bad floor")
     for offset, byte, ends in (
         # The magic: an unknown one, and that of files without a floor.
         (7, ord("3"), refused("FILE: bad magic")),
         (7, ord("1"), bad_cell),
-        # A floor above the cells, a floor of 0, and each zero byte behind it.
+        # A floor above the cells, a floor of 0, and each zero byte after it.
         *((offset, 1, bad_cell) for offset in (8, 9, 10)),
         (8, 255, bad_cell),
         (11, 2, bad_cell),
@@ -278,7 +278,7 @@ def damages(held: dict[str, bytes]) -> Iterator[tuple[bytes, Ended]]:
         (48, 1, refused("FILE: bad cell 1")),
     ):
         yield changed(held["STORE"], offset, byte), ends
-    # Without a floor, the first bytes of the first cell are no header.
+    # In a file without a floor, the first bytes of the first cell make no valid header.
     yield changed(held["OLDER"], 7, ord("2")), bad_floor
 
 
@@ -300,7 +300,7 @@ def overwritten(file: bytes) -> Iterator[tuple[bytes, Ended]]:
         yield data, ends
 
 
-# What reports tell -----------------------------------------------------------------------------------
+# What reports say ------------------------------------------------------------------------------------
 
 
 def reply(
@@ -312,8 +312,8 @@ def reply(
     byte: int = 0,
     **other: int,
 ) -> bytes:
-    """Returns a reply with NodeInfo of switch 0x20, over its port 3 from port 1 of the adapter, with another byte of
-    the packet."""
+    """Returns the record of a reply with NodeInfo of switch 0x20, asked through port 1 of the adapter and port 3 of the
+    switch. If `offset` is given, the packet has `byte` there."""
     record = make.node_info(context, kind, ports, 0x20, 0x20, local, **other)
     return record if offset is None else changed(record, 16 + offset, byte)
 
@@ -321,7 +321,7 @@ def reply(
 def node_facts(
     word: str = "switch", ports: int = 4, port_guid: int = 0, local: int = 3, via: str = "0000000000000100/1"
 ) -> str:
-    """Returns the facts that NodeInfo of the switch 0x20 tells."""
+    """Returns the facts that NodeInfo of switch 0x20 yields."""
     end = f"0000000000000020/{local}"
     links = [f"link {end} {via} @1", f"link {via} {end} @1"]
     lines = [
@@ -331,19 +331,19 @@ def node_facts(
 
 
 def port_facts(port: int, state: str, lid: int = 0) -> str:
-    """Returns the facts that PortInfo of a port of switch 0x10 tells."""
+    """Returns the facts that PortInfo of a port of switch 0x10 yields."""
     return f"port 0000000000000010/{port} {state} @1\nclaim 0000000000000010/{port} {lid} @1\n"
 
 
 def told() -> Iterator[tuple[bytes, str]]:
-    """Yields a report, and what it tells or why it is refused."""
+    """Yields a report, and what it says or why it is refused."""
     yield from told_of_packets()
     yield from told_of_contexts()
     yield from told_of_attributes()
 
 
 def told_of_packets() -> Iterator[tuple[bytes, str]]:
-    """Yields a report with other fields of its packet, and what it tells or why it is refused."""
+    """Yields a report with other fields of its packet, and what it says or why it is refused."""
     yield from (
         (reply(), node_facts()),
         (reply(generation=0), "Generation"),
@@ -354,7 +354,8 @@ def told_of_packets() -> Iterator[tuple[bytes, str]]:
         (reply(offset=7, byte=64), "HopCount"),
         (reply(offset=6, byte=3), "HopPointer"),
         *((reply(offset=offset, byte=0xFE), "DrLid") for offset in (32, 33, 34, 35)),
-        # A packet that is not directed, no answers, one on its way out, and those not at their end.
+        # A packet that is not directed, packets that are not answers, one on its way out, and those that are not at
+        # their end.
         (reply(offset=1, byte=0x01), "Class"),
         *((reply(offset=3, byte=byte), "Method") for byte in (0x01, 0x02, 0x82)),
         (reply(offset=4, byte=0), "Direction"),
@@ -367,7 +368,7 @@ def told_of_packets() -> Iterator[tuple[bytes, str]]:
 
 
 def told_of_contexts() -> Iterator[tuple[bytes, str]]:
-    """Yields a report whose context fits neither the attribute nor the hops, or that no form allows, and why it is
+    """Yields a report whose context does not fit the attribute or the hops, or has no valid form, and why it is
     refused."""
     start, about, via = make.START, make.about(0x20), make.via
     yield from (
@@ -384,11 +385,10 @@ def told_of_contexts() -> Iterator[tuple[bytes, str]]:
 
 
 def told_of_attributes() -> Iterator[tuple[bytes, str]]:
-    """Yields a report with another modifier or other fields of its attribute, and what it tells or why it is
-    refused."""
+    """Yields a report with another modifier or other fields of its attribute, and what it says or why it is refused."""
     via, port = make.via, make.port_info(0x10, 0, 0)
     yield from (
-        # The modifier, which matters in PortInfo alone.
+        # The modifier, which matters only in PortInfo.
         (reply(offset=23, byte=255), node_facts()),
         (changed(port, 16 + 23, 254), port_facts(254, "down")),
         (changed(port, 16 + 23, 255), "Modifier"),

@@ -56,7 +56,7 @@ FAULTS = (
     ("level 0\nlevel 0\nx", "line 2: repeated"),
 )
 
-# Texts of lanes that are taken.
+# Texts of lanes that are accepted.
 TAKEN = (
     "", "# lanes %", "\r\n \t \r\n", "lanes %", f"lanes {'0f' * 16}", f"lanes {'0F' * 16}", "level 0", "level 15",
     f"level {'0' * 30}15", "sl2vl 10 0 0 %", f"sl2vl {'F' * 16} 254 0254 {'0E' * 16}#", "levels 10/0 0 $",
@@ -73,14 +73,14 @@ def spelled(text: str) -> bytes:
 
 
 def faults() -> Iterator[tuple[bytes, Ended]]:
-    """Yields texts that are no lanes, and how audits by them end."""
+    """Yields texts that are not texts of lanes, and how audits by them end."""
     for text, said in FAULTS:
         yield spelled(text), refused(f"LANES: {said}")
 
 
 def orders() -> list[tuple[str, Ended]]:
-    """Returns the words behind `--lanes` and which fault each tells first: all files are opened, then the lanes are
-    read and judged, then the tables, and then the other files in turn."""
+    """Returns the words after `--lanes`, and which fault is reported first for each: all files are opened, then the
+    lanes are read and judged, then the tables, and then the other files in turn."""
     return [
         ("NONE TABLES KNOWN", says(4, "NONE: cannot open")),
         ("NONE FAULTY NONE", says(4, "NONE: cannot open")),
@@ -101,7 +101,7 @@ def orders() -> list[tuple[str, Ended]]:
 # A row: a title, a text of tables, a text of lanes, options, and how the audit ends.
 Row = tuple[str, str, str, str, Ended]
 
-# The tables of the two switches by which all packets arrive, and what an audit of them says before its lines by lane.
+# What an audit of the two switches, with tables by which all packets arrive, says before its lines by lane.
 HEAD = audits.counted(16, 4) + audits.BOTH
 ONE_LEVEL = "lanes %\nlevel 0\n"
 # Their end ports, by their LIDs.
@@ -120,13 +120,13 @@ def levels(numbers: dict[int, int], otherwise: int = 0xFF) -> str:
 
 def pairs(plan: Callable[..., Ended]) -> Iterator[Row]:
     """Yields audits of two switches and two adapters: with a lane and a level for all packets, without levels, with a
-    packet that is dropped for want of a lane, and of packets for a LID that nobody holds."""
+    packet that is dropped for lack of a lane, and of packets for a LID that nobody holds."""
     good = plan(audits.LIDS, *audits.GOOD).printed.decode()
     yield "one lane", good, ONE_LEVEL, "", prints(HEAD + "credit loop none\n")
     yield "one lane, and answers", good, ONE_LEVEL, "--answers-as-asked", prints(HEAD + "credit loop none\n")
     for bound, ended in ("1", prints), ("0", audits.found):
         yield "a greatest load", good, ONE_LEVEL, f"--max-load={bound}", ended(HEAD + "credit loop none\n")
-    # Only packets between different adapter ports want a level.
+    # Only packets between different adapter ports need a level.
     lacking = ["200/1 3", "100/1 4"]
     for text in "", "lanes %\n":
         yield "no levels", good, text, "", audits.found(HEAD + without_level(*lacking) + "credit loop none\n")
@@ -135,7 +135,7 @@ def pairs(plan: Callable[..., Ended]) -> Iterator[Row]:
         "one packet without a level", good, f"lanes %\n{one}", "",
         audits.found(HEAD + without_level("200/1 3") + "credit loop none\n"),
     )
-    # Of what 100/1 sends by switch 10, the packets for LID 2 alone have level 1.
+    # Of what 100/1 sends by switch 10, only the packets for LID 2 have level 1.
     dropping = f"lanes %\nsl2vl 10 2 1 {bytes_in({1: 15}, 16, 0)}\nlevel 0\nlevels 100/1 0 {levels({2: 1})}\n"
     dropped = f"dropped 2 at {audits.AT_10} 2 1 level 1\n"
     for words in "", "--answers-as-asked":
@@ -187,7 +187,7 @@ def rings(plan: Callable[..., Ended]) -> Iterator[Row]:
 
 
 def rings_and_two(plan: Callable[..., Ended]) -> Iterator[Row]:
-    """Yields an audit of the ring and two switches beside it, without levels: packets of switches want none."""
+    """Yields an audit of the ring and two switches beside it, without levels: packets of switches need none."""
     short = audits.ring("0 1 1 2 2 - -", "2 0 1 1 2 - -", "2 2 0 1 1 - -", "1 2 2 0 1 - -", "1 1 2 2 0 - -")
     lids = f"{audits.RING_LIDS} 6 60/0 7 70/0"
     tables = plan(lids, *short, "60 - - - - - 0 1", "70 - - - - - 1 0").printed.decode()
@@ -203,7 +203,7 @@ SIX_WIRES = "10/1-20/1 " + " ".join(
 
 
 def sixes(plan: Callable[..., Ended]) -> Iterator[Row]:
-    """Yields audits of two switches with three adapters each, without levels: 30 packets want one."""
+    """Yields audits of two switches with three adapters each, without levels: 30 packets need one."""
     lids = "1 10/0 2 20/0 " + " ".join(f"{lid} {guid:x}/1" for lid, guid in enumerate(SIX[1], 3))
     tables = plan(lids, "10 0 1 2 3 4 1 1 1", "20 1 0 1 1 1 2 3 4").printed.decode()
     lacking = [f"{guid:x}/1 {lid}" for lid, own in enumerate(SIX[1], 3) for guid in SIX[1] if guid != own]

@@ -1,5 +1,5 @@
-"""Plans and runs by the rule that spreads, texts of roots and of orders for them, and how these end. Faults and plans
-were worked out from docs/FORMATS.md and docs/MODEL.md, apart from the program."""
+"""Plans and runs by the rule `spread`, texts of roots and of orders for them, and how these end. Faults and plans were
+worked out from docs/FORMATS.md and docs/MODEL.md, independently of the program."""
 from __future__ import annotations
 
 from collections.abc import Callable, Iterable, Iterator
@@ -81,7 +81,7 @@ def without_roots(plan: Callable[..., Ended]) -> Iterator[tuple[str, tuple[int, 
 
 def plans(plan: Callable[..., Ended]) -> Iterator[tuple[str, Subnet, tuple[str, ...], Ended]]:
     """Yields titles, subnets, texts of their roots, and their plans."""
-    # From both upper switches the order grows as from the middle, where it begins without roots too.
+    # From both upper switches the order grows as it does from the middle, where it also begins without roots.
     middle = (
         "10 0 1 1 2 3 1 1 2 2 3 3", "20 1 0 1 2 3 1 1 2 2 3 3", "30 1 2 0 2 2 3 4 1 2 1 2",
         "40 1 2 1 0 1 2 1 3 4 2 1", "50 1 2 1 1 0 2 1 2 1 3 4",
@@ -125,7 +125,7 @@ def plans_as_named(plan: Callable[..., Ended]) -> Iterator[tuple[str, Subnet, tu
         "40 1 2 1 0 1 1 1 3 4 1 1", "50 1 2 1 1 0 1 1 1 1 3 4",
     )
     yield "a tree in an order that ends above", TREE, ("50\n10\n40\n30\n20", "50\n10\n40\n30"), plan(TREE_LIDS, *last)
-    # By GUID, if nothing named is a switch: from 10, and from the leaf switch of the least GUID behind it.
+    # By GUID, if nothing named is a switch: from 10, and then from the leaf switch with the least GUID.
     least = (
         "10 0 1 1 2 3 1 1 2 2 3 3", "20 1 0 1 2 3 1 1 2 2 3 3", "30 1 2 0 2 2 3 4 1 2 1 2",
         "40 1 2 1 0 1 2 1 3 4 2 1", "50 1 2 1 1 0 2 1 2 1 3 4",
@@ -190,14 +190,14 @@ FAULTS = (
 )
 
 
-# The faults of a text of an order, which may name nothing, and what is no switch.
+# The faults of a text of an order. Such a text may name nothing, or what is not a switch.
 FAULTS_OF_ORDERS = tuple((text, said) for text, said in FAULTS if said.startswith("line "))
 
 
 def faulty_files() -> Iterator[tuple[str, str, Ended]]:
     """Yields command lines in which several files have faults, with the text of roots and how they end. `SPREAD` is a
-    store file of the tree, `CROWDED` one that leaves room for 10 LIDs in it, `EMPTY` an empty file. There is no file
-    `NONE`."""
+    store file of the tree, `CROWDED` one by which a table of the tree has room for 10 LIDs only, `EMPTY` an empty file.
+    There is no file `NONE`."""
     spread = "plan --routing spread --roots"
     yield f"{spread} NONE SPREAD", "20", says(4, "NONE: cannot open")
     yield f"{spread} NONE NONE", "20", says(4, "NONE: cannot open")
@@ -248,7 +248,7 @@ def runs_as_named(plan: Callable[..., Ended]) -> Iterator[tuple[str, Subnet, str
         if of is TREE:
             for text in texts:
                 yield title, of, text, ends
-    # A switch that the manager does not reach is no switch to it.
+    # A switch that the manager does not reach does not count as a switch.
     ring = "10 0 1 1 1 2 3 1", "20 1 0 2 2 1 1 2", "30 1 1 0 2 2 1 3", "40 1 1 1 0 2 1 1", "50 2 2 1 1 0 2 1"
     for text in "40\n20", "60\n40\n80\n20":
         yield "a ring in an order of some", RINGS, text, plan(RING_LIDS, *ring)

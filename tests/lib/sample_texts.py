@@ -1,5 +1,5 @@
-"""Texts of topologies and of schedules, what is wrong with some of them, and others that are taken. Worked out by hand
-from docs/FORMATS.md."""
+"""Texts of topologies and of schedules, what is wrong with some of them, and others that are accepted. Worked out by
+hand from docs/FORMATS.md."""
 from __future__ import annotations
 
 from collections.abc import Iterator
@@ -42,7 +42,7 @@ TOPOLOGY_FAULTS = (
     ('Ca 3 "A" guid 0x1\n[1] "A"[1]\n[1] "A"[2]', "line 3: linked"),
 )
 
-# Topologies that are taken.
+# Topologies that are accepted.
 TOPOLOGIES = (
     "", '\r\n \t # Hca\r\n#\r\u00e9"', '\tHca 1 "A # b" guid 0x5#c\n', f'Hca 1 "{"A" * 64}" guid 0x1',
     f'Ca 000254 "A" guid 0x0000000000000005\n[000001]\t"A"[{"0" * 26}254] #',
@@ -54,7 +54,7 @@ TOPOLOGIES = (
 FABRIC = 'Switch 4 "S 1" guid 0x10\n[1] "H1"[1]\nHca 2 "H1" guid 0x100\nHca 1 "H2" guid 0x200\n'
 MANAGERS = 'manager A "H1"[1] 15\nmanager b2 "H2"[01] 0\n'
 
-# Lines behind those of the managers, and their fault.
+# Lines after those of the managers, and their fault.
 SCHEDULE_FAULTS = (
     *((line, "line 3: syntax") for line in (
         "Sweep A", "sweep", "sweep A A", 'sweep "A"', "sweep A_", "sweep ABCDEFGHIJKLMNOPQ", "merge A", "merge A A A",
@@ -78,7 +78,7 @@ SCHEDULE_FAULTS = (
     ('manager c "H1"[2] 0\nmanager d "H1"[2] 0', "line 4: seat"),
 )
 
-# Lines that are taken, and what they print.
+# Lines that are accepted, and what they print.
 LINES = (
     ("sweep A", ""), ("merge b2 A", ""), ("merge A A", ""), ("handover b2", "refused NotMaster\n"),
     ("poll A", "refused NotStandby\n"), ("poll b2 065535", "refused NotStandby\n"), ("floor b2 4294967295", ""),

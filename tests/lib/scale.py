@@ -22,7 +22,7 @@ TRIES = 4
 MOST_LIDS = 49151
 
 # Runs a command for each line of words, and writes its exit status, processor time and peak memory. A new process
-# inherits the peak memory of its parent, so a small process of its own starts them.
+# inherits the peak memory of its parent, so a separate small process starts them.
 STARTER = """
 import json, os, sys
 for line in sys.stdin:
@@ -225,7 +225,7 @@ class Tree:
         return used[switch]
 
     def ways(self) -> tuple[list[list[int]], list[list[int]]]:
-        """Returns for each switch its port towards each switch, and the number of wires to it."""
+        """Returns, for each switch, its port towards each switch and the number of wires to it."""
         near = [[] for _ in range(self.count)]
         for (one, port), (other, back) in self.wires:
             near[one].append((port, other))
@@ -288,7 +288,7 @@ class Tree:
         lines = [f"lid {lid} {guid:016x}/0" for lid, guid in zip(switches, self.switches)]
         told = f" lmc {lmc}" if lmc else ""
         lines += [f"lid {lid} {guid:016x}/{port}{told}" for lid, (guid, port, _, _) in zip(ranges, self.ends)]
-        # The adapters' ports in a row below one switch, with the first one's LID.
+        # The adapters' ports below the same switch, in a row, with the first one's LID.
         rows = []
         for home, ends in itertools.groupby(zip(ranges, self.ends), key=lambda it: it[1][2]):
             ends = list(ends)
@@ -318,7 +318,7 @@ class Tree:
                     pairs = self.hosts[one] * (self.hosts[other] - (one == other))
                     sums += pairs * (2 + self.steps[one][other])
                     most = max(most, 2 + self.steps[one][other])
-        # Below each switch but the first, and on the other side.
+        # The adapters below each switch but the first, and those on the other side.
         below = list(self.hosts)
         for child in range(self.count - 1, 0, -1):
             below[self.parents[child - 1]] += below[child]

@@ -1,4 +1,4 @@
-"""What `tests/test` tries of `seat` over ibsim: `ibsm serve` as manager of the subnet, beside itself and OpenSM."""
+"""What `tests/test` checks of `seat` over ibsim: `ibsm serve` as manager of the subnet, beside itself and OpenSM."""
 from __future__ import annotations
 
 import contextlib
@@ -23,7 +23,7 @@ from sample_fabrics import Port
 SECONDS = 90
 # What a bring-up of the largest fabric may take.
 LONG = 300
-# A stock OpenSM, but that it polls twice a second.
+# A stock OpenSM, except that it polls twice a second.
 OPENSM = "sminfo_polling_timeout 500\npolling_retry_number 3\n"
 # The TransactionID in a packet.
 NUMBER = slice(8, 16)
@@ -57,7 +57,7 @@ class Seat:
         return json.loads(self.status_file.read_text())
 
     def state(self) -> str | None:
-        """Returns the state that the seat told, or None before it told any."""
+        """Returns the state that the seat reported, or None before it reported any."""
         return self.status()["state"] if self.status_file.exists() else None
 
     def children(self) -> list[int]:
@@ -65,7 +65,7 @@ class Seat:
         return [int(it) for it in pathlib.Path(f"/proc/{number}/task/{number}/children").read_text().split()]
 
     def settles(self, seconds: float = SECONDS) -> bool:
-        """Returns whether its last sweep found what it wrote last."""
+        """Waits until its last sweep has found what it wrote last, and returns whether that came in time."""
 
         def holds() -> bool | None:
             now = self.status() if self.status_file.exists() else None
@@ -87,8 +87,8 @@ def seated(
     packets: str | None = None,
     bend: str | None = None,
 ) -> Iterator[Seat]:
-    """Runs a seat at an adapter, ended by its id. `packets` names a file that keeps its packets; `bend` says how to
-    bend them."""
+    """Runs a seat at an adapter, and ends it by its id. `packets` names a file that keeps its packets. `bend` says how
+    to bend them."""
     bench.seats += 1
     log, status = (bench.path / f"seat{bench.seats}.{kind}" for kind in ("log", "json"))
     environment = bench.environment() | {"SIM_HOST": host}
@@ -151,7 +151,7 @@ def lids(text: str) -> list[str]:
 
 
 def manager(bench: Bench, host: str = "H1") -> tuple[int, int, int] | str:
-    """Returns GUID, priority and state of the master, as `sminfo` tells them."""
+    """Returns GUID, priority and state of the master, as `sminfo` reports them."""
     bench.run("sminfo", simulated=True, seat=host)
     found = re.search(r"sm guid (0x\w+), .*priority (\d+) state (\d)", bench.printed)
     return (int(found[1], 16), int(found[2]), int(found[3])) if found else bench.printed + bench.said
@@ -277,7 +277,7 @@ def ways(bench: Bench) -> None:
 
 
 def seen_by_others(bench: Bench) -> None:
-    """Checks that what ibnetdiscover, iblinkinfo and smpquery tell is what was written."""
+    """Checks that what ibnetdiscover, iblinkinfo and smpquery report is what was written."""
     bench.run("ibnetdiscover", simulated=True)
     (bench.path / "up.net").write_text(bench.printed)
     words = [sys.executable, paths.TOOLS / "from-dumps", "up.net", "--cap", str(sample_fabrics.ROOM)]
@@ -327,7 +327,7 @@ def between(bench: Bench, name: str) -> pathlib.Path:
 
 
 def lines_of(path: pathlib.Path, word: str) -> list[list[str]]:
-    """Returns the words behind the first one of each line that begins with `word`, in a file that may be missing."""
+    """Returns the words after the first one of each line that begins with `word`, in a file that may be missing."""
     lines = path.read_text().splitlines() if path.exists() else []
     return [line.split()[1:] for line in lines if line.startswith(word + " ")]
 
@@ -351,7 +351,8 @@ def without_number(packet: bytes) -> bytes:
 
 
 def faithful(bench: Bench) -> None:
-    """Checks from both sides that what was printed went out and what came was told, but for numbers of requests."""
+    """Checks from both sides that what the program printed went out, and that what came in was passed to it, except for
+    the numbers of requests."""
     script = between(bench, "all")
     with seated(bench, "H1", "-p", 5, program=script, packets="all.packets") as seat:
         bench.check(seat.settles(), "a subnet is brought up")
@@ -390,7 +391,8 @@ def what_ports_hold(bench: Bench, name: str) -> tuple[set[str], set[int]]:
 
 
 def repeated(bench: Bench, name: str) -> None:
-    """Checks that a lost request is sent again as a copy, up to twice, and that a request given up is told once."""
+    """Checks that a lost request is sent again as a copy, up to twice, and that a request that is given up is reported
+    to the program once."""
     sent = [bytes.fromhex(words[0]) for words in lines_of(bench.path / f"{name}.packets", "out")]
     copies = {}
     for packet in sent:
@@ -447,7 +449,7 @@ def images(bench: Bench) -> None:
 
 
 def cable(bench: Bench) -> None:
-    """Checks that the subnet follows traps alone when a cable between switches is cut and plugged in again."""
+    """Checks that traps alone make the seat act when a cable between switches is cut and plugged in again."""
     with seated(bench, "H1", "-p", 5, "-s", 0, packets="traps.packets") as seat:
         bench.check(seat.settles(), "SUBNET UP")
         before = held(bench, "whole")
@@ -503,8 +505,8 @@ def losses(bench: Bench) -> None:
 
 
 def two_seats(bench: Bench) -> None:
-    """Checks that one of two seats is master. It is killed, and the other takes over with its tables. A seat of higher
-    priority then gets them."""
+    """Checks that one of two seats is master, that the other takes over with its tables when it is killed, and that a
+    seat of higher priority then gets them."""
     timing = ["-s", 3, "-m", 200, "-r", 1]
     hosts = [node for node in bench.fabric.nodes if not bench.fabric.is_switch(node)]
     first, second = hosts[0], hosts[-1]
@@ -582,8 +584,8 @@ def without_a_master(bench: Bench) -> None:
 
 
 def equal_priorities(bench: Bench) -> None:
-    """Checks two seats of one priority: the one of lesser port GUID is master, whichever comes first, and the other
-    takes over."""
+    """Checks two seats of equal priority: the one with the lesser port GUID is master, whichever comes first, and the
+    other takes over."""
     timing = ["-p", 5, "-s", 2, "-m", 200, "-r", 1]
     lesser, greater = sorted(("H1", "H2"), key=lambda host: port_guid(bench, host))
     with seated(bench, greater, *timing) as late, seated(bench, lesser, *timing) as early:
@@ -619,7 +621,7 @@ def announced_again(bench: Bench) -> None:
 
 
 def with_keys(bench: Bench) -> None:
-    """Checks that seats of one SM_Key elect a master, and that a seat of another key ignores them."""
+    """Checks that seats with the same SM_Key elect a master, and that a seat with another key ignores them."""
     timing = ["-s", 3, "-m", 200, "-r", 1]
     with contextlib.ExitStack() as stack:
         one = stack.enter_context(seated(bench, "H1", "-p", 5, "--sm-key", "2a", *timing))
@@ -672,7 +674,7 @@ def beside_opensm(bench: Bench) -> None:
 
 
 def handovers(bench: Bench) -> None:
-    """Checks that a seat and OpenSM hand the subnet over to each other, and that one of them is master then."""
+    """Checks that a seat and OpenSM hand the subnet over to each other, and that one of them is then master."""
     timing = ["-s", 3, "-m", 300, "-r", 1]
     with opensm(bench, "H2", 3, "-R", "updn") as (process, log):
         bench.check(until(lambda: "SUBNET UP" in log()) is not None, "OpenSM, priority 3, is master")
@@ -753,7 +755,8 @@ def opensm_up(bench: Bench) -> float:
 
 
 def side_by_side(bench: Bench, name: str, make: Callable[[], sample_fabrics.Fabric], times: int) -> None:
-    """Checks that a seat brings a subnet up in no more time than OpenSM, in turn, the shortest of several each."""
+    """Checks that a seat brings a subnet up in no more time than OpenSM. Both take turns, and the shortest of several
+    times of each counts."""
     print(f"== {name}", flush=True)
     fabric, ours, theirs = make(), [], []
     for number in range(1, times + 1):
@@ -767,7 +770,7 @@ def side_by_side(bench: Bench, name: str, make: Callable[[], sample_fabrics.Fabr
 
 
 class Soak:
-    """Two seats on a torus, whose cables are cut and plugged in at random, and which are killed at random."""
+    """Two seats on a torus. Its cables are cut and plugged in at random, and the seats are killed at random."""
 
     MOST_CUT = 3  # a torus without three cables is still in one piece
     MOST_KILLED = 4  # between two recordings: ibsim has room for ten clients
@@ -814,7 +817,7 @@ class Soak:
                 self.dropped += 1
 
     def restart_ended(self) -> None:
-        """Starts each seat again that ended since its processes ended soon, each time, as its unit does."""
+        """Starts each seat again that ended because its processes ended soon each time, as its systemd unit would."""
         for host, seat in self.seats.items():
             if seat.process.poll() == self.NO_FABRIC and "ends soon, each time" in seat.said():
                 self.done.append(f"start {host} again")
@@ -845,7 +848,8 @@ class Soak:
             self.move(self.cut, self.whole, self.cut[0], "ReLink")
 
     def is_settled(self, since: float) -> bool:
-        """Returns whether one is master and has swept, with nothing to write, since a time, and the other stands by."""
+        """Returns whether one seat is master and has swept since a time with nothing to write, and the other stands
+        by."""
         told = [seat.status() if seat.status_file.exists() else None for seat in self.seats.values()]
         if None in told or sorted(it["state"] for it in told) != ["master", "standby"]:
             return False
@@ -889,7 +893,7 @@ def soak(bench: Bench, seconds: int, seed: int) -> None:
         bench.figures.append(f"soak: {rounds} rounds; ibsim had kept {soaked.dropped} clients that were killed")
 
 
-# What is brought up side by side with OpenSM, how often, and whether without being asked for by ONLY.
+# What is brought up side by side with OpenSM, how often, and whether also if ONLY does not ask for it.
 TIMED = (
     ("bring-up of 320 switches and 640 adapters, by seat", lambda: sample_fabrics.fat_tree(16, 5), 3, True),
     ("bring-up of 1,280 switches and 8,192 adapters", lambda: sample_fabrics.fat_tree(32, 16), 1, False),
@@ -908,7 +912,7 @@ SEATED = (
     ("a torus of 9 switches, seats among themselves", lambda: sample_fabrics.torus(3, 3),
      (equal_priorities, announced_again, with_keys)),
     ("a torus of 9 switches beside OpenSM", lambda: sample_fabrics.torus(3, 3), (beside_opensm, handovers)),
-    # A fabric of its own for each: ibsim clears IsSM of a port late, when it finds an earlier process of it dead.
+    # Each has its own fabric: ibsim clears a port's IsSM late, when it finds that an earlier process there is dead.
     ("a torus beside a lesser OpenSM", lambda: sample_fabrics.torus(3, 3), (above_at_once,)),
     ("a torus beside a greater OpenSM", lambda: sample_fabrics.torus(3, 3), (below_at_once,)),
 )

@@ -20,7 +20,7 @@ OPENS, CLOSES = "([{", ")]}"
 
 
 def past_group(text: str, at: int) -> int:
-    """Returns the index behind the group that opens at `at`."""
+    """Returns the index after the group that opens at `at`."""
     depth = 0
     while True:
         depth += (text[at] in OPENS) - (text[at] in CLOSES)
@@ -30,7 +30,7 @@ def past_group(text: str, at: int) -> int:
 
 
 def past_ghost(text: str, at: int) -> int:
-    """Returns the index behind a ghost item or ghost field, which ends with the first semicolon or comma outside of all
+    """Returns the index after a ghost item or ghost field, which ends with the first semicolon or comma outside of all
     groups."""
     while text[at] not in ";,":
         at = past_group(text, at) if text[at] in OPENS else at + 1

@@ -1,7 +1,7 @@
-"""The rule of routing that spreads, worked out from its definitions in docs/MODEL.md, apart from the program.
+"""The routing rule `spread`, worked out from its definitions in docs/MODEL.md, independently of the program.
 
-A graph is for each usable switch, by its GUID, the edges of its ports: pairs of a port and the switch that the wire
-leads to, by rising port.
+A graph has, for each usable switch by its GUID, the edges of its ports: pairs of a port and the switch that the wire
+leads to, in order of port.
 """
 from __future__ import annotations
 
@@ -51,7 +51,7 @@ def keys_of(graph: Graph, leaves: Sequence[int], roots: Sequence[int]) -> dict[i
 
 
 def keys_as_named(graph: Graph, named: Sequence[int]) -> dict[int, Key]:
-    """Returns the key of each switch: its index in `named`, with others behind, and GUID."""
+    """Returns the key of each switch: its index in `named` (others come last), and its GUID."""
     numbers = {switch: number for number, switch in enumerate(named)}
     return {switch: (numbers.get(switch, len(named)), switch) for switch in graph}
 
@@ -95,7 +95,7 @@ def rounds(graph: Graph, positions: dict[int, int], target: int) -> tuple[dict[i
 def candidates(
     graph: Graph, positions: dict[int, int], cost: dict[int, int], down: set[int], switch: int
 ) -> list[Edge]:
-    """Returns the edges that gave a switch its label, by rising port."""
+    """Returns the edges that gave a switch its label, in order of port."""
     return [
         (port, to) for port, to in graph[switch]
         if to in cost
@@ -152,8 +152,8 @@ def tables(
     named: Sequence[int] | None = None,
     lmc: int = 0,
 ) -> dict[int, dict[int, int]]:
-    """Returns the port by which packets for each LID leave each switch. `homes` has for each LID its owner's switch and
-    the port there. The order grows from `roots`, or as switches are `named`."""
+    """Returns the port by which packets for each LID leave each switch. `homes` has, for each LID, its owner's switch
+    and the port there. The order grows from `roots`, or as switches are `named`."""
     numbers = numbers_of(graph, leaves, homes, lmc)
     positions = positions_of(graph, keys_of(graph, leaves, roots) if named is None else keys_as_named(graph, named))
     levels = levels_of(graph, leaves)

@@ -1,4 +1,4 @@
-"""What shells complete behind `ibsm` and its tools, written from their help."""
+"""What shells complete after `ibsm` and its tools. The options of tools come from their help."""
 from __future__ import annotations
 
 import re
@@ -21,12 +21,13 @@ RULES = "updown spread balance"
 
 
 def options_in(text: str) -> str:
-    """Returns the options that a help names, in its order."""
+    """Returns the options that a help text names, in its order, and --help and --version."""
     return " ".join(dict.fromkeys(re.findall(r"(?<![\w-])--[a-z][a-z-]*", text + " --help --version")))
 
 
 def cases(tools: dict[str, str], indent: str) -> str:
-    """Returns the lines of a shell's `case`: what may follow each name, and each command of the program."""
+    """Returns the branches of a shell's `case`: what may follow each tool, each command of `ibsm`, and `ibsm`
+    itself."""
     lines = [f"{indent}ibsm-{name}) words='{options}' ;;" for name, options in sorted(tools.items())]
     lines += [f"{indent}'ibsm {name}') words='{options} --help' ;;" for name, options in COMMANDS.items()]
     return "\n".join([*lines, f"{indent}ibsm*) words='{' '.join(COMMANDS)} --help --version' ;;"])

@@ -1,5 +1,5 @@
-"""Cables and switches taken away in thought: which packets are lost by the tables that are held, and what facts are
-then."""
+"""What the loss of cables or switches would do: which packets the held tables would lose, and what the facts would
+be."""
 from __future__ import annotations
 
 import collections
@@ -11,18 +11,18 @@ from ibsm_texts import End, Facts, Plan, name_of
 from routes import Routes
 
 Cable = tuple[End, End]
-# The number of worst cables that are cut two at a time, each with each.
+# How many of the worst cables are cut two at a time, each together with each other one.
 MOST_IN_TWO = 24
 
 
 class Pairs:
-    """The pairs of a port and a LID that packets serve now, by the cable that they take."""
+    """The pairs of an end port and a LID whose packets arrive now, counted by the cables that they cross."""
 
     def __init__(self, facts: Facts, held: Plan) -> None:
         self.routes = Routes(facts, held)
         self.held, self.facts = held, facts
         self.count = collections.Counter(held.owners.values())  # LIDs of each end
-        self.lost = collections.defaultdict(lambda: [0, 0])  # cable: pairs of adapters, and all
+        self.lost = collections.defaultdict(lambda: [0, 0])  # cable: pairs of adapters, and all pairs
         for is_all in (0, 1):
             self.take(is_all)
 
@@ -31,7 +31,8 @@ class Pairs:
         return self.routes.index.get(end[0]) if end[1] == 0 else self.routes.home.get(end, (None,))[0]
 
     def take(self, is_all: int) -> None:
-        """Counts by cable the pairs that packets serve, of adapters or, if `is_all` is 1, of all end ports."""
+        """Counts, by cable, the pairs whose packets arrive: those of adapters or, if `is_all` is 1, of all end
+        ports."""
         routes, senders = self.routes, [end for end in self.count if is_all or end[1]]
         at = {end: self.switch_of(end) for end in senders}
         sources = collections.Counter(switch for switch in at.values() if switch is not None)
@@ -59,14 +60,15 @@ class Pairs:
                 self.lost[self.cable(end)][is_all] += count
 
     def cable(self, end: End) -> Cable:
-        """Returns the cable in a port by its two ends, or a pair of the port alone if it has none."""
+        """Returns the two ends of the cable in a port, the lesser first, or the port twice if it has no cable that is
+        up."""
         far = self.facts.wire(end)
         return (min(end, far), max(end, far)) if far else (end, end)
 
     def cut_off(self, cables: Sequence[Cable]) -> int:
-        """Counts the pairs that are joined with some cables, and not without them."""
+        """Counts the pairs of an end port and a LID that are joined now, and would not be without these cables."""
         cut, found = {end for cable in cables for end in cable}, 0
-        # The end ports that the cut leaves on each side, by what was joined before.
+        # The ends of the cables, and then the end ports that stay joined to each of them.
         left = {(end[0], 0) if self.facts.is_switch(end[0]) else end for end in cut}
         sides, seen = [], set()
         for end in sorted(left):
@@ -86,7 +88,7 @@ class Pairs:
         return found
 
     def side(self, start: End, cut: Collection[End]) -> set[End]:
-        """Returns the end ports still joined to `start` without the cables in `cut`. Adapters carry nothing from port
+        """Returns the end ports still joined to `start` without the cables in `cut`. Adapters forward nothing from port
         to port."""
         found, waiting = set(), [start]
         while waiting:
@@ -98,7 +100,7 @@ class Pairs:
         return found
 
     def wires_of(self, end: End) -> Iterator[Cable]:
-        """Yields the cables of a switch, or of an adapter's port."""
+        """Yields the cables of a switch or of an adapter's port, each with its near end first."""
         for near in [(end[0], port) for port in range(1, self.facts.nodes[end[0]][1] + 1)] if end[1] == 0 else [end]:
             far = self.facts.wire(near)
             if far:
@@ -106,14 +108,14 @@ class Pairs:
 
 
 class Masks:
-    """Counts of pairs of adapters, and of all end ports, by the set of cables that their packets take. Each cable is a
-    bit."""
+    """Counts of pairs of adapters, and of all end ports, by the bits of the cables that their packets cross. A bit
+    stands for a cable, or for a switch and its cables."""
 
     def __init__(self, pairs: Pairs, bits: dict[Cable, int]) -> None:
         """Takes the bits of each cable that counts."""
         self.pairs, self.bits = pairs, bits
-        self.alone = collections.defaultdict(lambda: [0, 0])  # a number: pairs over it
-        self.both = collections.defaultdict(lambda: [0, 0])  # two numbers: pairs over both
+        self.alone = collections.defaultdict(lambda: [0, 0])  # a bit's number: pairs that cross it
+        self.both = collections.defaultdict(lambda: [0, 0])  # two such numbers: pairs that cross both
         for is_all in (0, 1):
             for mask, count in self.masks(is_all).items():
                 self.note(mask, count, is_all)
@@ -123,7 +125,7 @@ class Masks:
         return self.bits.get(self.pairs.cable(end), 0)
 
     def note(self, mask: int, count: int, is_all: int) -> None:
-        """Counts pairs for each cable of a set, and for each two of them."""
+        """Counts pairs for each bit of a mask, and for each two of them."""
         numbers = [i for i in range(mask.bit_length()) if mask >> i & 1]
         for index, i in enumerate(numbers):
             self.alone[i][is_all] += count
@@ -131,12 +133,13 @@ class Masks:
                 self.both[i, j][is_all] += count
 
     def lost(self, *numbers: int) -> list[int]:
-        """Returns what is lost without one cable, or without two."""
+        """Returns how many pairs, of adapters and of all end ports, are lost without what one bit stands for, or
+        two."""
         told = [sum(self.alone[i][k] for i in numbers) for k in (0, 1)]
         return [told[k] - (self.both[numbers][k] if len(numbers) == 2 else 0) for k in (0, 1)]
 
     def masks(self, is_all: int) -> collections.Counter[int]:
-        """Counts the pairs of each set of cables."""
+        """Counts the pairs of each mask of cables."""
         pairs, routes, found = self.pairs, self.pairs.routes, collections.Counter()
         senders = [end for end in pairs.count if (is_all or end[1]) and pairs.switch_of(end) is not None]
         beside = collections.defaultdict(collections.Counter)
@@ -179,7 +182,8 @@ class Masks:
 
 
 def facts_without(facts: Facts, held: Plan, cut: Collection[End] = (), switches: Sequence[int] = ()) -> str:
-    """Returns the text of the facts without the cables in `cut` and without `switches`, with the LIDs that are held."""
+    """Returns the text of the facts without the cables in `cut` and without `switches`. End ports claim the LIDs that
+    they hold."""
     lines = []
     for line in facts.lines:
         kind, end, *rest = line.split(" ")
@@ -199,7 +203,8 @@ def facts_without(facts: Facts, held: Plan, cut: Collection[End] = (), switches:
 
 
 def changed(old: Plan, new: Plan) -> tuple[int, int]:
-    """Returns how many entries for LIDs of the old tables differ in the new ones, and on how many switches."""
+    """Returns how many entries for the old tables' LIDs differ on switches that both tables have, and on how many of
+    these."""
     counts = [
         sum(old.entry(guid, lid) != new.entry(guid, lid) for lid in old.owners)
         for guid in old.tables
@@ -209,14 +214,14 @@ def changed(old: Plan, new: Plan) -> tuple[int, int]:
 
 
 class Cut:
-    """What is taken away at once, and what is lost without it."""
+    """Cables or switches taken away together, and how many pairs are lost without them."""
 
     def __init__(self, cables: Sequence[Cable], lost: list[int], switches: Sequence[int] = ()) -> None:
         self.cables, self.lost, self.switches = cables, lost, switches
         self.ends = {end for cable in cables for end in cable}
 
     def text(self) -> str:
-        """Returns the switches or cables that are taken away, as the table has them."""
+        """Returns the switches or cables that are taken away, as they stand in a printed table."""
         cables = ", ".join(f"{name_of(near)} - {name_of(far)}" for near, far in self.cables)
         return " ".join(f"{guid:016x}" for guid in self.switches) or cables
 
@@ -245,7 +250,8 @@ def cuts_of_switches(facts: Facts, pairs: Pairs, cables: Sequence[Cable]) -> lis
 
 
 def cuts_of_two(facts: Facts, pairs: Pairs, cables: Sequence[Cable]) -> list[Cut]:
-    """Returns cuts of two cables: any two of the worst, and both of a switch that has two to other switches."""
+    """Returns cuts of two cables: any two of the worst, and both of each switch that has exactly two to other
+    switches."""
     cables = [cable for cable in cables if is_between_switches(facts, cable)]
     worst = sorted(cables, key=lambda it: ([-count for count in pairs.lost[it]], it))[:MOST_IN_TWO]
     beside = collections.defaultdict(list)

@@ -1,5 +1,5 @@
-"""Where two plans differ, or a plan and what a fabric holds: LIDs, tops and entries; and where two texts of facts
-do."""
+"""The differences between two plans, or between a plan and what a fabric holds: LIDs, tops and entries. Also those
+between two texts of facts."""
 from __future__ import annotations
 
 from collections.abc import Callable, Iterator
@@ -9,7 +9,8 @@ from ibsm_texts import ENTRIES, NONE, End, Facts, Plan, name_of
 
 
 def names_differ(plan: Plan, held: Plan, called: tuple[str, str] = ("plan", "fabric")) -> Iterator[str]:
-    """Yields the LIDs and tops that differ. `called` has the names of the two texts."""
+    """Yields a line for each LID or top that differs, and for each LID that a second port has in `held`. `called` has
+    the names of the two texts."""
     first, second = called
     for lid in sorted(set(plan.owners) | set(held.owners)):
         one, other = (text.owners.get(lid) for text in (plan, held))
@@ -24,22 +25,22 @@ def names_differ(plan: Plan, held: Plan, called: tuple[str, str] = ("plan", "fab
 
 
 def apart(one: bytes | bytearray, other: bytes | bytearray) -> bytes:
-    """Returns a byte for each entry of the longer of two rows: 0 if the two are equal, or one row has ended and the
-    other has none."""
+    """Returns a byte for each entry of the longer of two rows: 0 if the two entries are equal. A row that has ended
+    counts as 255."""
     length = max(len(one), len(other))
     one, other = (int.from_bytes(row.ljust(length, NONE), "big") for row in (one, other))
     return (one ^ other).to_bytes(length, "big")
 
 
 def blocks_to_write(old: bytes, new: bytes) -> int:
-    """Returns how many blocks of a new table differ from the old one's, up to the new top."""
+    """Returns how many blocks of a new table differ from those of the old one."""
     if old == new:
         return 0
     return sum(new[i : i + ENTRIES] != old[i : i + ENTRIES] for i in range(0, len(new), ENTRIES))
 
 
 def nodes_apart(old: Facts, new: Facts) -> Iterator[str]:
-    """Yields a line for each node that is gone, has come, or is another one."""
+    """Yields a line for each node that is gone, has come, or has another type or number of ports."""
     for guid in sorted(set(old.nodes) | set(new.nodes)):
         one, other = (facts.nodes.get(guid) for facts in (old, new))
         if one != other:
@@ -54,7 +55,7 @@ def cables_of(facts: Facts) -> set[tuple[End, End]]:
 
 
 def facts_apart(old: Facts, new: Facts) -> Iterator[str]:
-    """Yields the lines that tell how facts differ."""
+    """Yields the lines that say how two texts of facts differ."""
     before, after = cables_of(old), cables_of(new)
     yield from nodes_apart(old, new)
     for word, cables in (("gone", before - after), ("come", after - before)):
@@ -84,7 +85,7 @@ def facts_apart(old: Facts, new: Facts) -> Iterator[str]:
 
 
 def plans_apart(old: Plan, new: Plan) -> tuple[list[str], str]:
-    """Returns the lines that tell how plans differ, and how many blocks a manager has to write."""
+    """Returns the lines that say how plans differ, and a last line with how many blocks a manager has to write."""
     lines = list(names_differ(old, new, ("old", "new")))
     entries, switches, blocks = 0, 0, 0
     for guid in sorted(set(old.tables) | set(new.tables)):

@@ -1,8 +1,8 @@
-"""Virtual lanes and service levels as others dump them: OpenSM's opensm-sl2vl.dump and opensm-path-records.dump, the
-two texts that ibdmchk reads, and what saquery prints of path records.
+"""Virtual lanes and service levels as other programs dump them: OpenSM's opensm-sl2vl.dump and
+opensm-path-records.dump, the two texts that ibdmchk reads, and what saquery prints of path records.
 
-In OpenSM's dumps a head names a port by its GUID, and the lines below it are of that port. ibdmchk names nodes, and
-takes a level for all ports of a node.
+In OpenSM's dumps a head names a port by its GUID, and the lines below it are of that port. ibdmchk's texts name nodes,
+and a level there is for all ports of a node.
 """
 from __future__ import annotations
 
@@ -23,7 +23,7 @@ NODE_MAP = re.compile(rf"{GUID} (\d{{1,3}}) (\d{{1,3}})((?: 0x[0-9a-fA-F]{{2}}){
 NODE_LEVEL = re.compile(rf"{GUID} (\d{{1,5}}) (\d{{1,3}})\s*")
 RECORD = re.compile(r"PathRecord dump:\s*")
 FIELD = re.compile(r"\s+(\w+)\.+(\S+)\s*")
-# Whose packets a line speaks of: a port or a node by its GUID, or a port by its LID.
+# Whose packets a line is about: those of a port or node by GUID, or of a port by LID.
 Whose = tuple[str, int]
 Place = tuple[str, int]
 
@@ -35,7 +35,7 @@ def is_lanes(lines: Sequence[str]) -> bool:
 
 
 class LaneDumps:
-    """The maps and levels that dumps tell, and where each was told first."""
+    """The SL-to-VL maps and service levels in dumps, and the line that gave each first."""
 
     def __init__(self) -> None:
         self.maps = {}  # whose, in-port, out-port: the lane of each level
@@ -53,14 +53,14 @@ class LaneDumps:
         self.close_record()
 
     def fault(self, why: str, place: Place | None = None) -> Refused:
-        """Returns the refusal of a line, of the one that is read if no other is named."""
+        """Returns the refusal of the line at `place`, or of the line being read if there is no `place`."""
         path, number = place or (self.path, self.number)
         return Refused(f"{path}: line {number} {why}")
 
     def take(self, line: str) -> bool:
         """Takes in a line, and returns whether it is understood."""
         if form := HEAD.fullmatch(line):
-            # How adapters send packets off is not judged.
+            # The maps of adapters are not used.
             self.whose = (PORT, int(form[2], 16)), form[1] == "Switch"
         elif self.whose and (form := MAP_ROW.fullmatch(line)):
             if self.whose[1]:
@@ -92,13 +92,13 @@ class LaneDumps:
         self.put_level((LID, values[0]), *values[1:])
 
     def put(self, found: dict, key: tuple, value: bytes | int, what: str) -> None:
-        """Notes what the line says. Refuses what another line says otherwise."""
+        """Notes a value that the line gives. Refuses it if an earlier line gives another one."""
         path, number = self.places.setdefault(key, (self.path, self.number))
         if found.setdefault(key, value) != value:
             raise self.fault(f"has another {what} than {path}, line {number}: are these dumps of two times?")
 
     def put_map(self, whose: Whose, form: re.Match, lanes: bytes, first: int = 1) -> None:
-        """Notes the lanes from one port to another, which the form names."""
+        """Notes the lanes from one port to another. `form` has these ports from its group `first` on."""
         if max(lanes) > DROPS:
             raise self.fault(f"has lane {max(lanes)}")
         self.put(self.maps, (whose, int(form[first]), int(form[first + 1])), lanes, "map")
@@ -113,7 +113,8 @@ class LaneDumps:
 
 
 class Lanes:
-    """The maps of switches and the levels of pairs, by facts, by the LIDs of end ports and by dumps."""
+    """The maps of switches and the levels of pairs of an end port and a LID, from facts, the LIDs of end ports, and
+    dumps."""
 
     def __init__(self, facts: Facts, ranges: dict[End, tuple[int, int]], dumps: LaneDumps) -> None:
         self.facts, self.ranges, self.dumps = facts, ranges, dumps
@@ -130,13 +131,14 @@ class Lanes:
             self.put_level((whose, lid), level)
 
     def ends_of(self, key: tuple) -> list[End]:
-        """Returns the end ports that a line names, and refuses a line that names none or one of several."""
+        """Returns the end ports that a line names. Refuses a line that names none, or whose port GUID several ports
+        have."""
         kind, number = key[0]
         place = self.dumps.places[key]
         if kind == LID:
             found = [self.by_lid[number]] if number in self.by_lid else []
         else:
-            # Without the GUID of port 0 a switch goes by its own.
+            # A switch whose port 0 has no known GUID goes by its node GUID.
             found = (self.by_node if kind == NODE else self.by_guid)[number]
             found = found or [(number, 0)] * self.facts.is_switch(number)
         if not found or kind == PORT and len(found) > 1:
@@ -154,7 +156,7 @@ class Lanes:
         self.note(self.maps, (guid, into, out), lanes, key)
 
     def node_of(self, key: tuple) -> int:
-        """Returns the switch that a line names."""
+        """Returns the switch that a line names. Refuses a node that is not a switch."""
         kind, number = key[0]
         guid = number if kind == NODE and number in self.facts.nodes else self.ends_of(key)[0][0]
         if not self.facts.is_switch(guid):
@@ -162,27 +164,29 @@ class Lanes:
         return guid
 
     def put_level(self, key: tuple, level: int) -> None:
-        """Notes the level from each end port that a line names to a LID."""
+        """Notes the level of packets to a LID from each end port that a line names."""
         for end in self.ends_of(key):
             self.note(self.levels, (end, key[1]), level, key)
 
     def note(self, found: dict, about: tuple, value: bytes | int, key: tuple) -> None:
-        """Notes a value. Refuses what another line says otherwise, which names the port in another way."""
+        """Notes a value. Refuses it if another line, which names the port in another way, gives a different one."""
         before = self.told.setdefault(about, key)
         if found.setdefault(about, value) != value:
             (path, number), place = self.dumps.places[before], self.dumps.places[key]
             raise self.dumps.fault(f"contradicts {path}, line {number}: are these dumps of two times?", place)
 
     def lines(self, level: int | None, of_adapters: bool) -> tuple[list[str], list[tuple[bool, str]]]:
-        """Returns the lines of a text on lanes, and for each gap whether something is left out, and a sentence. Packets
-        whose level no dump tells have `level`, if it is given; `of_adapters` leaves out those from or to switches."""
+        """Returns the lines of a text on lanes, and for each kind of gap whether something is left out, and a sentence.
+        If no dump gives a level for packets, they have `level`, unless that is None. With `of_adapters`, packets from
+        or to switches are left out."""
         said, lines = [], []
         lines += self.map_lines(said)
         lines += self.level_lines(level, of_adapters, said)
         return lines, said
 
     def map_lines(self, said: list[tuple[bool, str]]) -> Iterator[str]:
-        """Yields the lines of maps. Where no dump has a row, packets are dropped, which is said."""
+        """Yields the lines of maps. If no dump has a row for two ports, the text drops packets there, and `said` gets a
+        sentence on it."""
         if not self.maps:
             said.append((True, "no dump tells the SL-to-VL maps of switches: by the text all packets are dropped"))
             return
@@ -206,12 +210,12 @@ class Lanes:
                 yield f"sl2vl {guid:016x} {into} {out} {lanes.hex()}"
 
     def cabled(self, guid: int) -> list[int]:
-        """Returns the ports of a switch with a cable."""
+        """Returns the ports of a switch that have a cable."""
         return [port for port in range(1, self.facts.nodes[guid][1] + 1) if (guid, port) in self.facts.links]
 
     def level_lines(self, level: int | None, of_adapters: bool, said: list[tuple[bool, str]]) -> Iterator[str]:
-        """Yields the lines of levels. There is a level for packets without a line of their own only if each pair has
-        one, of its own or by `level`."""
+        """Yields the lines of levels. A level for all other packets is given only if each pair has a level, from a dump
+        or by `level`, and `of_adapters` is not set."""
         if not self.levels and level is None:
             said.append((True, "no dump tells the service levels of paths (--level): by the text no packet has one"))
             return
@@ -236,7 +240,7 @@ class Lanes:
 
 
 def most_frequent(values: Sequence) -> bytes | int:
-    """Returns the most frequent value, the least of several."""
+    """Returns the most frequent value, or the least of equally frequent ones."""
     counts = collections.Counter(values)
     return min(counts, key=lambda value: (-counts[value], value))
 

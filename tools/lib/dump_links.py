@@ -1,6 +1,7 @@
-"""Nodes, cables and LIDs as others dump them: ibnetdiscover's output, OpenSM's opensm-subnet.lst and ibdiagnet's .lst.
+"""Nodes, cables and LIDs as other programs dump them: ibnetdiscover's output, OpenSM's opensm-subnet.lst and
+ibdiagnet's .lst.
 
-A line tells of both ends of a cable. What two lines tell of one key must be the same, in one dump or in several.
+A line describes both ends of a cable. Lines about the same key must agree, within a dump and between dumps.
 """
 from __future__ import annotations
 
@@ -33,7 +34,7 @@ STATES = {"NOC": "down", "DWN": "down", "INI": "up", "ARM": "up", "ACT": "up"}
 
 
 def first_of(lines: Sequence[str]) -> str:
-    """Returns the first line that is not empty and no comment."""
+    """Returns the first line that is neither empty nor a comment, or an empty text if there is none."""
     return next((line for line in lines if line.strip() and not line.startswith("#")), "")
 
 
@@ -47,11 +48,11 @@ class Told:
 
     def __init__(self) -> None:
         self.values = {}  # kind, GUID, port: the words that a line of facts has for it, or an LMC
-        self.sources = {}  # kind, GUID, port: the dump and the line that told it first
+        self.sources = {}  # kind, GUID, port: the dump and the line that said it first
         self.path, self.number = "", 0
 
     def read(self, path: str, lines: Sequence[str]) -> None:
-        """Takes in a dump, all of one form."""
+        """Takes in a dump, whose lines must all be of the same form."""
         self.path, take = path, Netdiscovered(self).line
         if first_of(lines).lstrip().startswith("{"):
             take = self.lst_line
@@ -60,11 +61,11 @@ class Told:
                 raise self.fault(f"is not understood: {line[:60]}")
 
     def fault(self, why: str) -> Refused:
-        """Returns the refusal of the line that is read."""
+        """Returns the refusal of the line being read."""
         return Refused(f"{self.path}: line {self.number} {why}")
 
     def put(self, kind: str, guid: int, port: int, value: str | int) -> None:
-        """Notes what the line says of a node or port. Refuses what another line says otherwise."""
+        """Notes what the line says of a node or port. Refuses it if an earlier line says otherwise."""
         key = kind, guid, port
         before = self.values.setdefault(key, value)
         path, number = self.sources.setdefault(key, (self.path, self.number))
@@ -89,7 +90,7 @@ class Told:
             self.put("link", *near, name_of(other))
 
     def lid(self, end: End, lid: str | int, lmc: str | None = None) -> None:
-        """Notes the LID of an end port and, if it is told, its LMC."""
+        """Notes the LID of an end port and, if it is given, its LMC."""
         if int(lid) > 0xFFFF or lmc is not None and int(lmc) > MOST_LMC:
             raise self.fault(f"has LID {lid}" + (f" with LMC {lmc}" if lmc else ""))
         self.put("claim", *end, str(int(lid)))
@@ -97,7 +98,7 @@ class Told:
             self.put("lmc", *end, int(lmc))
 
     def far(self, guid: int, port: int) -> End:
-        """Returns the far end of a cable."""
+        """Returns the far end of the cable in a port."""
         far, at = self.values["link", guid, port].split("/")
         return int(far, 16), int(at)
 
@@ -123,7 +124,7 @@ class Told:
         return True
 
     def judge(self) -> None:
-        """Refuses cables to nodes that no dump describes, and in ports that nodes lack."""
+        """Refuses lines that name a node that no dump describes, or a port that its node lacks."""
         for (kind, guid, port), (self.path, self.number) in self.sources.items():
             if kind != "node":
                 node = self.values.get(("node", guid, 0))

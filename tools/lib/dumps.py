@@ -1,9 +1,9 @@
-"""Forwarding tables as others dump them: dump_fts, dump_lfts, ibroute, OpenSM's file opensm-lfts.dump, and the .fdbs of
-OpenSM and ibdiagnet.
+"""Forwarding tables as other programs dump them: dump_fts, dump_lfts, ibroute, OpenSM's file opensm-lfts.dump, and the
+.fdbs of OpenSM and ibdiagnet.
 
-Each switch has a head with its range of LIDs and its GUID, a line for each LID with a port, which may name the port
-GUID of the LID's owner, and a line that counts them. OpenSM reads its own file so for its routing engine `file`. In
-.fdbs a head has no range, the last LID that has a line is the top, and nothing is counted or named.
+Each switch has a head with its range of LIDs and its GUID, a line for each LID with a port, and a line that counts
+these. A line may name the port GUID of the LID's owner. OpenSM's routing engine `file` reads OpenSM's own file in this
+form. In .fdbs a head has no range, the last LID that has a line is the top, and nothing is counted or named.
 """
 from __future__ import annotations
 
@@ -12,7 +12,7 @@ from collections.abc import Iterable, Iterator
 
 from ibsm_texts import ENTRIES, GREATEST_LID, NO_WAY, NONE, End, Facts, Refused, each_line, name_of
 
-# OpenSM reads lines into 1,024 bytes.
+# OpenSM reads each line into a buffer of 1,024 bytes.
 LONGEST_LINE = 1022
 HEAD = "Unicast lids"
 GUID = re.compile(r" guid 0x([0-9a-f]+)(?:\s|$)")
@@ -24,7 +24,7 @@ FDBS_HEAD = re.compile(r"(?:osm_ucast_mgr_)?dump_ucast_routes: Switch 0x([0-9a-f
 FDBS_LINE = re.compile(r"0x([0-9a-fA-F]{1,4}) : (?:(\d+) *: \d+ *: .*|UNREACHABLE)\s*")
 # Other lines of dumps: the heads of columns, the warning of dump_lfts, and comments of ibdiagnet.
 BETWEEN = re.compile(r"|#.*|Lid\s+Out\s+Destination\s*|Port\s+Info\s*|LID\s*: Port\s*: Hops\s*: Optimal\s*|\*\*\*.*")
-# By how many LIDs a row of entries grows at a time.
+# A row of entries grows by this many LIDs at a time.
 ROOM = 4096
 LIDS = 65536
 
@@ -44,7 +44,8 @@ def is_dump(lines: Iterable[str]) -> bool:
 
 
 class Entries:
-    """The ports of a switch by LID: a byte each, NO_WAY if unknown. `others` has what a byte alone cannot tell."""
+    """The ports of a switch by LID: a byte each, NO_WAY if unknown. `others` has what does not fit there: entries of
+    255 or more, and LIDs that are out of range."""
 
     def __init__(self) -> None:
         self.row, self.others = bytearray(), {}
@@ -83,16 +84,16 @@ class Entries:
 
 
 class Dump:
-    """The tables, LIDs and owners that dumps tell."""
+    """The tables, LIDs and owners in dumps."""
 
     def __init__(self) -> None:
         self.tables = {}  # GUID: entries
         self.tops = {}  # GUID: the last LID of its range
         self.named = {}  # LID: port GUID
         self.whole = set()  # GUIDs of switches whose lines are counted at their end
-        self.uncounted = set()  # GUIDs of switches of .fdbs, which count none
-        self.sources = {}  # GUID of a switch, or LID that has an owner: the dump that told of it first
-        self.tails = {}  # LID: what stood behind the port in a line that was read
+        self.uncounted = set()  # GUIDs of switches of .fdbs, where lines are not counted
+        self.sources = {}  # GUID of a switch, or LID that has an owner: the dump that named it first
+        self.tails = {}  # LID: what followed the port in a line that was read
         self.lids = {f"0x{lid:04x}": lid for lid in range(LIDS)}
         self.ports = {f" {port:03d}": port for port in range(NO_WAY)}
         self.begin("")
@@ -102,8 +103,8 @@ class Dump:
         self.path, self.at, self.is_fdbs, self.is_dump, self.fault = path, None, False, False, None
 
     def read(self, path: str) -> bool:
-        """Takes in a file, and returns whether it is a dump. Adds lines of a known switch to it, and skips lines of no
-        dump, as OpenSM does."""
+        """Takes in a file, and returns whether it is a dump. Adds the lines of a switch to those it already has, and
+        skips lines that belong to no dump, as OpenSM does."""
         self.begin(path)
         each_line(path, self.take_loosely, "replace")
         if self.is_dump and self.fault:
@@ -111,7 +112,7 @@ class Dump:
         return self.is_dump
 
     def take_loosely(self, number: int, line: str) -> None:
-        """Takes in a line of a file that may be no dump, and keeps the first fault."""
+        """Takes in a line of a file that may not be a dump, and keeps the first fault."""
         if self.is_like_one(line):
             return
         line = line.lstrip()
@@ -123,7 +124,8 @@ class Dump:
                 self.fault, self.at = fault, None
 
     def is_like_one(self, line: str) -> bool:
-        """Takes in a line that differs from one read before only in the port, and returns whether it did."""
+        """Takes in a line that differs only in its port from an earlier one, if the switch's row has a free entry for
+        its LID. Returns whether it took the line in."""
         lid = self.lids.get(line[:6])
         port = self.ports.get(line[6:10])
         if lid is None or port is None or self.at is None or self.tails.get(lid) != line[10:]:
@@ -172,11 +174,11 @@ class Dump:
             self.tops[self.at] = max(self.tops.get(self.at, 0), int(last[1], 16 if last[1].startswith("0x") else 10))
 
     def elsewhere(self, *key: str | int) -> str:
-        """Returns the words for where else it is told."""
+        """Returns the words that say in which place a value was read before."""
         return "further up" if self.sources[key] == self.path else f"in {self.sources[key]}"
 
     def put(self, number: int, lid: int, port: int) -> None:
-        """Notes the port for a LID at the switch. Refuses another one than was told before."""
+        """Notes the port for a LID at the current switch. Refuses a port other than the one read before."""
         table = self.tables[self.at]
         before = table.get(lid)
         if before is None:
@@ -214,7 +216,7 @@ class Dump:
             self.put(number, lid, int(entry[2]))
 
     def judge(self) -> None:
-        """Refuses what no switch can hold."""
+        """Refuses tables that no switch can hold."""
         for guid, table in self.tables.items():
             if guid not in self.tops or table.greatest() > self.tops[guid] or self.tops[guid] > GREATEST_LID:
                 raise Refused(f"switch {guid:016x} has no range of LIDs in its head, or an entry above it")
@@ -225,7 +227,8 @@ class Dump:
 def lids_of(
     facts: Facts, dump: Dump, lmcs: dict[End, int] | None = None
 ) -> tuple[dict[End, tuple[int, int]], list[str]]:
-    """Returns the first and the last LID of each end port, by facts, dumps and known LMCs, and where these disagree."""
+    """Returns the first and the last LID of each end port, by facts, dumps and known LMCs, and a line for each case in
+    which these disagree."""
     by_guid, ranges, found = {}, {}, []
     for lid, guid in sorted(dump.named.items()):
         by_guid.setdefault(guid, []).append(lid)
@@ -252,7 +255,7 @@ def lids_of(
 
 
 def lacks(facts: Facts, dump: Dump, ranges: dict[End, tuple[int, int]]) -> Iterator[tuple[str, str]]:
-    """Yields what dumps lack: the kind, and a line that tells it."""
+    """Yields what dumps lack: the kind, and a line that says it."""
     owned = sorted(lid for first, last in ranges.values() for lid in range(first, last + 1))
     for guid in sorted(set(facts.nodes) | set(dump.tables)):
         if guid not in dump.tables:

@@ -1,5 +1,4 @@
-"""Switches in groups, such as those of a dragonfly or the rows of a torus, and where each stands in a picture of
-them."""
+"""Switches in groups, such as those of a dragonfly or the rows of a torus, and the position of each in a picture."""
 from __future__ import annotations
 
 import collections
@@ -13,13 +12,13 @@ from ibsm_texts import Names
 Groups, Wire, Spot = dict[str, list[int]], tuple[int, int], tuple[float, float]
 # The positions of switches, the frames of groups, and the direction of adapters.
 Layout = tuple[dict[int, Spot], dict[str, tuple[float, float, float, float]], dict[int, float]]
-# In inches: the distance of switches in a group, and that of groups.
+# In inches: the distance between switches in a group, and that between groups.
 BESIDE, APART = 1.5, 1.0
 
 
 def by_names(guids: Iterable[int], names: Names) -> dict[int, str]:
-    """Returns the group of each GUID: its name up to the last number but one, or up to its only number, if that leaves
-    anything."""
+    """Returns the group of each GUID: its name up to and including the last number but one, or up to its only number,
+    or the whole name if it has no number. If nothing is left of it, the group is `?`."""
     found = {}
     for guid in guids:
         name = names.get(guid, "")
@@ -29,8 +28,8 @@ def by_names(guids: Iterable[int], names: Names) -> dict[int, str]:
 
 
 def in_order(guids: Iterable[int], group_of: dict[int, str], names: Names) -> Groups:
-    """Returns the groups in order of name. Their members are in order of name, with numbers by value, and then of
-    GUID."""
+    """Returns the groups in order of name, and the members of each in order of name and then of GUID. Numbers in names
+    count by value."""
     def by_numbers(name: str) -> list[tuple[int, int, str]]:
         return [(0, int(part), "") if part.isdigit() else (1, 0, part) for part in re.split(r"(\d+)", name)]
 
@@ -44,7 +43,8 @@ def in_order(guids: Iterable[int], group_of: dict[int, str], names: Names) -> Gr
 
 
 def is_grid(groups: Groups, wires: Sequence[Wire]) -> bool:
-    """Returns whether groups have one size, and cables between them mostly join members of one index, as in a torus."""
+    """Returns whether there are several groups of the same size, and most cables between them join members with the
+    same index, as in a torus."""
     if len({len(members) for members in groups.values()}) != 1 or len(groups) < 2:
         return False
     member = {guid: (name, i) for name, members in groups.items() for i, guid in enumerate(members)}
@@ -67,7 +67,7 @@ def placed(groups: Groups, wires: Sequence[Wire]) -> Layout:
         x, y = spot(i, len(groups), big)
         small = radius_of(len(members))
         for j, guid in enumerate(members):
-            # The first of a group looks to the middle.
+            # The first switch of a group is the one nearest to the middle of the picture.
             spin = math.atan2(-y, -x) if len(groups) > 1 else math.pi / 2
             dx, dy = spot(j, len(members), small, spin)
             places[guid], outwards[guid] = (x + dx, y + dy), math.atan2(dy, dx) if small else math.pi / 2
@@ -76,8 +76,8 @@ def placed(groups: Groups, wires: Sequence[Wire]) -> Layout:
 
 
 def grid(groups: Groups) -> Layout:
-    """Returns a row for each group. Rows and columns mostly close to rings, so each is bent, and no cable runs behind
-    others."""
+    """Returns a layout with a row for each group. Rows and columns mostly close into rings. So each is bent, to keep
+    cables from running behind others."""
     places, boxes, outwards = {}, {}, {}
     for i, (name, members) in enumerate(groups.items()):
         y = -(BESIDE + APART) * i
@@ -112,6 +112,6 @@ def spot(i: int, count: int, radius: float, spin: float = math.pi / 2) -> Spot:
 
 
 def beside(place: Spot, direction: float, turn: int) -> Spot:
-    """Returns the position of an adapter: outwards from its switch, by turns to both sides."""
+    """Returns the position of an adapter: outwards from its switch, alternately to either side."""
     angle = direction + 0.45 * ((turn + 1) // 2) * (-1) ** turn
     return place[0] + 0.8 * math.cos(angle), place[1] + 0.6 * math.sin(angle)

@@ -1,6 +1,6 @@
-"""The texts that `ibsm facts` and `ibsm plan` print, read. docs/FORMATS.md has their forms.
+"""Reads the texts that `ibsm facts` and `ibsm plan` print. docs/FORMATS.md has their forms.
 
-An end is a pair of a node's GUID and a port. A text that is not whole or not in its form raises `Refused`.
+An end is a pair of a node's GUID and a port. A text that is cut or not in its form raises `Refused`.
 """
 from __future__ import annotations
 
@@ -47,9 +47,9 @@ class Refused(Exception):
 
 
 def ends(tool: str, doc: str, work: Callable[[list[str]], int]) -> int:
-    """Runs a tool, and returns its exit status. `work` takes the words behind its name. A failure is said in one
-    line."""
-    # Words behind -- are for another program.
+    """Runs a tool, and returns its exit status. `work` takes the words after the tool's name. A failure is reported in
+    one line."""
+    # Words after -- are for another program.
     own = set(sys.argv[1 : sys.argv.index("--")] if "--" in sys.argv else sys.argv[1:])
     try:
         if {"-h", "--help"} & own:
@@ -77,14 +77,15 @@ def ends(tool: str, doc: str, work: Callable[[list[str]], int]) -> int:
 
 
 def told(fault: OSError) -> str:
-    """Returns the text of an OSError, with the file's name once. Without a name it is standard output's."""
+    """Returns the text of an OSError, with the file's name once. An error without a file name is taken to be of
+    standard output."""
     if fault.strerror is None:
         return str(fault)
     return f"{fault.filename or 'standard output'}: {fault.strerror}"
 
 
 def as_called(doc: str) -> str:
-    """Returns a tool's help, with the name by which it was installed and called."""
+    """Returns a tool's help. In the help of an installed tool, its name is the one by which it was called."""
     called = pathlib.Path(sys.argv[0])
     return (
         doc if called.resolve().parent.name == "tools" else doc.replace(f"tools/{called.resolve().name}", called.name)
@@ -97,7 +98,7 @@ def usage_of(doc: str) -> str:
 
 
 def name_of(end: End) -> str:
-    """Returns an end port as texts have it: its GUID and the port."""
+    """Returns an end as texts spell it: the node's GUID and the port."""
     return f"{end[0]:016x}/{end[1]}"
 
 
@@ -130,7 +131,7 @@ def opened_bytes(path: str | os.PathLike, most: int = -1) -> bytes:
 def each_line(
     path: str | os.PathLike, take: Callable[[int, str], object], errors: str = "strict", encoding: str = "ascii"
 ) -> None:
-    """Passes each line of a text with its number to `take`, so that the text is never held as a whole.
+    """Passes each line of a text with its number to `take`, so that the whole text is never in memory.
 
     The first refusal of `take` is raised at the end, once the whole text is known to be well-formed, with an end to its
     last line.
@@ -155,7 +156,7 @@ def each_line(
 
 
 def lines_of(path: str | os.PathLike, errors: str = "strict", encoding: str = "ascii") -> list[str]:
-    """Returns the lines of a text. The last one must have an end."""
+    """Returns the lines of a text. The last line must end with a newline."""
     lines = []
     each_line(path, lambda _, line: lines.append(line), errors, encoding)
     return lines
@@ -175,7 +176,7 @@ NAMED = re.compile(r"\b(?:0x)?([0-9a-f]{16})(?:/[0-9]{1,3})?(?![0-9A-Za-z_])")
 
 
 def with_names(line: str, names: Names) -> str:
-    """Returns a line with names behind its GUIDs and ends."""
+    """Returns a line with names after its GUIDs and ends."""
 
     def called(found: re.Match) -> str:
         name = names.get(int(found[1], 16))
@@ -186,7 +187,8 @@ def with_names(line: str, names: Names) -> str:
 
 @contextlib.contextmanager
 def whole(path: str | os.PathLike) -> Iterator[BinaryIO]:
-    """Opens a file for writing bytes under another name until all is there, so that the file is whole or unchanged."""
+    """Yields a temporary file to write bytes to, and renames it to `path` once all is written. So `path` is whole or
+    unchanged."""
     if os.path.exists(path) and not os.path.isfile(path):
         raise OSError(f"{path}: it is no regular file")
     temporary = f"{path}.{os.getpid()}"
@@ -213,8 +215,8 @@ def put(path: str | os.PathLike, text: str) -> None:
 def plan_lines(
     ranges: dict[End, tuple[int, int]], tops: dict[int, int], tables: Mapping[int, bytes | bytearray]
 ) -> Iterator[str]:
-    """Yields the lines of a plan from the first and last LID of each end, and the top and the entries from LID 0 of
-    each switch's GUID."""
+    """Yields the lines of a plan, from the first and last LID of each end, and from the top and the entries (from LID 0
+    on) of each switch by GUID."""
     for end, (first, last) in sorted(ranges.items(), key=lambda item: (item[1], item[0])):
         lmc = (last - first + 1).bit_length() - 1
         yield f"lid {first} {name_of(end)}" + (f" lmc {lmc}" if lmc else "")
@@ -225,7 +227,7 @@ def plan_lines(
 
 
 class Facts:
-    """The text of `ibsm facts`, from a file or from lines. A file's lines are kept on demand."""
+    """The text of `ibsm facts`, from a file or from lines. A file's lines are kept only if asked for."""
 
     def __init__(self, path: str | os.PathLike, keeps_lines: bool = False, lines: Iterable[str] | None = None) -> None:
         self.nodes = {}  # GUID: type, ports
@@ -245,7 +247,7 @@ class Facts:
                 self.take_line(number, line)
 
     def take_line(self, number: int, line: str) -> None:
-        """Takes in a line, and refuses one that is no fact. The first may give the floor."""
+        """Takes in a line, and refuses one that is not a fact. The first line may give the floor."""
         if self.lines is not None:
             self.lines.append(line)
         floor = FLOOR.fullmatch(line) if number == 1 else None
@@ -289,14 +291,14 @@ class Facts:
         return self.type_of(guid) == "switch"
 
     def wire(self, end: End) -> End | None:
-        """Returns the far end of the cable in a port if both ends tell of it and are up, or else None."""
+        """Returns the far end of the cable in a port if both ends report it and are up, or else None."""
         far = self.links.get(end)
         if far is None or far == end or self.links.get(far) != end or not (self.up.get(end) and self.up.get(far)):
             return None
         return far
 
     def cables(self) -> list[tuple[End, End, str]]:
-        """Returns each cable once: its ends, and whether it is `up`, `down`, or told by `one` end."""
+        """Returns each cable once: its ends, and whether it is `up`, `down`, or reported by `one` end only."""
         found = {}
         for end, far in sorted(self.links.items()):
             if (far, end) not in found:
@@ -308,7 +310,7 @@ class Plan:
     """The text of `ibsm plan`, or what a fabric holds in that form: LIDs, and each switch's top and entries."""
 
     def __init__(self, path: str | os.PathLike) -> None:
-        self.owners = {}  # LID: end, with each LID of a range
+        self.owners = {}  # LID: end, for each LID of a range
         self.ranges = {}  # end: its first LID, and the last
         self.shared = []  # LIDs that a second end has, with that end
         self.tops = {}
@@ -324,7 +326,7 @@ class Plan:
                 raise Refused(f"{path}: switch {guid:016x} has {blocks} blocks for top {self.tops[guid]}: is it cut?")
 
     def take_line(self, number: int, line: str) -> None:
-        """Takes in a line, and refuses one that is none of a plan."""
+        """Takes in a line, and refuses one that does not belong to a plan."""
         if line.startswith("block "):
             is_taken = self.take_block(line)
         else:
@@ -346,7 +348,7 @@ class Plan:
         return True
 
     def take_switch(self, line: str) -> bool:
-        """Takes in the line that begins a switch's table, and returns whether the line is one and the first of the
+        """Takes in the line that begins a switch's table, and returns whether the line is one, and the first for this
         switch."""
         form = SWITCH_LINE.fullmatch(line)
         guid = int(form[1], 16) if form else None
@@ -363,7 +365,7 @@ class Plan:
             entries = bytes.fromhex(digits)
         except ValueError:
             return False
-        # Only lower-case digits are spelled as they were read.
+        # `fromhex` also takes blanks and upper-case digits, which no plan has.
         if self.last is None or len(entries) != ENTRIES or entries.hex() != digits:
             return False
         if number != str(len(self.blocks)) and not (BLOCK_NUMBER.fullmatch(number) and int(number) == len(self.blocks)):

@@ -1,6 +1,6 @@
-"""The texts of ibsm and its tools as values for JSON. docs/FORMATS.md has the schema, "As JSON".
+"""The texts of ibsm and its tools as values for JSON. docs/FORMATS.md has the schema under "As JSON".
 
-A reader takes the lines of a text one by one, and says of each whether it is one of its form.
+A reader takes the lines of a text one by one, and returns for each whether it belongs to the text's form.
 """
 from __future__ import annotations
 
@@ -14,7 +14,7 @@ PORT = "([0-9a-f]{16}/[0-9]{1,3})"
 RATE = r"\d+x [A-Z]+ [0-9.]+ Gb/s"
 KINDS = ("lost", "misdelivered", "round", "unowned", "twice", "unknown", "tableless", "unusable", "lidless", "unjoined")
 MISSED = ("above-top", "no-entry", "no-port", "no-link", "foreign", "misdelivered", "round")
-# A name behind a GUID or an end.
+# A name after a GUID or an end.
 NAMED = re.compile(r'(?<![0-9A-Za-z_"])(([0-9a-f]{16})(?:/[0-9]{1,3})?) "([^"]*)"')
 
 
@@ -356,7 +356,7 @@ def form_of(line: str) -> str | None:
 
 
 def without_names(lines: Iterable[str]) -> tuple[list[str], dict[str, str]]:
-    """Returns the lines without the names behind GUIDs and ends, and these names by GUID."""
+    """Returns the lines without the names after GUIDs and ends, and these names by GUID."""
     names = {}
 
     def taken(found: re.Match) -> str:

@@ -1,4 +1,5 @@
-"""How the switches of facts are laid out in a picture: in rows, or in groups; and what names them."""
+"""How the switches of facts are laid out in a picture, in rows or in groups; and which switches a word or a file
+names."""
 from __future__ import annotations
 
 import re
@@ -10,7 +11,7 @@ from rows import ranks
 
 
 def wires_of(facts: Facts) -> dict[int, list[int]]:
-    """Returns for each switch the switches at the other ends of its wires."""
+    """Returns, for each switch, the switches at the other ends of its wires."""
     wires = {guid: [] for guid in facts.nodes if facts.is_switch(guid)}
     for end in sorted(facts.links):
         far = facts.wire(end)
@@ -35,7 +36,7 @@ def rows_of(facts: Facts, wires: dict[int, list[int]], roots: Iterable[int]) -> 
 
 
 def groups_in(path: str, facts: Facts, names: Names) -> dict[int, str]:
-    """Returns the group of each switch, by names or by the lines of a file."""
+    """Returns the group of each switch: by names if `path` is `names`, and otherwise by the lines of a file."""
     if path == "names":
         return groups.by_names([guid for guid in facts.nodes if facts.is_switch(guid)], names)
     found = {}
@@ -61,7 +62,7 @@ def switch_named(facts: Facts, names: Names, word: str) -> int:
 
 
 def roots_in(path: str) -> list[int]:
-    """Returns the switches in a text of roots: a GUID a line, and comments behind `#`."""
+    """Returns the switches in a text of roots: one GUID on each line, and comments after `#`."""
     found = []
     for number, line in enumerate(lines_of(path, "replace"), 1):
         words = line.partition("#")[0].split()

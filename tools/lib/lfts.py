@@ -1,8 +1,9 @@
-"""The file of tables that OpenSM's routing engine `file` reads: made a switch at a time, and read by OpenSM's rules.
+"""The file of tables that OpenSM's routing engine `file` reads: made one switch at a time, and read back by OpenSM's
+rules.
 
-It has the form of OpenSM's own dump, without types and names. An entry 255, of a LID that is unreachable, is left out:
-OpenSM takes it for a bad port, and drops the whole file. Lines of entries have one length, so each digit stands at one
-offset in all of them.
+It has the form of OpenSM's own dump, without node types and names. The entry 255 of an unreachable LID is left out:
+OpenSM takes it for a bad port, and drops the whole file. All lines of entries have the same length, so each digit is in
+the same column in all of them.
 """
 from __future__ import annotations
 
@@ -31,13 +32,13 @@ class Lfts:
         lines = [f"0x{lid:04x} 000 # portguid 0x{facts.port_guids[plan.owners[lid]]:016x}\n" for lid in self.lids]
         self.lines = "".join(lines).encode()
         self.width = len(lines[0])
-        # The LIDs in runs without a gap, as the first of each and the one behind.
+        # The runs of consecutive LIDs: the first LID of each, and the number after its last.
         spans = itertools.groupby(enumerate(self.lids), lambda it: it[1] - it[0])
         rows = [[lid for _, lid in those] for _, those in spans]
         self.spans = [(row[0], row[-1] + 1) for row in rows]
 
     def entries(self, guid: int) -> bytes:
-        """Returns the entries of a switch for the LIDs, in their order."""
+        """Returns the entries of a switch for the plan's LIDs, in order of LID."""
         row = self.plan.row(guid)
         return b"".join(row[first:behind].ljust(behind - first, NONE) for first, behind in self.spans)
 
@@ -54,7 +55,7 @@ class Lfts:
         return b"%b%b%d lids dumped\n" % (head.encode(), lines, len(lines) // self.width)
 
     def sections(self) -> Iterator[bytes]:
-        """Yields the lines of each switch, checked to be what OpenSM reads as its entries."""
+        """Yields the lines of each switch, after a check that OpenSM reads the switch's entries from them."""
         for guid in sorted(self.plan.tables):
             section, entries = self.section(guid), self.entries(guid)
             lids = self.lids
@@ -72,8 +73,8 @@ class Lfts:
 
 
 def read(section: bytes) -> tuple[int, array.array, bytes] | None:
-    """Returns the switch, LIDs and ports that OpenSM reads from lines of one length, or None if they have another
-    form."""
+    """Returns the switch, LIDs and ports that OpenSM reads from a section whose lines of entries have the same length,
+    or None if the section has another form."""
     first, last = section.find(b"\n"), section.rfind(b"\n", 0, len(section) - 1)
     head, lines = section[:first], section[first + 1 : last + 1]
     guid = GUID.search(head.decode())
@@ -99,9 +100,9 @@ def read(section: bytes) -> tuple[int, array.array, bytes] | None:
 
 
 def ports_in(digits: Sequence[bytes]) -> bytes | None:
-    """Returns the ports that have these hundreds, tens and ones."""
+    """Returns the ports that have these hundreds, tens and ones, or None if some of these are not digits."""
     if not all(row.isdigit() or not row for row in digits):
         return None
-    # A port is at most 254, so no byte of the sum is carried into the next.
+    # A port is at most 254, so no byte of the sum carries into the next.
     counts = (int.from_bytes(row.translate(count), "big") for row, count in zip(digits, COUNTS))
     return sum(counts).to_bytes(len(digits[0]), "big")

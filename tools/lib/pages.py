@@ -1,4 +1,4 @@
-"""Manual pages from the help that tools have."""
+"""Manual pages made from the help of tools."""
 from __future__ import annotations
 
 import re
@@ -14,7 +14,7 @@ def escaped(line: str) -> str:
 
 
 def sections(help_text: str) -> tuple[str, str, list[str], list[str]]:
-    """Returns the parts of a help: first sentence, usage, paragraphs, and the statuses."""
+    """Returns the parts of a help text: its first sentence, the usage, other paragraphs, and those on exit statuses."""
     first, _, rest = help_text.strip().partition("\n\n")
     usage, _, rest = rest.partition("\n\n")
     paragraphs = rest.split("\n\n")
@@ -23,7 +23,7 @@ def sections(help_text: str) -> tuple[str, str, list[str], list[str]]:
 
 
 def page_of(name: str, help_text: str, others: Iterable[str]) -> str:
-    """Returns the page of an installed tool, called `name`. `others` are the tools that help names as tools/X."""
+    """Returns the page of an installed tool, called `name`. `others` are the tools that the help names as tools/X."""
     text = help_text
     for other in others:
         text = re.sub(rf"tools/{re.escape(other)}\b(?!\.)", f"ibsm-{other}", text)

@@ -16,7 +16,8 @@ BESIDE = BUILT / "ibsm", BUILT / "unproved/ibsm", TOOLS / "ibsm"
 
 
 def the_program(named: str | None = None) -> str:
-    """Returns the program that is named, or was built or installed beside these tools, or is on the path."""
+    """Returns the program that is named or, if none is, the one built or installed beside these tools, or else the one
+    on the path."""
     beside = [os.fspath(path) for path in BESIDE if os.access(path, os.X_OK)]
     found = shutil.which(named) if named else beside[0] if beside else shutil.which("ibsm")
     if not found:
@@ -25,7 +26,8 @@ def the_program(named: str | None = None) -> str:
 
 
 def printed_by(program: str, *words: object, statuses: Container[int] = (0,)) -> str:
-    """Returns what a run of the program prints. Refuses a run with another exit status, with what it said."""
+    """Returns what a run of the program prints. Refuses a run with an exit status that is not in `statuses`, and quotes
+    its last line."""
     run = subprocess.run([program, *map(str, words)], capture_output=True, text=True, stdin=subprocess.DEVNULL)
     if run.returncode not in statuses:
         raise Refused(
@@ -36,8 +38,8 @@ def printed_by(program: str, *words: object, statuses: Container[int] = (0,)) ->
 
 
 def made_in_c(name: str, named: str | None = None) -> str:
-    """Returns the program `record` or `send`: the one that is named, or was made or installed beside these tools, or is
-    on the path."""
+    """Returns the program `record` or `send`: the one that is named or, if none is, the one made or installed beside
+    these tools, or else the one on the path."""
     beside = [TOOLS / "record/out" / name, TOOLS.parent.parent / f"bin/ibsm-{name}"]
     found = shutil.which(named or next((path for path in beside if os.access(path, os.X_OK)), f"ibsm-{name}"))
     if not found:

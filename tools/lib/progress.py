@@ -1,4 +1,4 @@
-"""How far a tool is: said on a terminal, in one line that is written over, once somebody has waited for two seconds."""
+"""Shows on a terminal how far a tool has got, in one line that is overwritten. The line appears after two seconds."""
 from __future__ import annotations
 
 import contextlib
@@ -8,18 +8,18 @@ import threading
 from collections.abc import Callable, Iterable, Iterator
 from typing import IO, TypeVar
 
-# Seconds until something is said, and until it is said anew.
+# Seconds until progress is shown first, and between updates.
 FIRST, THEN = 2, 0.5
 WIDEST = 100
 Thing = TypeVar("Thing")
 
 _lock = threading.Lock()
-_now = [None]  # what is done now: a text, or a function that returns one
+_now = [None]  # what is being done: a text, or a function that returns one
 _is_shown = [False]
 
 
 def at(what: str | Callable[[], str] | None) -> str | Callable[[], str] | None:
-    """Notes what is done now, None for nothing to say, and returns what was done before."""
+    """Notes what is being done (None shows nothing), and returns what was noted before."""
     with _lock:
         before, _now[0] = _now[0], what
         if what is None:
@@ -29,7 +29,7 @@ def at(what: str | Callable[[], str] | None) -> str | Callable[[], str] | None:
 
 @contextlib.contextmanager
 def doing(what: str | Callable[[], str]) -> Iterator[None]:
-    """Notes what is done meanwhile."""
+    """Notes what is done in a `with` block."""
     before = at(what)
     try:
         yield
@@ -38,7 +38,7 @@ def doing(what: str | Callable[[], str]) -> Iterator[None]:
 
 
 def reading(path: str | os.PathLike, file: IO) -> contextlib.AbstractContextManager[None]:
-    """Notes meanwhile that a file is read, and how far if it is a regular one."""
+    """Notes in a `with` block that a file is being read and, if its size is known, how much of it."""
     try:
         number = file.fileno()
     except OSError:
@@ -49,7 +49,7 @@ def reading(path: str | os.PathLike, file: IO) -> contextlib.AbstractContextMana
 
 
 def counted(what: str, things: Iterable[Thing], count: int) -> Iterator[Thing]:
-    """Yields `count` things, and notes meanwhile how many are done."""
+    """Yields `count` things, and notes how many of them are done."""
     behind = 0
     with doing(lambda: f"{what}, {behind} of {count}"):
         for thing in things:
@@ -80,7 +80,7 @@ def _tell(tool: str, ended: threading.Event) -> None:
 
 @contextlib.contextmanager
 def hidden() -> Iterator[None]:
-    """Hides the progress meanwhile, so that other output has lines of its own."""
+    """Hides the progress in a `with` block, so that other output does not share its line."""
     with _lock:
         _clear()
         yield
@@ -88,7 +88,7 @@ def hidden() -> Iterator[None]:
 
 @contextlib.contextmanager
 def told(tool: str) -> Iterator[None]:
-    """Shows meanwhile how far the tool is, if standard error is a terminal."""
+    """Shows in a `with` block how far the tool has got, if standard error is a terminal."""
     if not sys.stderr.isatty():
         yield
         return

@@ -1,10 +1,10 @@
-"""Recordings and store files, made record by record by docs/FORMATS.md."""
+"""Recordings and store files, made record by record in the form that docs/FORMATS.md gives."""
 from __future__ import annotations
 
 import struct
 
 NO_REPORTS, NO_CELLS = b"IBSMREP1", b"IBSMSTO1"
-# The attributes that tell facts, the types of nodes, the states of ports, and the kinds of facts.
+# The attributes that facts come from, the types of nodes, the states of ports, and the kinds of facts.
 NODE_INFO, SWITCH_INFO, PORT_INFO = 0x0011, 0x0012, 0x0015
 ADAPTER, SWITCH, ROUTER = 1, 2, 3
 DOWN, INITIALIZE, ACTIVE = 1, 2, 4
@@ -19,19 +19,20 @@ START = 0, 0, 0
 
 
 def via(guid: int, port: int) -> Context:
-    """Returns the context of a reply over a path that leaves this node by this port last."""
+    """Returns the context of a reply over a path whose last step leaves this node by this port."""
     return 1, port, guid
 
 
 def about(guid: int) -> Context:
-    """Returns the context of a reply that speaks of this node."""
+    """Returns the context of a reply that is about this node."""
     return 2, 0, guid
 
 
 def report(
     context: Context, attribute: int, modifier: int, value: bytes, generation: int = 1, hops: int | None = None
 ) -> bytes:
-    """Returns the record of a reply with status 0 that is back at its sender, over one hop or none."""
+    """Returns the record of a reply with status 0 that is back at its sender. Without `hops` it took one hop, or none
+    if its context is START."""
     kind, port, guid = context
     if hops is None:
         hops = 0 if context == START else 1
@@ -54,13 +55,13 @@ def node_info(
     generation: int = 1,
     hops: int | None = None,
 ) -> bytes:
-    """Returns what a node says of itself to a request that came by its local port."""
+    """Returns the record of a node's NodeInfo, in reply to a request that came in at `local_port`."""
     value = struct.pack(">BBBBQQQHHIB", 1, 1, kind, ports, guid, guid, port_guid, 1, 0, 0, local_port)
     return report(context, NODE_INFO, 0, value, generation, hops)
 
 
 def switch_info(guid: int, room: int, generation: int = 1) -> bytes:
-    """Returns the record that tells how many LIDs a switch's table has room for."""
+    """Returns the record that says how many LIDs a switch's table has room for."""
     return report(about(guid), SWITCH_INFO, 0, struct.pack(">H", room), generation)
 
 
@@ -78,12 +79,12 @@ def reports(*records: bytes) -> bytes:
 
 
 def cell(kind: int, guid: int, port: int, value: bytes, generation: int = 1, state: int = KNOWN) -> bytes:
-    """Returns the record of what is held of one key."""
+    """Returns the record of a cell: what a store has for a key."""
     return struct.pack(">BBBBIQ16s", kind, state, port, 0, generation, guid, value)
 
 
 def cell_of(line: str) -> bytes:
-    """Returns the record of a line of facts."""
+    """Returns the record of the cell that a line of facts spells."""
     word, subject, *value, at = line.split()
     guid, _, port = subject.partition("/")
     key = KINDS[word], int(guid, 16), int(port or 0)
@@ -121,5 +122,5 @@ def store_of(facts: str) -> bytes:
 
 
 def older(stored: bytes) -> bytes:
-    """Returns the store file in the older form, which tells no floor."""
+    """Returns the store file in the older form, which has no floor."""
     return NO_CELLS + stored[16:]

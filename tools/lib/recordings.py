@@ -1,4 +1,4 @@
-"""Recordings read for what facts do not tell: the widths and speeds of links. docs/FORMATS.md has their form."""
+"""Reads from recordings what facts do not have: the widths and speeds of links. docs/FORMATS.md has their form."""
 from __future__ import annotations
 
 import dataclasses
@@ -20,7 +20,7 @@ FAST = {1: ("FDR", 14), 2: ("EDR", 25), 4: ("HDR", 50), 8: ("NDR", 100)}
 
 @dataclasses.dataclass(frozen=True, order=True)
 class Rate:
-    """The rate of a link; the sort order is by rate."""
+    """The rate of a link. Rates compare by their gigabits first."""
 
     gigabits: float
     lanes: int
@@ -48,7 +48,7 @@ class Port:
         self.is_up = 2 <= info[32] & 15 <= 4
 
     def rate(self) -> Rate | None:
-        """Returns the rate of the port, or None if it does not tell its width and speed."""
+        """Returns the rate of the port, or None if it does not report a width and a speed."""
         return rate(self.lanes, self.speed) if self.lanes and self.speed else None
 
 
@@ -80,12 +80,12 @@ class Recording:
             self.note(self.fars, far, (guid, port), age)
 
     def note(self, known: dict[End, Said], key: End, value: Said, age: int) -> None:
-        """Notes what a record says under a key, unless a newer generation has said it."""
+        """Notes what a record says of a key, unless a record of a newer generation was noted for it."""
         if age >= self.ages.get((id(known), key), 0):
             known[key], self.ages[id(known), key] = value, age
 
     def links(self) -> dict[Cable, list[Port]]:
-        """Returns each link that is up, by its lesser end, with what its ports say of it."""
+        """Returns each link that is up, its lesser end first, with what its ports say of it."""
         found = {}
         for end, far in sorted(self.fars.items()):
             known = [port for it in (end, far) if (port := self.ports.get(it))]
@@ -94,18 +94,19 @@ class Recording:
         return found
 
     def rates(self) -> dict[Cable, tuple[Rate | None, Rate | None]]:
-        """Returns each link with its rate, None if no end tells it, and the greatest rate that both ends can have."""
+        """Returns each link with its rate (None if neither end reports it) and the greatest rate that both ends support
+        (None if it is not known)."""
         return {cable: (rate_of(known), most_of(known)) for cable, known in self.links().items()}
 
 
 def rate_of(known: list[Port]) -> Rate | None:
-    """Returns the least rate that the ends tell."""
+    """Returns the least rate that the ends report, or None if none does."""
     return min((told for port in known if (told := port.rate())), default=None)
 
 
 def most_of(known: list[Port]) -> Rate | None:
-    """Returns the greatest width and speed that both ends have, or None if one of them does not tell or nothing
-    fits."""
+    """Returns the rate of the greatest width and speed that both ends support, or None if one end is not known or they
+    have none in common."""
     widths = set.intersection(*(port.widths for port in known))
     speeds = set.intersection(*(port.speeds for port in known))
     if len(known) < 2 or not widths or not speeds:
@@ -114,12 +115,12 @@ def most_of(known: list[Port]) -> Rate | None:
 
 
 def is_recording(path: str) -> bool:
-    """Returns whether a file begins as a recording does. Standard input is none."""
+    """Returns whether a file begins as a recording does. Standard input never counts as a recording."""
     return path != "-" and opened_bytes(path, 8) == NO_REPORTS
 
 
 def rates_apart(old: Recording, new: Recording) -> Iterator[str]:
-    """Yields the lines that tell which links differ in two recordings: gone, come, slower or faster."""
+    """Yields the lines that say which links differ in two recordings: gone, come, slower or faster."""
     before, after = old.rates(), new.rates()
     for word, cables in (("gone", before.keys() - after.keys()), ("come", after.keys() - before.keys())):
         for end, far in sorted(cables):

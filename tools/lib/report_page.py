@@ -117,18 +117,18 @@ def channel_name(picture: Picture, channel: tuple[int, int]) -> str:
 
 
 def share(picture: Picture, channel: tuple[int, int]) -> float:
-    """Returns how busy a channel is, from 0 to 1."""
+    """Returns a channel's load as a part of the busiest one's, from 0 to 1."""
     most = max(picture.loads.values(), default=0)
     return picture.loads[channel] / most if most else 0
 
 
 def color(part: float) -> str:
-    """Returns a colour from blue, for quiet, over yellow to red."""
+    """Returns the colour of a load: from blue for 0 through yellow to red for 1."""
     return f"hsl({215 - 215 * part:.0f} 75% {52 - 4 * part:.0f}%)"
 
 
 def box(kind: str, x: float, y: float, width: float, height: float) -> str:
-    """Returns a rectangle around a middle."""
+    """Returns a rectangle with its middle at (x, y)."""
     corner = f'x="{x - width / 2:.1f}" y="{y - height / 2:.1f}"'
     return f'<rect class={kind} {corner} width="{width:.1f}" height="{height:.1f}" rx=6 />'
 
@@ -203,7 +203,7 @@ def picture_section(parts: dict[str, Any]) -> str:
 
 
 def as_script(value: object) -> str:
-    """Returns JSON in which no end of a script can stand."""
+    """Returns a value as JSON that cannot contain the end tag of a script."""
     return json.dumps(value, separators=(",", ":")).replace("<", "\\u003c")
 
 

@@ -18,7 +18,8 @@ from ways import hundredths
 # Above this many switches only the surroundings of the busiest channel are shown; above this many entries the page gets
 # no tables.
 MOST_SWITCHES, MOST_ENTRIES = 300, 1_200_000
-# In units of the SVG picture: the width of a letter, the distances between channels of one cable and between others.
+# In units of the SVG picture: the width of a letter, the distance between the two channels of a cable, the space
+# between switches, the least distance between rows, and the size of an inch of `groups`.
 LETTER, LINE, BESIDE, ROW, INCH = 7, 5, 26, 130, 90
 
 
@@ -39,13 +40,13 @@ class Picture:
         self.places = self.in_groups(group_of) if group_of is not None else self.in_rows(roots)
 
     def agrees(self, audit: Audit) -> bool:
-        """Returns whether an audit has the busiest channel and the mean that are counted here."""
+        """Returns whether an audit has the same greatest and mean load of channels as are counted here."""
         loads = self.loads.values()
         told = (max(loads), hundredths(sum(loads), len(loads))) if loads else (None, None)
         return told == (audit.busiest, audit.mean)
 
     def which(self) -> tuple[list[int], bool]:
-        """Returns the indices of the switches that are shown, and whether these are a part."""
+        """Returns the indices of the switches that are shown, and whether others are left out."""
         count = len(self.routes.guids)
         if count <= MOST_SWITCHES:
             return list(range(count)), False
@@ -63,7 +64,7 @@ class Picture:
         return self.names.get(guid, f"{guid:x}")
 
     def cables(self) -> list[tuple[Channel, Channel]]:
-        """Returns each cable between shown switches once, as both channels."""
+        """Returns each cable between shown switches once, as its two channels."""
         shown, found = set(self.shown), []
         for (i, port), far in sorted(self.ends.items()):
             back = self.routes.far[i][port][1]
@@ -114,8 +115,8 @@ class Picture:
         return {shown[guid]: (INCH * x, -INCH * y) for guid, (x, y) in where.items()}
 
     def lines(self) -> Iterator[tuple[Channel, tuple[float, float, float, float]]]:
-        """Yields each shown channel with both ends of its line. Channels of one cable, and cables of one pair, are
-        apart."""
+        """Yields each shown channel with both ends of its line. The two channels of a cable, and the cables between the
+        same two switches, are drawn apart."""
         beside = collections.Counter()
         for one, other in self.cables():
             i, far = one[0], other[0]
@@ -131,7 +132,8 @@ class Picture:
                 yield channel, ends if side == 1 else (*ends[2:], *ends[:2])
 
     def data(self) -> dict[str, Any] | None:
-        """Returns what the page follows packets by: names, cables and entries, or None if these are too many."""
+        """Returns what the page follows packets by: names, cables and entries, or None if there are too many
+        entries."""
         routes, width = self.routes, self.held.greatest + 1
         if len(routes.guids) * width > MOST_ENTRIES:
             return None

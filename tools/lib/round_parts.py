@@ -1,4 +1,4 @@
-"""What `tools/round` stands on: how it ends, what an audit says of tables, and an OpenSM that runs."""
+"""Parts of `tools/round`: how a round ends, what an audit says of tables, and a running OpenSM."""
 from __future__ import annotations
 
 import datetime
@@ -11,7 +11,7 @@ import time
 
 
 class Ended(Exception):
-    """A round goes no further."""
+    """A round ends here, with this exit status and verdict."""
 
     def __init__(self, status: int, verdict: str) -> None:
         super().__init__(verdict)
@@ -38,12 +38,13 @@ def digest(path: str | pathlib.Path) -> bytes:
 
 
 def last_line(text: str) -> str:
-    """Returns the last line of what a program said, or that it said nothing."""
+    """Returns the last line that a program printed, or a text that it said nothing."""
     return (text.strip() or "it said nothing").splitlines()[-1]
 
 
 class Audit:
-    """The text of an audit: how many pairs there are and arrive, and how busy channels are, if it tells."""
+    """The text of an audit: how many pairs there are, how many of them arrive and, if it says so, how busy channels
+    are."""
 
     def __init__(self, text: str) -> None:
         pairs = re.search(r"^pairs (\d+) arrive (\d+)$", text, re.M)
@@ -55,8 +56,8 @@ class Audit:
         self.busiest, self.mean = (int(load[1]), load[2]) if load else (None, None)
 
     def is_busier_than(self, other: "Audit") -> bool:
-        """Returns whether the busiest channel carries over a fifth more than that of `other`, for as many pairs of
-        adapters."""
+        """Returns whether the busiest channel carries, for each pair of adapters, over a fifth more than that of
+        `other`."""
         if None in (self.busiest, other.busiest) or not other.busiest:
             return False
         here, there = self.of_adapters or 1, other.of_adapters or 1
@@ -85,7 +86,7 @@ def file_of_tables(process: int) -> str | None:
 
 
 def judge_opensm(process: int, plan: str | pathlib.Path) -> None:
-    """Ends the round if a process is no OpenSM, or one that reads other tables than these."""
+    """Ends the round if a process is not an OpenSM, or is one that routes by a file other than `plan`."""
     if (name := name_of_process(process)) != "opensm":
         raise Ended(3, f"process {process} is {name}, not opensm")
     try:
@@ -97,7 +98,7 @@ def judge_opensm(process: int, plan: str | pathlib.Path) -> None:
 
 
 def ask_for_sweep(process: int, log: str, seconds: float) -> None:
-    """Sends HUP to an OpenSM, and waits until its log says that the subnet is up anew."""
+    """Sends HUP to an OpenSM, and waits until its log reports again that the subnet is up."""
     with open(log, "rb") as file:
         file.seek(0, os.SEEK_END)
         os.kill(process, signal.SIGHUP)
@@ -123,14 +124,14 @@ class Log:
         self.path, self.at = path, 0
 
     def note(self) -> None:
-        """Takes later sweeps in the log as news."""
+        """Notes the end of the log, so that only later sweeps count as news."""
         try:
             self.at = os.path.getsize(self.path)
         except OSError:
             self.at = 0
 
     def has_news(self) -> bool:
-        """Returns whether a sweep was told since `note`; True if the log cannot be read."""
+        """Returns whether the log reports a sweep since `note`, or cannot be read."""
         try:
             if os.path.getsize(self.path) < self.at:
                 self.at = 0
@@ -142,7 +143,7 @@ class Log:
 
 
 def words_of(path: str | pathlib.Path) -> list[str]:
-    """Returns the words of a file of options: a line each, a word as on the command line without its --, and its
+    """Returns the words of a file of options: each line has an option as on the command line, without its --, and its
     value."""
     words = []
     with open(path, encoding="utf-8") as file:

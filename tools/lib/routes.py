@@ -1,7 +1,8 @@
 """Where packets go by the tables of a plan, over the cables of the facts, and whom they reach.
 
-Switches are numbered by their GUIDs' order. The entries of all switches for one LID are a *column*, one byte each. LIDs
-whose owners sit at one switch mostly have the same column but for that switch, so each column is walked once.
+Switches are numbered in order of their GUIDs. The entries of all switches for a LID are its *column*, one byte each.
+LIDs whose owners are at the same switch mostly have the same column except at that switch, so each column is followed
+once.
 """
 from __future__ import annotations
 
@@ -14,7 +15,7 @@ from collections.abc import Iterable, Iterator
 import progress
 from ibsm_texts import ENTRIES, NO_WAY, NONE, Facts, Plan, name_of
 
-# The most faults that are said.
+# The most faults of a column that are reported.
 MOST_SAID = 20
 Channel = tuple[int, int]
 
@@ -37,8 +38,7 @@ class Routes:
                     self.home[end] = i, port
 
     def columns(self, lids: Iterable[int]) -> Iterator[tuple[int, bytes]]:
-        """Yields each of some rising LIDs with its column. Puts together no more than a block of each switch at a
-        time."""
+        """Yields each LID with its column. `lids` must rise. Joins only one block of each switch at a time."""
         for number, those in itertools.groupby(lids, lambda it: it // ENTRIES):
             start = number * ENTRIES
             stripe = b"".join(
@@ -49,9 +49,9 @@ class Routes:
                 yield lid, stripe[lid - start :: ENTRIES]
 
     def owned(self) -> Iterator[tuple[int, int | None, bytes]]:
-        """Yields each owned LID, rising, with its owner's switch and the column.
+        """Yields each LID that has an owner, in rising order, with the owner's switch and the LID's column.
 
-        At the owner's switch the column has 0 if packets leave it for the owner; if they do not, the switch is None.
+        If packets leave that switch for the owner, the column has 0 there. Otherwise the switch is None.
         """
         for lid, entries in self.columns(sorted(self.owners)):
             owner, column = self.owners[lid], bytearray(entries)
@@ -64,7 +64,7 @@ class Routes:
 
     @functools.cached_property
     def groups(self) -> dict[tuple[int | None, bytes], list[int]]:
-        """Returns the LIDs of each pair of the owners' switch and column."""
+        """Returns, for each pair of an owner's switch and a column, the LIDs that have both."""
         found = collections.defaultdict(list)
         for lid, at, column in self.owned():
             found[at, column].append(lid)
@@ -89,7 +89,7 @@ class Routes:
         return self.index[end[0]], None, None
 
     def arrivals(self, home: int | None, column: bytes) -> tuple[dict[int, bool | None], list[str]]:
-        """Returns whether packets arrive from each switch by one column, and what is wrong."""
+        """Returns whether packets arrive from each switch by a column, and what is wrong with it."""
         arrives, wrong = {}, []
         for start in range(len(self.guids)):
             at, passed = start, []
@@ -112,10 +112,11 @@ class Routes:
         return arrives, wrong
 
     def faults(self) -> tuple[list[str], int]:
-        """Returns what is wrong with the routes of LIDs, and of how many pairs of a switch and a LID no packet arrives.
+        """Returns what is wrong with the routes of LIDs, and for how many pairs of a switch and a LID no packet
+        arrives.
 
-        Looks at single switches only if something is wrong with a column. A LID with the column of the LID before it at
-        the same switch is not followed again.
+        Goes switch by switch only if something is wrong with a column. If a LID has the same column as the LID before
+        it at the same switch, it is not followed again.
         """
         nexts, last, odd, without = self.nexts(), {}, collections.defaultdict(list), 0
         for lid, home, column in progress.counted("follows packets for LIDs", self.owned(), len(self.owners)):
@@ -135,8 +136,8 @@ class Routes:
         return found, without
 
     def nexts(self) -> list[list[int]]:
-        """Returns for each switch and entry the next switch. Numbers above the switches stand for an arrival, the entry
-        255, and a fault."""
+        """Returns, for each switch and entry, the next switch. The three numbers after those of switches stand for an
+        arrival, the entry 255, and a fault."""
         count = len(self.guids)
         found = []
         for ports in self.far:
@@ -149,9 +150,9 @@ class Routes:
         return found
 
     def lost(self, nexts: list[list[int]], home: int | None, column: bytes) -> int | None:
-        """Returns from how many switches a column drops packets, or None if one loops or ends with a fault.
+        """Returns from how many switches packets end at an entry 255, or None if a packet loops or ends with a fault.
 
-        All packets advance at once, each round twice as far as before, until none does any more.
+        All packets advance together, twice as far in each round as in the one before, until none moves any more.
         """
         count = len(self.guids)
         at = [*map(operator.getitem, nexts, column), count, count + 1, count + 2]
@@ -165,14 +166,14 @@ class Routes:
         return without if not without or at.count(count + 1) - 1 == without else None
 
     def ends(self) -> dict[Channel, int]:
-        """Returns the channels and the switch that each leads to. A channel is a switch and its port with a cable to
-        another switch."""
+        """Returns each channel with the switch that it leads to. A channel is a switch with a port of it whose cable
+        leads to a switch."""
         return {(i, port): self.index[end[0]] for i, ports in enumerate(self.far) for port, end in ports.items()
                 if end[0] in self.index}
 
     def carried(self) -> dict[Channel, int]:
-        """Returns for each channel the number of routes that it carries: one for each adapter port and each LID of
-        another one."""
+        """Returns, for each channel, the number of routes that it carries: one for each adapter port and each LID of
+        another adapter port."""
         ends = self.ends()
         carried = dict.fromkeys(ends, 0)
         sources = collections.Counter(self.home[end][0] for end in set(self.owners.values()) if end in self.home)
@@ -191,7 +192,7 @@ class Routes:
         count: int,
         carried: dict[Channel, int],
     ) -> None:
-        """Adds the routes of one column to `carried`, beginning with the switches that no other one sends to."""
+        """Adds the routes of one column to `carried`, beginning with the switches that no other switch sends to."""
         ahead = [ends.get((at, port)) if at != home else None for at, port in enumerate(column)]
         waits = collections.Counter(ahead)
         routes = [sources[at] for at in range(len(column))]

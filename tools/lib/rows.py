@@ -4,12 +4,12 @@ from __future__ import annotations
 import collections
 from collections.abc import Collection, Iterable, Iterator, Sequence
 
-# How often neighbors determine the order of rows, from above and from below.
+# How often rows are ordered by their neighbors, each time from below and from above.
 SWEEPS = 6
 
 
 def distances(beside: dict[int, list[int]], starts: Iterable[int]) -> dict[int, int]:
-    """Returns how many cables each reachable node is away from the nearest of `starts`."""
+    """Returns, for each reachable node, how many cables it is away from the nearest of `starts`."""
     found = dict.fromkeys(starts, 0)
     waiting = collections.deque(found)
     while waiting:
@@ -37,8 +37,8 @@ def components(beside: dict[int, list[int]], nodes: Collection[int]) -> list[lis
 
 
 def tops(beside: dict[int, list[int]], leaves: Iterable[int], roots: Collection[int] = ()) -> Iterator[list[int]]:
-    """Yields the top switches of each component: the named roots, or the switches furthest from those with adapters, or
-    the switch whose furthest switch is nearest."""
+    """Yields the top switches of each component: the roots in it; without roots, the switches furthest from those with
+    adapters; if none is further than others, the switch whose furthest switch is nearest."""
     levels = distances(beside, sorted(leaves))
     for part in components(beside, beside):
         named = [switch for switch in part if switch in roots]
@@ -59,7 +59,7 @@ def ranks(beside: dict[int, list[int]], leaves: Iterable[int], roots: Collection
 def nested(
     beside: dict[int, list[int]], rank: dict[int, int], nodes: Collection[int], row: int, order: list[int]
 ) -> None:
-    """Orders nodes so that what is joined below a row stands together in all rows below it."""
+    """Appends nodes to `order` so that nodes that are joined below a row stand together in all rows below it."""
     order += [node for node in nodes if rank[node] == row]
     for part in components(beside, [node for node in nodes if rank[node] > row]):
         nested(beside, rank, part, min(rank[node] for node in part), order)
@@ -100,7 +100,7 @@ def by_neighbors(rows: Sequence[Sequence[int]], beside: dict[int, list[int]], is
 
 
 def ordered(beside: dict[int, list[int]], rank: dict[int, int]) -> list[list[int]]:
-    """Returns the rows of nodes, each in its order."""
+    """Returns the rows of nodes, each in the order in which the fewest cables were found to cross."""
     order, best = [], None
     for part in components(beside, rank):
         nested(beside, rank, part, min(rank[node] for node in part), order)
@@ -108,7 +108,7 @@ def ordered(beside: dict[int, list[int]], rank: dict[int, int]) -> list[list[int
     for node in order:
         rows[rank[node]].append(node)
     rows = [rows[row] for row in sorted(rows)]
-    # From below first, which keeps together what stands together at the bottom.
+    # The first pass goes from below, which keeps nodes together that are together at the bottom.
     for is_down in [None, *[False, True] * SWEEPS]:
         rows = rows if is_down is None else by_neighbors(rows, beside, is_down)
         count = crossings(rows, beside, places(rows))
@@ -119,7 +119,7 @@ def ordered(beside: dict[int, list[int]], rank: dict[int, int]) -> list[list[int
 
 def sags(rows: Iterable[Sequence[int]], beside: dict[int, list[int]]) -> dict[int, float]:
     """Returns how far each node stands below its row, from 0 to 1. If cables of a component join nodes of a row that
-    are not neighbors there, its part of the row is an arc, so that the cables do not run behind others."""
+    are not neighbors there, its part of the row is an arc, so that these cables do not run behind other nodes."""
     part_of = {node: i for i, part in enumerate(components(beside, beside)) for node in part}
     found = {}
     for row in rows:

@@ -1,5 +1,5 @@
-"""Facts of a recording in which something was silent, with what was known before of adapters that are still plugged
-in."""
+"""Completes the facts of a recording in which something was silent: adds what was known of adapters that are still
+plugged in."""
 from __future__ import annotations
 
 from collections.abc import Container
@@ -11,7 +11,7 @@ from record_files import KINDS
 
 
 def key_of(line: str) -> tuple[int, int, int]:
-    """Returns what a fact is about, in the order of a text."""
+    """Returns what a fact is about, as a key that sorts in the order of a text of facts."""
     kind, about = line.split(" ", 2)[:2]
     guid, _, port = about.partition("/")
     return KINDS[kind], int(guid, 16), int(port or 0)
@@ -20,8 +20,8 @@ def key_of(line: str) -> tuple[int, int, int]:
 class Completed:
     """The facts to plan from.
 
-    A switch without a known table or table size is left out, with what is joined by it alone. A silent adapter is kept
-    if it is in a port that is up, where it was before.
+    A switch without a known table or table size is left out, with the nodes that only it joins. A silent adapter is
+    kept if the port where it was before is up.
     """
 
     def __init__(self, facts: Facts, before: Facts | None, tables: Container[int]) -> None:
@@ -41,7 +41,7 @@ class Completed:
         self.ports = sorted(end for end in ups if end[1] and end not in links)
 
     def leave_out(self, lacking: set[int]) -> None:
-        """Removes nodes, and other nodes whose every wire led to them."""
+        """Removes nodes, and other nodes whose links all lead to removed ones."""
         beside = {}
         for end, far in self.facts.links.items():
             beside.setdefault(end[0], set()).add(far[0])
@@ -60,7 +60,7 @@ class Completed:
         }
 
     def keep(self) -> None:
-        """Adds what was known of adapters that are silent, or that did not tell the state of their port."""
+        """Adds what was known of adapters that are silent, or did not report the state of their port."""
         old = {key_of(line): line for line in self.before.lines if not line.startswith("floor ")}
         for end, far in sorted(self.before.links.items()):
             if self.before.wire(end) != far or self.before.type_of(far[0]) != "ca" or far[0] in self.left_out:
@@ -78,7 +78,7 @@ class Completed:
             self.kept[far] = self.before.claims.get(far, 0)
 
     def is_other(self) -> bool:
-        """Returns whether the facts are others than those that were recorded."""
+        """Returns whether the facts differ from those that were recorded."""
         return bool(self.kept or self.left_out)
 
     def text(self) -> str:
@@ -108,7 +108,7 @@ def line_of(told: dict[str, Any]) -> str:
 
 
 def add_lids(path: Path, kept: dict[End, int], lmc: int | None) -> None:
-    """Writes the LIDs of kept ports, which they can't tell now, into held tables."""
+    """Adds to held tables the LIDs of kept ports, which cannot report them now."""
     with open(path) as file:
         lines = file.read().splitlines(True)
     lids = [line for line in lines if line.startswith("lid ")]

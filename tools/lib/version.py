@@ -4,7 +4,7 @@ from __future__ import annotations
 import pathlib
 
 VERSION = "0.1.0"
-# In an installed copy, a file beside the tools tells the commit, and whether the program is proved.
+# In an installed copy, a file beside the tools names the commit, and says whether the program is proved.
 BUILT = pathlib.Path(__file__).resolve().parent.parent / "built"
 
 

@@ -1,4 +1,5 @@
-"""How evenly routes spread, by a count of all ways: the figures of an audit, and channels that no route takes."""
+"""How evenly routes spread, counted by following all of them: the figures of an audit, and channels that no route
+takes."""
 from __future__ import annotations
 
 import collections
@@ -8,7 +9,7 @@ from routes import Routes
 
 
 def hundredths(total: int, count: int) -> str:
-    """Returns a mean with two digits behind the point, rounded down."""
+    """Returns a mean with two digits after the point, rounded down."""
     return f"{total // count}.{100 * total // count % 100:02}"
 
 

@@ -2,7 +2,7 @@
  * Requests, and their replies in the order of the requests.
  *
  * Several requests are out at a time. Replies come in any order and wait for their turn, so what is asked next, and
- * what is written, doesn't depend on which was faster.
+ * what is written, does not depend on which reply was faster.
  */
 #include <errno.h>
 #include <signal.h>

@@ -3,14 +3,14 @@
  *   pointer   answers over no hops come back with hop pointer 1
  *   status    PortInfo of port 2 is refused with status 0x001C
  *   type      a node two hops away says that it is of type 9
- *   names     nodes one hop away and farther have one name, with a quote and a control character
- *   unnamed   nodes one hop away do not tell their names
+ *   names     nodes one hop away and farther have the same name, with a quote and a control character
+ *   unnamed   nodes one hop away do not give their names
  *   lanes     SL-to-VL maps of packets that leave by port 2 are refused with status 0x001C
- *   narrow    ports 2 carry lanes 0 and 1 alone
- *   single    ports 2 have lane 0 alone, and maps of packets that leave by them are refused as by `lanes`
+ *   narrow    ports 2 carry only lanes 0 and 1
+ *   single    ports 2 have only lane 0, and maps of packets that leave by them are refused as by `lanes`
  *   slow      each reply takes 100 milliseconds
  *   stop      the fifth Set comes with an interrupt
- *   other     the answer to the fifth Set tells another first entry
+ *   other     the answer to the fifth Set has another first entry
  *   refuse    the fifth Set is refused with status 0x001C
  * Each packet is appended to the file that the variable PACKETS names, as a line: `out` or `in`, and its hex digits.
  */

@@ -9,7 +9,7 @@
 #include "record.h"
 
 enum { FEW_LINES = 20, WIDEST = 100 };
-/* Seconds until a terminal shows progress, and until it shows it anew. */
+/* Seconds until a terminal shows progress, and between updates. */
 #define FIRST_LINE 2.0
 #define NEXT_LINE 0.5
 
@@ -31,7 +31,7 @@ void clear_line(void)
 	is_shown = 0;
 }
 
-/* Ends by _exit: in exit, a simulator's library in place of libibumad waits for ever while a port is open. */
+/* Ends by _exit: in exit, a simulator's library in place of libibumad waits forever while a port is open. */
 void end(int status, const char *format, ...)
 {
 	va_list values;

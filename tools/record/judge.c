@@ -1,4 +1,4 @@
-/* Why tables must not be written into a subnet: they are another one's, not whole, or lead packets astray. */
+/* Why tables must not be written into a subnet: they are those of another subnet, are cut, or lead packets astray. */
 #include <stdlib.h>
 #include <string.h>
 #include "send.h"
@@ -127,7 +127,7 @@ static int32_t place_of_hop(const struct node *node)
 	return NO_CABLE;
 }
 
-/* Lists the switches with a table, and for each port where a packet that leaves by it arrives. */
+/* Lists the switches with a table and, for each port, where a packet that leaves by it arrives. */
 static void lay_out(const struct wanted *wanted)
 {
 	int32_t *place = more(NULL, known_nodes() + 1, sizeof *place);
@@ -152,7 +152,8 @@ static void lay_out(const struct wanted *wanted)
 	free(place);
 }
 
-/* Returns the switch that a LID's owner is or is wired to; `port` gets the port by which packets leave it there. */
+/* Returns the switch that a LID's owner is or is wired to; `port` gets the port by which packets leave that switch
+   for the owner. */
 static int32_t home_of(const struct range *range, uint8_t *port)
 {
 	struct node *node = find(range->guid), *far;
@@ -192,7 +193,7 @@ static enum fate ends_at(size_t at, uint32_t lid, int is_home, uint8_t home_port
 	return ASTRAY;
 }
 
-/* Follows packets for a LID from every switch, and returns how many have no way. */
+/* Follows packets for a LID from every switch, and returns from how many of these there is no way. */
 static unsigned long follow(const struct range *range, uint32_t lid, uint8_t *fate, uint32_t *passed)
 {
 	uint8_t home_port;

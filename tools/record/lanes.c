@@ -1,11 +1,11 @@
-/* The SL-to-VL maps of switches: for each level the lane of packets from one port to another. */
+/* The SL-to-VL maps of switches: for each level, the lane of packets from one port to another. */
 #include <stdlib.h>
 #include <string.h>
 #include "record.h"
 
 enum { LEVELS = 16, DROPS = 15, PORTS = 256 };
 
-/* Returns how many ports of a switch are up; `place`, if given, has the number of each among them. */
+/* Returns how many ports of a switch are up; `place`, if given, gets the number of each among them. */
 static size_t ports_up(const struct node *node, uint8_t *place)
 {
 	size_t count = 0;
@@ -50,7 +50,7 @@ static int comes_by(const struct node *node, int port)
 	return port == 0 || node->carries[port];
 }
 
-/* Asks for a map, unless the port that packets leave by has none: they take lane 0 then. */
+/* Asks for a map, unless the port that packets leave by has none: then they take lane 0. */
 static void ask_map(const struct node *node, int into, int out)
 {
 	if (node->carries[out] == ALONE)

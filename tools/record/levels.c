@@ -1,6 +1,7 @@
 /*
- * The service levels of paths, as the subnet administration (SA) gives them to hosts: a Get of PathRecord for each pair
- * of an end port and a LID that another one has. Several requests are out at a time, and answers come in any order.
+ * The service levels of paths, as the subnet administration (SA) gives them to hosts: a Get of PathRecord for each
+ * pair of an end port and a LID of another end port. Several requests are out at a time, and answers come in any
+ * order.
  */
 #include <errno.h>
 #include <stdlib.h>
@@ -29,7 +30,7 @@ static const struct lid **owners;	/* by LID */
 static size_t greatest, next_source;
 static uint32_t next_lid, number = 1;
 static unsigned long without, answers;
-static int is_silent;	/* so many queries had no answer, and none had one, that no more are sent */
+static int is_silent;	/* MOST_SILENT queries had no answer, and none had one: no more are sent */
 
 static uint8_t *level_of(size_t source, size_t lid)
 {
@@ -44,7 +45,7 @@ static int is_asked(size_t source, size_t lid)
 	return to && to != from && (!options.adapters || (from->port && to->port));
 }
 
-/* Lists the owners of LIDs; returns how many ports have one. */
+/* Lists the owners of LIDs, and returns how many ports have a LID. */
 static size_t list_owners(void)
 {
 	size_t i, lid, last, count = 0;
@@ -207,7 +208,7 @@ int read_levels(void)
 	return !without;
 }
 
-/* Finds the level that most pairs have. Returns whether no pair lacks one. */
+/* Finds the level that most pairs have. Returns whether each pair has a level. */
 static int find_usual(int *usual)
 {
 	unsigned long count[LEVELS] = { 0 };
@@ -253,7 +254,7 @@ static int by_end(const void *one, const void *other)
 	return a->guid != b->guid ? (a->guid < b->guid ? -1 : 1) : a->port - b->port;
 }
 
-/* Prints the levels. One holds for packets without a line of their own only if no pair lacks a level. */
+/* Prints the levels. A level for all other packets is among them only if no pair lacks a level. */
 void print_levels(FILE *file)
 {
 	size_t *sources = more(NULL, known_lids() + 1, sizeof *sources), i, first;

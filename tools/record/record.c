@@ -1,8 +1,8 @@
 /*
  * record: asks the nodes of an InfiniBand subnet what they are, and keeps the replies in a recording for ibsm.
  *
- * It sends Gets alone, so it changes nothing, and a subnet manager may run meanwhile: over directed routes, and with
- * --levels to the subnet administration. The manual page, record.1, has the options and exit statuses.
+ * It sends only Gets, over directed routes and, with --levels, to the subnet administration. So it changes nothing,
+ * and a subnet manager may run meanwhile. The manual page, record.1, has the options and exit statuses.
  */
 #include <errno.h>
 #include <getopt.h>
@@ -79,7 +79,7 @@ static void take_option(int letter)
 	}
 }
 
-/* Refuses options that name one file for two texts. */
+/* Refuses options that name the same file for two outputs. */
 static void tell_apart(void)
 {
 	const char *names[] = { options.file, options.tables, options.names, options.lanes };
@@ -142,7 +142,7 @@ static void keep_reply(const struct request *request, const uint8_t *reply)
 	keep(&report, request, reply);
 }
 
-/* Writes a text that was asked for if it is there. */
+/* Puts a file that was asked for in place, if there is a text for it. */
 static void finish(struct whole_file *file, const char *name, int is_there)
 {
 	if (name && is_there)
@@ -162,7 +162,7 @@ static int record(struct whole_file *tables, struct whole_file *names, struct wh
 	if (options.lanes)
 		has_lanes = read_lanes() || options.partial;
 	if (options.names)
-		read_names();	/* last of what is found by GUIDs: a missing name is no gap in the tables */
+		read_names();	/* the last to find nodes by GUID: a missing name is not a gap in the tables */
 	sort_found();
 	if (options.levels)
 		has_lanes &= read_levels() || options.partial;

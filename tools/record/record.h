@@ -8,7 +8,7 @@
 
 enum { NODE_DESCRIPTION = 0x10, NODE_INFO = 0x11, SWITCH_INFO = 0x12, PORT_INFO = 0x15, LANE_TABLE = 0x17 };
 enum { FORWARDING_TABLE = 0x19 };
-enum { ALONE = 16 };	/* a port has no other lane of data than 0, and no SL-to-VL map */
+enum { ALONE = 16 };	/* a port has only data lane 0, and no SL-to-VL map */
 enum context { START, VIA, ABOUT };
 enum node_type { ADAPTER = 1, SWITCH = 2, ROUTER = 3 };
 enum { MOST_HOPS = 63, MOST_OUT = 64, PACKET = 256, ATTRIBUTE = 64, BLOCK = 64 };
@@ -57,7 +57,7 @@ void progress(size_t nodes, size_t waiting);
 double now(void);
 uint64_t number_in(const char *text, const char *what, uint64_t least, uint64_t most);
 void print_usage(FILE *file, const char *text);
-/* Takes an option that both have; returns 0 if it is none. */
+/* Takes an option that the tools share. Returns 0 if it is not one. */
 int take_shared_option(int letter, const char *text);
 uint64_t get(const uint8_t *bytes, int count);
 void put(uint8_t *bytes, int count, uint64_t value);
@@ -68,18 +68,18 @@ struct own_port {
 	uint64_t guid;
 	int number;
 };
-/* Opens the port, or ends; returns libibumad's number of it. */
+/* Opens the port and returns libibumad's number for it, or ends. */
 int open_own_port(struct own_port *port);
 
 /* ask.c: requests, and their replies in the order of the requests. */
 void open_port(void);
 void close_port(void);
-int opened_port(void);	/* libibumad's number of the port */
+int opened_port(void);	/* libibumad's number for the port */
 struct request *ask(const struct path *path, uint16_t attribute, uint32_t modifier, uint64_t guid);
 size_t asked_and_waiting(void);
 /* Sends all requests, and those that `take` adds; a reply is NULL if none came. */
 void ask_all(void (*take)(const struct request *request, uint8_t *reply));
-/* Sends none of the waiting requests; a signal handler may call it. */
+/* Stops sending: waiting requests do not go out. A signal handler may call it. */
 void stop_asking(void);
 
 /* report.c: files that are whole or absent. */
@@ -109,7 +109,7 @@ struct node {
 	uint8_t *table;
 	uint8_t lacks;		/* a missing reply about it: 1 about a port, 2 about its table, 4 about its lanes */
 	uint8_t asked[256];	/* an adapter's ports whose PortInfo was asked */
-	uint8_t *name;		/* ends with 0; NULL if it was not asked or told */
+	uint8_t *name;		/* ends with 0; NULL if it was not asked for or given */
 	int is_shared;		/* another node has this name too */
 	struct shape *shape;	/* what send knows of it */
 	uint8_t *carries;	/* by port of a switch: how many lanes of data it carries, 0 if it is not up; or ALONE */
@@ -122,7 +122,7 @@ struct node *node_at(size_t place);
 struct node *find(uint64_t guid);
 /* Returns whether there is a reply that ibsm takes, or says why not. */
 int is_good(const struct request *request, uint8_t *reply);
-/* Reads the forwarding tables; returns 0 if a reply about a known node is missing. */
+/* Reads the forwarding tables. Returns 0 if a reply about a known node is missing. */
 int read_tables(void);
 void print_tables(FILE *file);
 /* Asks each node for its name; a silent node has none. */

@@ -30,7 +30,7 @@ static char **place_of(const char *temporary)
 	return &begun[i];
 }
 
-/* Keeps standard output until it is whole, since a reader could not tell that it is cut. */
+/* Keeps standard output until it is whole, since a reader could not see that it is cut. */
 static void begin_output(struct whole_file *file)
 {
 	file->name = "standard output";

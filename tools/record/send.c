@@ -1,8 +1,8 @@
 /*
  * send: writes tables into an InfiniBand subnet by directed Sets, where they differ from what it holds.
  *
- * It reads the subnet first, as record does, judges the tables, and sets LIDs, then blocks, then tops, each once all
- * before is answered. The manual page, send.1, has the options and exit statuses.
+ * It first reads the subnet, as record does, and judges the tables. Then it sets LIDs, then blocks, then tops, each
+ * kind once all Sets before it are answered. The manual page, send.1, has the options and exit statuses.
  */
 #include <getopt.h>
 #include <signal.h>
@@ -40,7 +40,7 @@ static const char usage_text[] =
 "is wrong; 3 where TABLES are refused, and nothing is written; 4 without a subnet, or where it or TABLES cannot be read;\n"
 "5 without memory; 128 and the signal's number where one ended it.\n";
 
-/* What to set, with the old value and the one that is read back. */
+/* What to set, with the old LID or top and the new one. */
 struct order {
 	struct path path;
 	uint64_t guid;
@@ -116,8 +116,8 @@ static struct order *add(const struct node *node, const struct path *path, uint1
 }
 
 /*
- * Returns the LID of the subnet's manager, as this machine's port tells it, or its new one in TABLES; 0 if unknown. The
- * first node that a sweep finds is this machine's.
+ * Returns the LID of the subnet's manager, as this machine's port reports it, or its new one in TABLES; 0 if unknown.
+ * The first node that a sweep finds is this machine's.
  */
 static uint16_t manager_lid(const struct wanted *wanted)
 {
@@ -138,8 +138,8 @@ static uint16_t manager_lid(const struct wanted *wanted)
 }
 
 /*
- * Sets the LID, the LMC and the manager's LID in PortInfo as it was read. Fields whose value when read is none to write
- * say "no change".
+ * Sets the LID, the LMC and the manager's LID in PortInfo as it was read. Fields whose value must not be written back
+ * as it was read get "no change".
  */
 static void change_port(uint8_t *info, const struct range *range, uint16_t manager)
 {
@@ -184,7 +184,7 @@ static void order_lids(const struct wanted *wanted)
 	}
 }
 
-/* Orders the blocks that differ. A block above the held top was not read, and is always written. */
+/* Adds orders for the blocks that differ. A block above the held top was not read, and is always written. */
 static void order_blocks(const struct wanted *wanted)
 {
 	uint32_t block;
@@ -210,7 +210,7 @@ static void order_blocks(const struct wanted *wanted)
 	}
 }
 
-/* Orders the tops that differ. PortStateChange stays, since only the manager clears it. */
+/* Adds orders for the tops that differ. PortStateChange stays, since only the manager clears it. */
 static void order_tops(const struct wanted *wanted)
 {
 	struct order *order;

@@ -52,13 +52,13 @@ struct choices {
 
 extern struct choices choices;
 
-/* subnet.c: what replies tell, for judging and setting. */
+/* subnet.c: what replies say, for judging and setting. */
 void note_reply(const struct request *request, const uint8_t *reply);
-/* Returns the first fact that was told in two ways, or NULL. */
+/* Returns the first fact of which replies say different things, or NULL. */
 const char *what_is_disputed(void);
 struct port *port_of(const struct node *node, uint8_t port);
 int is_up(const struct port *port);
-/* Returns the far end of the cable in a port, and its node, if both ends tell of it and are up, or else NULL. */
+/* Returns the far end of the cable in a port, and its node, if both ends report it and are up, or else NULL. */
 struct port *across(const struct node *node, uint8_t port, struct node **far);
 
 /* wanted.c: TABLES, or why they are refused. */

@@ -1,4 +1,4 @@
-/* What a sweep tells besides the nodes: their ports, the far ends, and the attributes that Sets carry on. */
+/* What a sweep finds besides the nodes: their ports, the far ends, and the attributes from which Sets are made. */
 #include <stdlib.h>
 #include <string.h>
 #include "send.h"

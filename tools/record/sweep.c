@@ -1,4 +1,4 @@
-/* What is asked: each node breadth first, each port of it, and what lies behind those that are up; then the tables. */
+/* What is asked: each node breadth first, each port of it, and what is behind those that are up; then the tables. */
 #include <stdlib.h>
 #include <string.h>
 #include "record.h"
@@ -11,7 +11,7 @@ static uint32_t *index_of, index_room;	/* open addressing: index in nodes, plus 
 static struct lid *lids;
 static size_t lid_count, lid_room;
 static void (*seen)(const struct request *request, const uint8_t *reply);
-static int missing;	/* replies about nodes that are known, without those about lanes */
+static int missing;	/* missing replies about known nodes, except those about lanes */
 static uint16_t to_manager;
 static uint8_t level_to_manager;
 
@@ -77,7 +77,8 @@ static void ask_port(const struct request *request, uint64_t guid, uint8_t type,
 	asked->type = type;
 }
 
-/* Asks a switch for all its ports, and an adapter for the port that was reached, by its number; 0 would mean it too. */
+/* Asks a switch for all its ports, and an adapter for the port that was reached, by its number; 0 would also mean
+   that port. */
 static void on_node_info(const struct request *request, const uint8_t *info)
 {
 	uint64_t guid = get(info + 12, 8);
@@ -142,7 +143,7 @@ static void note_lanes(const struct request *request, const uint8_t *info)
 		node->carries = more(NULL, PORTS, 1);
 		memset(node->carries, 0, PORTS);
 	}
-	/* 0 and numbers without a meaning leave all lanes. VLCap tells whether there is more than one. */
+	/* 0 and undefined numbers leave all lanes. VLCap says whether there is more than one. */
 	node->carries[request->modifier] = info[37] >> 4 == 1 ? ALONE :
 		operational >= 1 && operational <= 4 ? 1 << (operational - 1) : MOST_LANES;
 }
@@ -320,7 +321,7 @@ void sort_found(void)
 	qsort(nodes, node_count, sizeof *nodes, by_guid);
 }
 
-/* Prints the names of nodes, once they are sorted. */
+/* Prints the names of nodes, which must be sorted. */
 void print_names(FILE *file)
 {
 	struct node **named = more(NULL, node_count, sizeof *named);
@@ -339,7 +340,7 @@ void print_names(FILE *file)
 			print_name(file, nodes[i].guid, nodes[i].name, nodes[i].is_shared);
 }
 
-/* Prints tables in the form of a plan, once what was found is sorted: without switches whose table is not whole. */
+/* Prints tables in the form of a plan, without switches whose table was not read whole, once all is sorted. */
 void print_tables(FILE *file)
 {
 	size_t i;

@@ -14,7 +14,7 @@ static void refuse(const char *line)
 	end(REFUSED, "%s: line %lu is no line of a plan: %.60s", name, line_number, line);
 }
 
-/* Reads a decimal number of at most `most` at *text, and moves *text behind it. */
+/* Reads a decimal number of at most `most` at *text, and moves *text past it. */
 static int number_at(const char **text, unsigned long most, unsigned long *value)
 {
 	const char *first = *text;

@@ -1,6 +1,7 @@
 /*
  * Packets between the port and the process that decides: byte for byte as printed and as received, except for the
- * TransactionID of a request. Linux halves that, so requests are numbered here, and answers get theirs back.
+ * TransactionID of a request. Linux keeps only half of that, so requests are numbered here, and answers get their own
+ * numbers back.
  *
  * Printed packets wait in a queue for their turn in a window. Answers to others go out at once and outside it.
  */
@@ -41,7 +42,7 @@ static char silent[MOST_SILENT][SILENT_TEXT];
 static size_t silent_count;
 static unsigned not_active;
 
-/* Becomes the port's subnet manager, of which there is one: the open file tells the kernel so. */
+/* Becomes the port's only subnet manager: the open file says so to the kernel. */
 void be_manager(void)
 {
 	char path[256];
@@ -219,7 +220,7 @@ const char *silent_request(size_t place)
 	return silent[place];
 }
 
-/* Notes a silent path, in the form that smpquery -D takes. */
+/* Notes a request without an answer, with its path in the form that smpquery -D takes. */
 static void note_silent(const uint8_t *packet)
 {
 	char *text = silent[silent_count];
@@ -281,8 +282,8 @@ static const char *give(const uint8_t *packet, unsigned lid)
 	return tell("packet %s from %u", hex, is_directed(packet) ? NO_LID : lid);
 }
 
-/* Says again that a manager is here, if the port has lost that: other managers would not ask this one. ibsim takes it
-   from the port when it finds an earlier process dead. */
+/* Says again that a manager is here, if the port has lost that (IsSM): other managers would not ask this one. ibsim
+   clears it when it finds that an earlier process is dead. */
 static void keep_manager(const uint8_t *packet)
 {
 	uint32_t modifier = get(packet + 20, 4);
@@ -314,8 +315,7 @@ static void count_port(const uint8_t *packet)
 		      (port_state == INITIALIZE || port_state == ARMED);
 }
 
-/* Returns whether an answer is that to a poll: sweeps number their requests from 2^32 on, and controls have a
-   modifier. */
+/* Returns whether an answer is to a poll: sweeps number their requests from 2^32 on, and controls have a modifier. */
 static int is_poll(const uint8_t *packet)
 {
 	return !get(packet + 8, 4) && get(packet + 16, 2) == SM_INFO && !get(packet + 20, 4);
@@ -327,7 +327,7 @@ static int answers(const uint8_t *packet, const uint8_t *request)
 	       get(packet + 20, 4) == get(request + 20, 4);
 }
 
-/* Ends if the node tells another GUID or port than the manager was told. */
+/* Ends if the node reports another GUID or port than the manager was given. */
 static void check_own_port(const uint8_t *packet)
 {
 	const uint8_t *info = packet + ATTRIBUTE;
@@ -339,7 +339,7 @@ static void check_own_port(const uint8_t *packet)
 		    (unsigned long long) own_port.guid, (unsigned long long) get(info + 20, 8), info[36]);
 }
 
-/* Passes an answer to the manager. A refused one, as with a status other than 0, gives up its request. */
+/* Passes an answer to the manager. If the manager refuses it, as for a status other than 0, the request is given up. */
 static void on_answer(uint8_t *packet, unsigned lid)
 {
 	int place = place_of(packet);
@@ -372,7 +372,7 @@ static void on_answer(uint8_t *packet, unsigned lid)
 	tell("timeout %016llx", (unsigned long long) get(out.tid, 8));
 }
 
-/* Notes a trap. Passes one by LIDs on if this manager is master; the process then represses it. */
+/* Notes a trap. If this manager is master, passes on a trap that came by LIDs, which the process then represses. */
 static void on_trap(const uint8_t *packet, unsigned lid)
 {
 	carried.traps++;

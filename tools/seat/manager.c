@@ -1,4 +1,5 @@
-/* The process of `ibsm serve` that decides: a line is told, and its answer is read up to the line of a dot. */
+/* The process of `ibsm serve` that decides: a line is written to it, and its answer is read up to the line with a
+   dot. */
 #include <errno.h>
 #include <signal.h>
 #include <stdarg.h>

@@ -1,6 +1,6 @@
 /*
- * When to tell what: a sweep if there is news or it is time for one, a writing after a sweep that has every answer and
- * whose plan is not what was written, polls while another manager is the master.
+ * When the process is told what: to sweep if there is news or it is time for it, to write after a sweep that has
+ * every answer and whose plan is not what was written, and to poll while another manager is the master.
  *
  * Nothing is told while a packet is queued or out.
  */
@@ -11,7 +11,7 @@
 
 enum phase { RESTS, SWEEPS, WRITES, HANDS_OVER };
 enum { LINK_STATE_CHANGED = 128, CAPABILITIES_CHANGED = 144, MOST_REPEATS = 3, MOST_POLLS = 3, MOST_WAIT = 10 };
-enum { OPENSM_KEY = 1 };	/* that of the process if none is given */
+enum { OPENSM_KEY = 1 };	/* the process's SM_Key if none is given */
 #define SHORTEST 1.0	/* seconds from the beginning of one sweep to that of the next */
 #define ACKNOWLEDGED 1.0	/* seconds that a manager may take to acknowledge a handover, after its answer to it */
 
@@ -142,7 +142,7 @@ static void read_progress(void)
 	status.managers = managers;
 }
 
-/* Returns whether the process takes a manager of this SM_Key for one of its subnet. */
+/* Returns whether the process counts a manager with this SM_Key as one of its subnet. */
 static int is_heard(unsigned long long key)
 {
 	unsigned long long own = seat.sm_key ? strtoull(seat.sm_key, NULL, 16) : OPENSM_KEY;
@@ -150,9 +150,9 @@ static int is_heard(unsigned long long key)
 	return !own || key == own;
 }
 
-/* Notes whether the sweep saw a master, which a standby then polls. Counts sweeps in a row that saw none. A master that
-   this manager wins over swept before this one stood by, or it would have handed over: so this one is announced anew,
-   once, and the master sweeps. */
+/* Notes whether the sweep saw a master, which a standby then polls. Counts sweeps in a row that saw none. If this
+   manager wins over the master, the master swept before this one stood by, or it would have handed over. So this one
+   is announced anew, once, and the master sweeps. */
 static void look_for_master(void)
 {
 	unsigned long long guid, key;
@@ -183,8 +183,9 @@ void heard_poll(int is_master)
 	has_master &= is_master;
 }
 
-/* Makes a standby discover anew, since nobody is master: all that are left may be standbys, and each of them answers
-   polls. The manager does so if three polls in a row have no answer, so polls are given up that never go out. */
+/* Makes a standby discover anew, since nobody is master: all managers left may be standbys, and each of them answers
+   polls. The process discovers anew if three polls in a row have no answer, so it is made to poll, and these polls
+   are given up without going out. */
 static void leave_standby(void)
 {
 	int i;
@@ -229,7 +230,7 @@ static void write_plan(const char *plan)
 	phase = WRITES;
 }
 
-/* Hands the subnet, once written, over to a manager that wins over this one. */
+/* Hands the subnet over, once it is written, to a manager that wins over this one. */
 static void hand_over(void)
 {
 	if (strncmp(tell("handover"), "refused ", 8))

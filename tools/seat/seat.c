@@ -1,7 +1,7 @@
 /*
  * seat: the port, the clock and the policy of a subnet manager whose decisions are those of `ibsm serve`.
  *
- * It carries packets between the two, byte for byte, and says when to sweep, to write and to poll. It is no subnet
+ * It carries packets between the two, byte for byte, and says when to sweep, to write and to poll. It is not a subnet
  * administration. The manual page, seat.1, has the options and exit statuses.
  */
 #include <errno.h>
@@ -157,7 +157,7 @@ static void parse(int count, char **texts)
 		take_option('?');
 }
 
-/* Starts the process. Packets of an earlier one are done with before it is told the first line. */
+/* Starts the process. Packets of an earlier process are dropped before the new one gets its first line. */
 static void start(void)
 {
 	static double started;

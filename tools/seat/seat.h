@@ -32,7 +32,8 @@ int is_ended(void);
 void start_manager(void);
 void stop_manager(void);
 int manager_is_gone(void);
-/* Tells the process a line. Returns its answer, until the next call, without the packets: queue_packet gets those. */
+/* Writes a line to the process. Returns its answer, kept until the next call, without packets: queue_packet gets
+   those. */
 const char *tell(const char *format, ...) __attribute__((format(printf, 1, 2)));
 
 /* carry.c: packets. */
@@ -64,12 +65,12 @@ void begin_ports(void);
 /* Returns how many ports a sweep has read as Initialize or Armed since the count began. */
 unsigned ports_not_active(void);
 
-/* policy.c: when what is told. */
+/* policy.c: when the process is told what. */
 void begin_policy(void);
 void policy(void);
-/* Notes that something was told besides the policy's own lines. */
+/* Notes that the process got a line other than the policy's own. */
 void heard_news(void);
-/* Notes a trap, and returns whether this manager is master, so that it is told. */
+/* Notes a trap, and returns whether this manager is master and so gets the trap. */
 int heard_trap(unsigned number, unsigned lid);
 void heard_hangup(void);
 /* Notes what the answer to a poll says: whether its sender is master. */

@@ -70,7 +70,7 @@ static void print_status(FILE *file, const struct standing *status)
 	fprintf(file, "}\n");
 }
 
-/* Writes the status file. A failure is said once, and the manager goes on. */
+/* Writes the status file. A failure is reported once, and the manager goes on. */
 void write_status(const struct standing *status)
 {
 	static char *temporary;
