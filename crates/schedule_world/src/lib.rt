@@ -4,8 +4,8 @@
 mod ask;
 mod cables;
 mod commands;
-mod merge;
 mod delivery;
+mod merge;
 mod show;
 mod world;
 

@@ -63,5 +63,4 @@ line_in (word ∷ rest) =
 
 -- the line of a text of tables that the bytes `line` give; None if the grammar has no such line
 unfoldable pub line_of : List ℕ → Option TextLine
-
 line_of line = line_in (words line)
