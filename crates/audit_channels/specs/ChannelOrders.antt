@@ -17,7 +17,7 @@ LeadToChannels waits = (channel next : ℕ) → Follows waits channel next → n
 abbrev pub AreWith : List ℕ → ℕ → List ℕ → Type 0
 AreWith old channel new = (c : ℕ) → Contains new c ↔ (Contains old c ⊎ (c ≡ channel))
 
--- in `new` a channel `b` follows a channel `a` exactly when it does in `old`, or if `b` is `next` and `a` is
+-- in `new` a channel `b` follows a channel `a` exactly when it does in `old`, or when `b` is `next` and `a` is
 -- `channel`
 pub record IsWith (old : List (List ℕ)) (channel next : ℕ) (new : List (List ℕ)) : Type 0 where
   pub as_many : length new ≡ length old

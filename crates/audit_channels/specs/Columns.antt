@@ -34,14 +34,14 @@ pub record IsTurn (before now : List (Option Edge)) (vertex : ℕ) (turn : Turn)
 abbrev pub TakesAmong : ℕ → List (Option Edge) → List (Option Edge) → ℕ → ℕ → Type 0
 TakesAmong count before now channel next = (vertex : ℕ) × (vertex < count) × TakesAcross before now vertex channel next
 
--- in `new` a channel `b` follows a channel `a` exactly when it does in `old`, or if a packet takes `a` by `before`
+-- in `new` a channel `b` follows a channel `a` exactly when it does in `old`, or when a packet takes `a` by `before`
 -- and then `b` by `now`, from one of the first `count` vertices on
 pub record IsWithSome (count : ℕ) (old : List (List ℕ)) (before now : List (Option Edge)) (new : List (List ℕ)) : Type 0
   where
     pub as_many : length new ≡ length old
     pub follows : (a b : ℕ) → Follows new a b ↔ (Follows old a b ⊎ TakesAmong count before now a b)
 
--- in `new` a channel `b` follows a channel `a` exactly when it does in `old`, or if a packet takes `a` by `before`
+-- in `new` a channel `b` follows a channel `a` exactly when it does in `old`, or when a packet takes `a` by `before`
 -- and then `b` by `now`, from some vertex on
 abbrev pub IsWithAcross : List (List ℕ) → List (Option Edge) → List (Option Edge) → List (List ℕ) → Type 0
 IsWithAcross old before now new = IsWithSome (length before) old before now new
@@ -50,7 +50,7 @@ IsWithAcross old before now new = IsWithSome (length before) old before now new
 abbrev pub TakesInTurn : List (Option Edge) → ℕ → ℕ → ℕ → Type 0
 TakesInTurn column vertex channel next = TakesAcross column column vertex channel next
 
--- in `new` a channel `b` follows a channel `a` exactly when it does in `old`, or if a packet takes `a` and then `b`
+-- in `new` a channel `b` follows a channel `a` exactly when it does in `old`, or when a packet takes `a` and then `b`
 -- by `column`
 abbrev pub IsWithColumn : List (List ℕ) → List (Option Edge) → List (List ℕ) → Type 0
 IsWithColumn old column new = IsWithAcross old column column new

@@ -81,8 +81,8 @@ fn choose_in_turn(
 }
 
 /// Returns the number of the candidate that is the first choice of `position` towards the end with the number `number`.
-/// Returns 0 if `position` has no candidate. There must be such a position, and `weights` must have the digit weight of
-/// each position. `number` plus the number of positions must fit in 64 bits.
+/// Returns 0 if `position` has no candidate. `weights` has the digit weight of each position, and must have an entry
+/// for each. There must be such a position, and `number` plus the number of positions must fit in 64 bits.
 pub(crate) fn first_choice(
     ways: &Adjacency,
     weights: &[usize],
@@ -174,9 +174,9 @@ fn take(
     }
 }
 
-/// Takes the packets that each position sends off the loads of the channels on their way. `taken` has the edge that is
-/// taken at each position. `sent` must have the number of packets that each position sends, and `loads` 256 loads for
-/// each position.
+/// Subtracts the packets that each position sends from the loads of the channels on their way. `taken` has the edge
+/// that is taken at each position. `sent` must have the number of packets that each position sends, and `loads` 256
+/// loads for each position.
 fn remove_packets(taken: &[Option<Edge>], sent: &[usize], loads: &mut [usize])
     requires sent { length sent.now ≡ length taken.now }
     requires loads { length loads.old ≡ 256 * length taken.now }

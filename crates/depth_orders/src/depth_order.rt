@@ -11,11 +11,11 @@ use port_graph::{Adjacency, Edge};
 use spread_labels::VertexKey;
 use std::alloc::{AllocError, Global};
 
-/// Returns the vertices in their order by depth from `root`. `root` is placed first. Then look for the last placed
-/// vertex that has unplaced neighbors. Of these neighbors, the one with the most edges to placed vertices is placed
-/// next. Of equals, it is the one that `direction` prefers by `keys`. If no placed vertex has an unplaced neighbor, the
-/// first unplaced vertex by `keys` and `direction` is placed next. `root` must be a vertex, all edges must lead to
-/// vertices, and there must be a key for each vertex.
+/// Returns the vertices in their order by depth from `root`. `root` is placed first. While a placed vertex has unplaced
+/// neighbors, the last such vertex decides: of its unplaced neighbors, the one with the most edges to placed vertices
+/// is placed next. Of equals, it is the one that `direction` prefers by `keys`. If no placed vertex has an unplaced
+/// neighbor, the first unplaced vertex by `keys` and `direction` is placed next. `root` must be a vertex, all edges
+/// must lead to vertices, and there must be a key for each vertex.
 pub fn order_by_depth(
     alloc: Global,
     edges: &Adjacency,

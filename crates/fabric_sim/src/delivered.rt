@@ -45,8 +45,8 @@ pub enum Delivered {
     Moved(u64),
     /// The agent answered the request, and the answer waits with this serial number.
     Answered(u64),
-    /// The packet was handed up to the subnet manager at this port. An answer is handed up even if no manager sits
-    /// there.
+    /// The packet was handed up at this port, for the subnet manager there. An answer is handed up even if no manager
+    /// sits there.
     ToManager(NodePort, Packet),
     /// The packet was discarded.
     Discarded(Reason),

@@ -21,9 +21,9 @@ pub enum Ping {
 
 impl Fabric {
     /// Returns where a packet for `lid` ends if it is sent from the port `from` and switches forward it by their
-    /// tables. If `from` is a port of a switch, the packet begins at the switch. A packet that has taken two wires
-    /// for each switch and two more loops, and counts as lost. Takes time linear in the number of nodes and in the
-    /// number of wires that the packet takes. Does not allocate.
+    /// tables. If `from` is a port of a switch, the packet begins at the switch. A packet that has taken two wires for
+    /// each switch, and two more wires, is in a loop and counts as lost. Takes time linear in the number of nodes and
+    /// in the number of wires that the packet takes. Does not allocate.
     ///
     /// # Errors
     ///

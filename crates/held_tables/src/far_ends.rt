@@ -128,9 +128,9 @@ fn wired(fars: &[Far]) -> usize
     count
 }
 
-/// Returns, among ports 0 to `port`, the number of ports from port 0 up to the last one that has a wire. `count` must
-/// be this number for the ports before `port`, and `far` the far end of the wire in `port`. `port` must be below 2^64
-/// - 1.
+/// Returns, among ports 0 to `port`, the number of ports from port 0 up to the last one that has a wire. `count` is
+/// this number for the ports before `port`, and `far` is the far end of the wire in `port`. `port` must be below
+/// 2^64-1.
 fn wired_more(far: &Far, port: usize, count: usize) -> usize
     requires { port < 2 ^ 64 - 1 }
     ensures { result ≡ wired_more far.now port count }

@@ -32,7 +32,7 @@ pub record LeavesAlong (said : LanesSaid) (cells : Cells) (these : Edges) (level
   pub lane_is : lane_between said cells level index into edge.port < 15
   pub channel_is : channel ≡ lane_number index edge.port (lane_between said cells level index into edge.port)
 
--- in `new` a channel `b` follows a channel `a` exactly when it does in `old`, or if `b` is one of `nexts` and `a` is
+-- in `new` a channel `b` follows a channel `a` exactly when it does in `old`, or when `b` is one of `nexts` and `a` is
 -- `channel`
 pub record IsWithNexts (old : List (List ℕ)) (channel : ℕ) (nexts : ℕ → Type 0) (new : List (List ℕ)) : Type 0 where
   pub as_many : length new ≡ length old

@@ -11,9 +11,10 @@ pub fn plans_stay()
     ensures { PlansStay }
 {}
 
-/// Suppose end ports claim, in a view with room for its LIDs, the LIDs that they have in the plan of another view with
-/// room. Suppose also that the other end ports there claim nothing or 0, and that the tables there have room for the
-/// greatest of these LIDs. Then the end ports keep these LIDs in the plan.
+/// Suppose two views have room for their LIDs, and each end port of the first is also one of the second, where it
+/// claims the LID that it has in the plan of the first. Suppose also that all other end ports of the second claim
+/// nothing or 0, and that the tables of the second have room for the greatest of these LIDs. Then the end ports of the
+/// first keep these LIDs in the plan of the second.
 pub fn lids_stay_in_plans()
     ensures { LidsStayInPlans }
 {}

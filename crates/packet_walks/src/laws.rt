@@ -23,8 +23,8 @@ pub fn packets_end_as_told_in_parts()
     ensures law { PacketsEndAsToldInParts }
 {}
 
-/// If an end port owns a LID by the tables, each owner of the LID is this end port exactly when the list of owners
-/// has only this end port. Lines may repeat the LID with the end port.
+/// If an end port owns a LID by the tables, each owner of the LID is this end port exactly when the list of owners has
+/// this end port once and nothing else. Lines may repeat the LID with the end port.
 pub fn sole_owners_are_alone()
     ensures law { SoleOwnersAreAlone }
 {}

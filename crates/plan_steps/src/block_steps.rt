@@ -28,7 +28,7 @@ pub(crate) fn block_steps(
     Ok(steps)
 }
 
-/// Appends the steps that set the blocks of the switch `guid` to `steps`. Appends nothing if the sweep did not reach
+/// Appends to `steps` the steps that set the blocks of the switch `guid`. Appends nothing if the sweep did not reach
 /// the switch.
 #[tactic(auto, using(crate::proofs::Ranges::given_some, crate::proofs::Ranges::given_none))]
 fn add_switch_steps(

@@ -51,9 +51,9 @@ pub fn no_cycle_law()
     ensures { NoCycleLaw }
 {}
 
-/// If each edge has an edge back, then, whatever the keys, a grown order has each vertex once. Each vertex except the
-/// first of its component comes after a vertex that it has an edge to. The graph numbered by positions in the order is
-/// grown.
+/// Suppose each edge has an edge back. Then, whatever the keys, a grown order has each vertex once, and each vertex
+/// except the first of its component comes after a vertex that it has an edge to. The graph numbered by positions in
+/// the order is grown.
 pub fn order_law()
     ensures { OrderLaw }
 {}

@@ -1,5 +1,5 @@
-//! Routes by labels. In rounds from the target, each vertex gets a label at a cost, and the edges that give the label
-//! are its candidates.
+//! Routes by labels. In rounds from the target, vertices get labels, each at a cost. The edges that give a vertex its
+//! label are the candidates of the vertex.
 #![tactic(auto)]
 
 mod candidate_lists;

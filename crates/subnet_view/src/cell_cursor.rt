@@ -42,7 +42,7 @@ impl<'s> CellCursor<'s> {
     }
 
     /// Returns the type of `node` and its number of ports, or `None` if they are not known. Passes the cells of keys
-    /// before this one.
+    /// before `Key::Node(node)`.
     pub(crate) fn node(&mut self, node: Guid) -> Option<(NodeType, u8)>
         ensures value { result ≡ node_of self.old node }
         ensures later { KeepsFrom (Node node) self.old self.new }
@@ -53,7 +53,8 @@ impl<'s> CellCursor<'s> {
         }
     }
 
-    /// Returns the GUID of `port` of `node`, or `None` if it is not known. Passes the cells of keys before this one.
+    /// Returns the GUID of `port` of `node`, or `None` if it is not known. Passes the cells of keys before
+    /// `Key::PortGuid(node, port)`.
     pub(crate) fn port_guid(&mut self, node: Guid, port: PortNum) -> Option<Guid>
         ensures value { result ≡ port_guid_of self.old node port }
         ensures later { KeepsFrom (PortGuid node port) self.old self.new }
@@ -65,7 +66,7 @@ impl<'s> CellCursor<'s> {
     }
 
     /// Returns the number of LIDs that the linear forwarding table of the switch `node` has room for, or `None` if this
-    /// number is not known. Passes the cells of keys before this one.
+    /// number is not known. Passes the cells of keys before `Key::Cap(node)`.
     pub(crate) fn cap(&mut self, node: Guid) -> Option<u16>
         ensures value { result ≡ cap_of self.old node }
         ensures later { KeepsFrom (Cap node) self.old self.new }
@@ -76,7 +77,7 @@ impl<'s> CellCursor<'s> {
         }
     }
 
-    /// Returns whether `port` of `node` is known to be up. Passes the cells of keys before this one.
+    /// Returns whether `port` of `node` is known to be up. Passes the cells of keys before `Key::Port(node, port)`.
     pub(crate) fn is_up(&mut self, node: Guid, port: PortNum) -> bool
         ensures value { result ≡ is_up self.old node port }
         ensures later { KeepsFrom (Port node port) self.old self.new }
