@@ -31,7 +31,6 @@ use Rattle.sm_manager.specs.Manager.{Manager}
 use Rattle.sm_manager.specs.PlanFaults.{number_fault, or_else, plan_fault}
 use Rattle.sm_state.specs.Election.{polled_of, successor_of}
 use Rattle.sm_state.specs.Standing.{info_of, info_with, is_in, moved_to, moved_by}
-use Rattle.sm_manager.specs.declared.pending.Purpose.TheVariants.{Control}
 use Rattle.sm_state.specs.declared.control.Control.TheVariants as control
 use Rattle.sm_state.specs.declared.event.Event.TheVariants as event
 use Rattle.sm_state.specs.Conducts.{is_live}
