@@ -17,7 +17,7 @@ loop-below-init c =
     let all_switches = c.switch_count.ensures in
     let count : c.in_ok-count.count ≡ 256 * length (switches cells) = omega arith in
     record {
-      seen = c.in_ok-cursor.ensures;
+      seen = c.in_ok-cursor.ensures.seen;
       so_far = none_so_far cells c.args.network.now.held c.in_ok-count.count c.in_ok-waits.waits c.in_ok-waits.ensures count;
       added = subst (λ (xs : List (Option Edge)). IsAdded xs c.in_ok-waits.waits) (sym c.new-before.ensures.items) (none_added c.in_ok-waits.waits);
     }

@@ -82,7 +82,7 @@ loop-line-init c =
     let held = c.args.network.now.held in
     let lines = c.lids-line-items.result.now in
     record {
-      seen = c.in_ok-cursor.ensures;
+      seen = c.in_ok-cursor.ensures.seen;
       surveyed = λ most. none_surveyed most cells held lines c.args.tally.now;
       told = subst (λ (ts : List Bool). ToldSoFar cells held lines 0 ts) (sym c.requires.told) (none_told cells held lines);
     }

@@ -21,8 +21,8 @@ loop-below-init c =
     let all_switches = c.switch_count.ensures ∙ ap (λ (x : Seen). length (switches (cells_of x.facts))) c.network-held.ensures in
     let count : c.in_ok-count.count ≡ 4096 * length (switches (cells_of s.seen.facts)) = omega arith in
     record {
-      held = c.in_ok-held_at.ensures ∙ c.network-held.ensures;
-      next = c.in_ok-next_at.ensures;
+      held = c.in_ok-held_at.ensures.seen ∙ c.network-held.ensures;
+      next = c.in_ok-next_at.ensures.seen;
       so_far = none_so_far s others c.args.answers c.in_ok-count.count (walked c.in_ok-walks.walks) c.in_ok-walks.ensures count;
     }
 

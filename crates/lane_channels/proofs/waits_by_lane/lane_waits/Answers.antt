@@ -19,7 +19,7 @@ loop-below-init c =
     let all_switches = c.switch_count.ensures ∙ ap (λ (x : Seen). length (switches (cells_of x.facts))) c.network-network.ensures in
     let count : c.in_ok-count.count ≡ 4096 * length (switches (cells_of s.seen.facts)) = omega arith in
     record {
-      seen = c.in_ok-cursor.ensures ∙ c.network-network.ensures;
+      seen = c.in_ok-cursor.ensures.seen ∙ c.network-network.ensures;
       so_far = none_so_far s [] c.args.answers c.in_ok-count.count (walked c.in_ok-walks.walks) c.in_ok-walks.ensures count;
     }
 

@@ -8,7 +8,7 @@ use Rattle.ordered_steps.proofs.ToldRight.{all_right, one_wrong, right_more}
 use Rattle.ordered_steps.proofs.rightness.are_right.Goals as goal
 
 pub loop-below-init : goal.loop-below-init
-loop-below-init c = record { seen = c.in_ok-cursor.ensures; right = refl }
+loop-below-init c = record { seen = c.in_ok-cursor.ensures.seen; right = refl }
 
 pub loop-below-preserved : goal.loop-below-preserved
 loop-below-preserved c =

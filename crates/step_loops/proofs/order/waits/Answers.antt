@@ -19,8 +19,8 @@ loop-below-init c =
     let all_switches = c.switch_count.ensures in
     let count : c.in_ok-count.count ≡ 256 * length (switches cells) = omega arith in
     record {
-      held = c.in_ok-held_at.ensures;
-      next = c.in_ok-next_at.ensures;
+      held = c.in_ok-held_at.ensures.seen;
+      next = c.in_ok-next_at.ensures.seen;
       so_far = none_so_far cells c.args.held.now.held c.args.next.now.held c.in_ok-count.count c.in_ok-waits.waits c.in_ok-waits.ensures count;
       added = subst (λ (xs : List (Option Edge)). IsAddedInStep xs c.none-before.result.next.items c.in_ok-waits.waits) (sym c.none-before.ensures.held)
           (subst (λ (xs : List (Option Edge)). IsAddedInStep [] xs c.in_ok-waits.waits) (sym c.none-before.ensures.next) (none_added c.in_ok-waits.waits));
