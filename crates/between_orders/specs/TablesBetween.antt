@@ -65,10 +65,6 @@ labels_towards port edges orders plan = labels_from edges orders (map (first_lab
 -- the entries of all switches towards `port`, by two orders, from what each switch does by the held tables and by the
 -- plan
 unfoldable pub entries_towards : EndPort → List (List Edge) → TwoOrders → List SwitchStep → List SwitchStep → List ℕ
-
--- the tables between two orders, from held tables and a plan: they have the plan's LIDs, for each usable switch the
--- greater of its tops in the held tables and in the plan, and for each LID the entries of `column_between`
-unfoldable pub tables_between : Cells → List (List Edge) → TwoOrders → HeldPlan → HeldPlan → HeldPlan
 entries_towards port edges orders held plan =
     map (entry_between port edges orders (labels_towards port edges orders plan)) (enumerate_from 0 (zip held plan))
 
@@ -83,6 +79,10 @@ column_for cells edges orders held plan lid (port ∷ ports) =
 -- none there
 abbrev pub column_between : Cells → List (List Edge) → TwoOrders → HeldPlan → HeldPlan → ℕ → List ℕ
 column_between cells edges orders held plan lid = column_for cells edges orders held plan lid (owners_of plan lid)
+
+-- the tables between two orders, from held tables and a plan: they have the plan's LIDs, for each usable switch the
+-- greater of its tops in the held tables and in the plan, and for each LID the entries of `column_between`
+unfoldable pub tables_between : Cells → List (List Edge) → TwoOrders → HeldPlan → HeldPlan → HeldPlan
 tables_between cells edges orders held plan =
     tables_with cells held plan
     (map (column_between cells edges orders held plan) (range_with_len 0 (64 * most_blocks cells held plan)))
