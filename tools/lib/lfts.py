@@ -13,7 +13,7 @@ import os
 import sys
 from collections.abc import Iterator, Sequence
 
-from dumps import GUID, HEAD
+from dump_tables import GUID, HEAD
 from ibsm_texts import NO_WAY, NONE, Facts, Plan, Refused
 
 # The hundreds, tens and ones of ports: the digit of each port, and the value of each digit.

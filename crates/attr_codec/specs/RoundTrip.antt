@@ -18,8 +18,8 @@ fits_at (x ∷ entries) zero e fits there = let same : x ≡ e =
     cc in subst (λ (y : Entry). y.number < 256 ^ y.field.len) same fits.0
 fits_at (x ∷ entries) (suc i) e fits there = fits_at entries i e fits.1 there
 
--- if all entries fit in their fields, the image of `entries` has, in the field of the entry `e` at index `i`, the
--- number of `e`. The fields must be apart and within 64 bytes
+-- if all entries fit in their fields, and the fields are apart and within 64 bytes, the image of `entries` has the
+-- number of the entry `e` at index `i` in the field of `e`
 pub number_in-image : (entries : List Entry) → AllFit entries → (i : ℕ) (e : Entry) → are_all_apart 64 entries ≡ true
     → slice_get entries i ≡ Some e
     → number_in e.field (image entries) ≡ e.number

@@ -224,7 +224,7 @@ impl PortInfo {
         port_info!(with_bits m_key_protect_bits (&mut self.bytes, to));
     }
 
-    /// Returns LMC. If LID is not 0, the port has 2^LMC LIDs, from LID on.
+    /// Returns LMC. If LID is not 0, the port has the 2^LMC LIDs that start at LID.
     pub fn lmc(&self) -> Lmc
         ensures { result ≡ bits_in lmc self.now }
     {

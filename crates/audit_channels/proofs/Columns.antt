@@ -4,7 +4,7 @@ use Rattle.std.specs.Prelude.{Option, None, Some, slice_index_or}
 use Rattle.std.proofs.lemmas.Bool.{cases_lt}
 use Rattle.port_graph.specs.declared.edge.Edge.{Edge}
 use Rattle.audit_channels.specs.ChannelOrders.{Follows, IsWith}
-use Rattle.audit_channels.specs.Columns.{number_of, TakesAcross, TakesNone, IsTurn, TakesAmong, IsWithSome}
+use Rattle.audit_channels.specs.Column.{number_of, TakesAcross, TakesNone, IsTurn, TakesAmong, IsWithSome}
 use Rattle.audit_channels.specs.declared.column.Turn.{Turn}
 
 pub same_edge : (e f : Edge) → Some e ≡ Some f → e ≡ f

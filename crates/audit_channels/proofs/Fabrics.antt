@@ -14,7 +14,7 @@ use Rattle.fabric_model.specs.Forwarding.{Standing, sent_from, arrived_at, cours
 use Rattle.fabric_model.proofs.Cabled.{same_port-is, same_port-refl}
 use Rattle.fabric_model.proofs.FabricWalks.{port_at, same_port, type_at, switch_vertex, adapter_vertex, switch_number}
 use Rattle.port_graph.specs.declared.edge.Edge.{Edge}
-use Rattle.audit_channels.specs.Columns.{TakesInTurn}
+use Rattle.audit_channels.specs.Column.{TakesInTurn}
 use Rattle.fact_store.specs.View.{Facts, cells_of}
 use Rattle.subnet_view.specs.Reading.{Cells, switches}
 use Rattle.subnet_view.specs.Wires.{across}

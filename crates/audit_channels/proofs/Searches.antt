@@ -2,10 +2,10 @@
 use Rattle.std.proofs.Common.{◌≡◌, ◌≢◌, ◌<◌, ◌≤◌, ◌+◌, ℕ, zero, suc, true, List, [], ◌∷◌, ◌++◌, length, length-append, refl, sym, ap, ◌∙◌, subst, arith, inl, inr, ◌⊎◌, slice_set}
 use Rattle.std.specs.Prelude.{slice_index_or}
 use Rattle.std.proofs.lemmas.Bool.{cases_lt}
-use Rattle.audit_channels.specs.declared.shortest.Visited.{Visited}
+use Rattle.audit_channels.specs.declared.shortest_cycle.Visited.{Visited}
 use Rattle.audit_channels.specs.Numbers.{has_none, AreGiven}
 use Rattle.audit_channels.specs.ChannelOrders.{Follows, GoesOn, IsCycle, NoneShorter}
-use Rattle.audit_channels.specs.Searches.{at_index, HasReached, IsStep, IsSearch, Grows, NoneBelow, IsLeast}
+use Rattle.audit_channels.specs.ShortestCycle.{at_index, HasReached, IsStep, IsSearch, Grows, NoneBelow, IsLeast}
 use Rattle.audit_channels.proofs.Given.{there, none_there, has_none_at, follows_channel}
 
 -- numbers rise along a way from a channel with one

@@ -8,7 +8,7 @@ use Rattle.std.proofs.lemmas.Option.{same_Some}
 use Rattle.smp_bytes.proofs.Members.{contains_none}
 use Rattle.port_graph.specs.declared.edge.Edge.{Edge}
 use Rattle.audit_channels.specs.ChannelOrders.{Follows}
-use Rattle.audit_channels.specs.Columns.{TakesInTurn, IsWithColumn}
+use Rattle.audit_channels.specs.Column.{TakesInTurn, IsWithColumn}
 use Rattle.audit_channels.proofs.Columns.{within}
 use Rattle.subnet_view.specs.Reading.{Cells, switches}
 use Rattle.held_tables.specs.Held.{HeldPlan}

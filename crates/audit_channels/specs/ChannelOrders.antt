@@ -23,7 +23,8 @@ pub record IsWith (old : List (List ℕ)) (channel next : ℕ) (new : List (List
   pub as_many : length new ≡ length old
   pub follows : (a b : ℕ) → Follows new a b ↔ (Follows old a b ⊎ ((a ≡ channel) × (b ≡ next)))
 
--- each channel has a number in `numbers`, which is less than the numbers of the channels that follow it
+-- each channel has a number in `numbers`, and this number is less than the numbers of the channels that follow the
+-- channel
 pub record Rise (waits : List (List ℕ)) (numbers : List ℕ) : Type 0 where
   pub as_many : length numbers ≡ length waits
   pub rises : (channel next : ℕ) → Follows waits channel next → slice_index_or numbers channel 0

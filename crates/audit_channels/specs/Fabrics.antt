@@ -48,9 +48,9 @@ pub record Travels (part : Part) (f : Fabric) (hops : List Hop) : Type 0 where
   pub end : Standing
   pub goes : Goes f lid (sent_from source) hops end
 
--- let the facts describe all that is joined to the end port `origin`, let the end ports and switches there hold the
--- tables, and let `numbers` rise along the ways of packets by facts and tables (`RiseOnWays`). Then of two channels
--- that a packet from an end port there takes in turn, the second has the greater number
+-- suppose the facts describe all that is joined to the end port `origin`, the end ports and switches there hold the
+-- tables, and `numbers` rise along the ways of packets according to facts and tables (`RiseOnWays`). Then of two
+-- channels that a packet from an end port there takes in turn, the second has the greater number
 abbrev pub ChannelsRise : Type 0
 ChannelsRise =
     (facts : Facts) (held : HeldPlan) (f : Fabric) (origin : NodePort) (numbers : List ℕ) → IsEndPort f origin

@@ -1,7 +1,7 @@
 pub mod ChannelOrders
 pub mod ChannelSet
-pub mod Columns
+pub mod Column
 pub mod Fabrics
 pub mod Numbers
-pub mod Searches
+pub mod ShortestCycle
 pub mod Waiting

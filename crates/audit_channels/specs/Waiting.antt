@@ -1,24 +1,25 @@
--- Which channels packets wait for by the held tables: numbers of channels that rise along the ways of packets, or a
--- credit loop. InfiniBand Architecture Specification, Volume 1: switches, unicast forwarding by the linear forwarding
--- table; link layer, flow control by credits.
+-- Which channels packets wait for under the held tables: numbers of channels that rise along the ways of packets, or
+-- a credit loop. InfiniBand Architecture Specification, Volume 1: switches, unicast forwarding by the linear
+-- forwarding table; link layer, flow control by credits.
 use Rattle.std.specs.Prelude.{◌≡◌, ◌↔◌, ◌<◌, ◌≤◌, ◌*◌, ℕ, List, [], ◌∷◌, Option, length, slice_index_or}
 use Rattle.port_graph.specs.declared.edge.Edge.{Edge}
 use Rattle.audit_channels.specs.ChannelOrders.{Follows}
-use Rattle.audit_channels.specs.Columns.{TakesInTurn}
+use Rattle.audit_channels.specs.Column.{TakesInTurn}
 use Rattle.audit_channels.specs.declared.order.ChannelOrder.{ChannelOrder}
 use Rattle.audit_channels.specs.declared.order.ChannelOrder.TheVariants.{Rises, Cycle}
 use Rattle.subnet_view.specs.Reading.{Cells, switches}
 use Rattle.held_tables.specs.Held.{HeldPlan}
 use Rattle.packet_walks.specs.Edges.{edges_of}
 
--- for some LID, whether or not an end port holds it, packets leave a switch by `channel` and the next switch by `next`
+-- for some LID, whether or not an end port holds it, packets leave a switch on `channel` and the next switch on
+-- `next`
 pub record WaitsFor (cells : Cells) (held : HeldPlan) (channel next : ℕ) : Type 0 where
   pub lid : ℕ
   pub is_lid : 1 ≤ lid
   pub switch : ℕ
   pub takes : TakesInTurn (edges_of cells held lid) switch channel next
 
--- `waits` has, for each channel, the channels that packets take next by the held tables
+-- `waits` has, for each channel, exactly the channels that packets take next under the held tables
 pub record AreWaits (cells : Cells) (held : HeldPlan) (waits : List (List ℕ)) : Type 0 where
   pub as_many : length waits ≡ 256 * length (switches cells)
   pub follows : (a b : ℕ) → Follows waits a b ↔ WaitsFor cells held a b
@@ -29,13 +30,13 @@ abbrev pub IsAdded : List (Option Edge) → List (List ℕ) → Type 0
 IsAdded column waits = (switch channel next : ℕ) → TakesInTurn column switch channel next → Follows waits channel next
 
 -- numbers rise along the ways of packets: each channel has a number, which is less than the numbers of the channels
--- that packets take next by the held tables
+-- that packets take next under the held tables
 pub record RiseOnWays (cells : Cells) (held : HeldPlan) (numbers : List ℕ) : Type 0 where
   pub as_many : length numbers ≡ 256 * length (switches cells)
   pub rises : (a b : ℕ) → WaitsFor cells held a b → slice_index_or numbers a 0 < slice_index_or numbers b 0
 
--- in the list that has `channel`, then the given channels, then `last`, each channel waits for the next one by the held
--- tables
+-- in the list that has `channel`, then the given channels, then `last`, each channel waits for the next one under the
+-- held tables
 abbrev pub WaitOn : Cells → HeldPlan → ℕ → List ℕ → ℕ → Type 0
 WaitOn cells held channel [] last = WaitsFor cells held channel last
 WaitOn cells held channel (next ∷ later) last = WaitsFor cells held channel next × WaitOn cells held next later last

@@ -1,7 +1,7 @@
 //! The channels that packets for the same LID take one after the other.
 ghost use Rattle.std.specs.Prelude.{◌≡◌, ◌<◌, ◌+◌, ◌*◌, ◌^◌, ◌↔◌, IsTrue, MatchOption, None, OnOk, length};
 ghost use Rattle.std.specs.Prelude.{slice_index_or};
-ghost use Rattle.audit_channels.specs.Columns.{IsTurn, IsWithAcross, IsWithColumn, TakesNone, number_of};
+ghost use Rattle.audit_channels.specs.Column.{IsTurn, IsWithAcross, IsWithColumn, TakesNone, number_of};
 
 use crate::waits::Waits;
 use port_graph::Edge;

@@ -7,9 +7,9 @@ use crate::numbers::has_none;
 use crate::waits::Waits;
 use std::alloc::{AllocError, Global};
 
-/// Returns the cycle that a walk from `first` over channels without a number reaches. `first` must have no number. In
-/// `waits`, each channel without a number must be followed by another one without a number, and each channel with a
-/// number must have a lesser number than those that follow it.
+/// Returns the cycle that a walk from `first` along channels without a number reaches. `first` must have no number.
+/// In `waits`, each channel without a number must be followed by another one without a number, and each channel with
+/// a number must have a lesser number than those that follow it.
 pub(crate) fn cycle_from(
     alloc: Global,
     waits: &Waits,
@@ -55,7 +55,7 @@ fn is_on(way: &[usize], channel: usize) -> bool
     way.iter().any(|c| channel == *c)
 }
 
-/// Returns the index of `channel` on the walk `way`, or `None` if `way` does not have it.
+/// Returns the first index of `channel` in the walk `way`, or `None` if `way` does not contain it.
 fn index_of(way: &[usize], channel: usize) -> Option<usize>
     ensures { result ≡ position (λ c. channel == c) way.now }
 {

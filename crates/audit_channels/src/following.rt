@@ -49,7 +49,7 @@ impl Following {
     }
 }
 
-/// Appends `channel` to `channels` unless they have it already.
+/// Appends `channel` to `channels` unless `channels` have it already.
 fn put(channels: &mut Vec<usize>, channel: usize) -> Result<(), AllocError>
     ensures added { OnOk result (AreWith channels.old.items channel channels.new.items) }
     ensures kept { OnErr result (channels.new.items ≡ channels.old.items) }

@@ -8,15 +8,15 @@ pub fn no_cycle_where_numbers_rise()
     ensures law { NoCycleWhereNumbersRise }
 {}
 
-/// If the channels have numbers that rise along the routes of packets for all LIDs, by facts and held tables, no
-/// channels wait for each other in a cycle.
+/// If the channels have numbers that rise along the routes of packets for all LIDs, according to facts and held
+/// tables, no channels wait for each other in a cycle.
 pub fn never_both()
     ensures law { NeverBoth }
 {}
 
-/// Let the facts describe a part of a fabric, let its end ports and switches hold the tables, and let numbers of
-/// channels rise by facts and tables. Then a packet that an end port of the part sends for a LID other than 0 takes
-/// channels with rising numbers, wire after wire. The part is all that is joined to some end port.
+/// If the facts describe a part of a fabric, the part's end ports and switches hold the tables, and numbers of
+/// channels rise according to facts and tables, then a packet that an end port of the part sends for a LID other than
+/// 0 takes channels with rising numbers, wire after wire. The part is all that is joined to some end port.
 pub fn channels_rise()
     ensures law { ChannelsRise }
 {}

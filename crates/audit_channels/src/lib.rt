@@ -11,7 +11,7 @@ mod network_order;
 mod network_waits;
 mod numbers;
 mod order;
-mod shortest;
+mod shortest_cycle;
 mod waits;
 
 pub use column::{add_across, add_column, edge_of, is_same_column};

@@ -9,13 +9,12 @@ use std::alloc::{AllocError, Global};
 /// Returns numbers of channels that rise along the route of every packet, whether or not an end port holds its LID.
 /// If there are no such numbers, returns a shortest credit loop.
 ///
-/// A channel is a wire between usable switches, taken in one direction. Its number is 256 times the index of the
-/// switch that it leaves, plus the port by which it leaves.
+/// A channel is a wire between usable switches, taken in one direction. A channel's number is 256 times the index of
+/// the switch that it leaves, plus the port by which it leaves.
 ///
-/// Takes the time of `order_channels`, and the time of `LidCursor::go_to` for every 64 LIDs up to the greatest top of
-/// a usable switch. For each of these LIDs, also takes time linear in the number of switches. If some switch forwards
-/// packets for the LID otherwise than for the previous LID, also takes, for the channel of each switch, time linear
-/// in the number of channels that follow it.
+/// Takes the time of `order_channels`, and that of `LidCursor::go_to` for every 64 LIDs up to the greatest top of a
+/// usable switch. Looks at each switch for each of these LIDs. If a switch forwards packets for the LID otherwise than
+/// for the previous LID, also looks at the channels that follow the channel of each switch.
 #[tactic(auto, using(crate::proofs::Orders::order_is, crate::proofs::Orders::shortest_is))]
 pub fn channel_order(alloc: Global, network: &Network) -> Result<ChannelOrder, AllocError>
     ensures order { IfOk result (λ found. IsOrderOf (cells_of network.now.facts) network.now.held found) }

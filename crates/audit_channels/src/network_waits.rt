@@ -1,6 +1,6 @@
 ghost use Rattle.std.specs.Prelude.{◌≡◌, ◌<◌, ◌*◌, ◌^◌, IfOk, OnOk, length};
 ghost use Rattle.fact_store.specs.View.{cells_of};
-ghost use Rattle.audit_channels.specs.Columns.{IsWithColumn};
+ghost use Rattle.audit_channels.specs.Column.{IsWithColumn};
 ghost use Rattle.audit_channels.specs.Waiting.{AreWaits, IsAdded};
 
 use crate::{Waits, add_column, is_same_column};
@@ -9,8 +9,8 @@ use port_graph::Edge;
 use smp_bytes::Lid;
 use std::alloc::{AllocError, Global};
 
-/// Returns, for each channel, the channels that packets take next by the tables of `network`, whether or not an end
-/// port holds their LIDs. Channels are numbered as in `channel_order`.
+/// Returns, for each channel, the channels that packets take next under the tables of `network`, whether or not an
+/// end port holds their LIDs. Channels are numbered as in `channel_order`.
 pub fn channel_waits(alloc: Global, network: &Network) -> Result<Waits, AllocError>
     ensures { IfOk result (λ waits. AreWaits (cells_of network.now.facts) network.now.held waits) }
 {

@@ -3,7 +3,7 @@ ghost use Rattle.audit_channels.specs.ChannelOrders.{IsOrder, IsShortest};
 
 use crate::cycle::cycle_from;
 use crate::numbers::{first_without, numbers};
-use crate::shortest::shortest_cycle;
+use crate::shortest_cycle::shortest_cycle;
 use crate::waits::Waits;
 use std::alloc::{AllocError, Global};
 

@@ -24,7 +24,7 @@ impl Model for Waits {
 }
 
 impl Waits {
-    /// Creates the waits of `count` channels, none of which is followed by a channel.
+    /// Creates a list of `count` channels without any waits: no channel follows another.
     pub fn new(alloc: Global, count: usize) -> Result<Self, AllocError>
         ensures { IfOk result (λ waits. waits ≡ replicate count []) }
     {

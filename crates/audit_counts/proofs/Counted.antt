@@ -7,8 +7,8 @@ use Rattle.std.proofs.lemmas.List.{append-nil, length-append}
 use Rattle.std.proofs.lemmas.List.Elements.{filter-append}
 use Rattle.std.proofs.lemmas.List.Sums.{sum_by-append, sum_by-cons, sum_by_push}
 use Rattle.subnet_view.specs.declared.end_port.EndPort.{EndPort}
-use Rattle.packet_walks.specs.declared.packet_end.Cause.{Cause}
-use Rattle.packet_walks.specs.declared.packet_end.Cause.TheVariants.{AboveTop, NoEntry, NoPort, NoLink, Foreign}
+use Rattle.packet_walks.specs.declared.cause.Cause.{Cause}
+use Rattle.packet_walks.specs.declared.cause.Cause.TheVariants.{AboveTop, NoEntry, NoPort, NoLink, Foreign}
 use Rattle.packet_walks.specs.declared.packet_end.End.{End}
 use Rattle.packet_walks.specs.declared.packet_end.End.TheVariants.{Taken, Lost}
 use Rattle.packet_walks.specs.HopsByTables.{is_at}
@@ -16,7 +16,7 @@ use Rattle.audit_counts.specs.declared.cause_counts.Causes.{Causes}
 use Rattle.audit_counts.specs.declared.sent_packet.SentPacket.{SentPacket}
 use Rattle.audit_counts.specs.declared.pairs.Pairs.{Pairs}
 use Rattle.audit_counts.specs.declared.packet_tally.PacketTally.{PacketTally}
-use Rattle.audit_counts.specs.Causes.{AreCausesIf, causes_of, is_lost_end_for, is_lost_for}
+use Rattle.audit_counts.specs.CauseCounts.{AreCausesIf, causes_of, is_lost_end_for, is_lost_for}
 use Rattle.audit_counts.specs.Packets.{arrives, goes_round, is_between, is_lost, is_misdelivered, is_lost_end, is_taken_end, is_no_end}
 use Rattle.audit_counts.specs.Pairs.{ArePairs, ArePairsIf, ArePairsWithArrived}
 use Rattle.audit_counts.specs.PacketTally.{IsTally, IsWith, IsWithArrived}

@@ -5,7 +5,7 @@ use Rattle.fact_join.specs.declared.cell.Cell.{Cell}
 use Rattle.reply_facts.specs.declared.key.Key.{Key}
 use Rattle.reply_facts.specs.declared.value.Value.{Value}
 use Rattle.subnet_view.specs.Reading.{Cells}
-use Rattle.audit_counts.specs.Disputed.{disputed, is_disputed}
+use Rattle.audit_counts.specs.DisputedFacts.{disputed, is_disputed}
 
 -- `count` is the number of disputed cells that were passed, plus all cells of `rest`
 abbrev pub CountedTo : ℕ → Cells → ℕ → Type 0

@@ -16,8 +16,8 @@ use Rattle.held_tables.specs.Tables.{is_owner, is_same_end}
 use Rattle.packet_walks.proofs.Judged.{same_ends}
 use Rattle.audit_counts.specs.declared.site.Site.{Site}
 use Rattle.audit_ways.specs.Ways.{is_adapter}
-use Rattle.audit_counts.specs.Sites.{IsSiteOf, is_of, are_adapters, are_joined, are_joined_adapters}
-use Rattle.audit_counts.specs.Sites.{are_one_component, first_root, is_one_root, site_of}
+use Rattle.audit_counts.specs.Site.{IsSiteOf, is_of, are_adapters, are_joined, are_joined_adapters}
+use Rattle.audit_counts.specs.Site.{are_one_component, first_root, is_one_root, site_of}
 use Rattle.subnet_view.specs.Wires.{leads_to}
 
 module _ (cells : Cells) (port : EndPort) (ports : List EndPort) (sites : List Site) (sites_are : sites ≡ map (site_of cells) ports) where

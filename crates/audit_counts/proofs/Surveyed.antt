@@ -8,7 +8,7 @@ use Rattle.std.proofs.lemmas.List.Elements.{filter-append}
 use Rattle.std.proofs.lemmas.List.Sums.{sum_by-cons}
 use Rattle.std.proofs.lemmas.Option.{slice_get-get_or}
 use Rattle.subnet_view.specs.declared.end_port.EndPort.{EndPort}
-use Rattle.subnet_view.specs.EndPorts.{end_ports}
+use Rattle.subnet_view.specs.EndPort.{end_ports}
 use Rattle.subnet_view.specs.Reading.{Cells}
 use Rattle.held_tables.specs.declared.held.HeldLid.{HeldLid}
 use Rattle.held_tables.specs.Held.{HeldPlan}
@@ -24,7 +24,7 @@ use Rattle.audit_counts.specs.declared.sent_packet.SentPacket.{SentPacket}
 use Rattle.audit_counts.specs.declared.packet_tally.PacketTally.{PacketTally}
 use Rattle.audit_counts.specs.Packets.{arrives, is_between, packet_of, packets_for, packets_of, sent_to}
 use Rattle.audit_counts.specs.declared.site.Site.{Site}
-use Rattle.audit_counts.specs.Sites.{are_adapters, are_joined, are_joined_adapters, in_one_component, site_of}
+use Rattle.audit_counts.specs.Site.{are_adapters, are_joined, are_joined_adapters, in_one_component, site_of}
 use Rattle.audit_counts.specs.PacketTally.{IsTally, IsWith}
 use Rattle.audit_counts.proofs.Counted.{tally_more}
 

@@ -1,8 +1,8 @@
-pub mod Causes
-pub mod Disputed
+pub mod CauseCounts
+pub mod DisputedFacts
 pub mod FirstFew
 pub mod PacketTally
 pub mod Packets
 pub mod Pairs
-pub mod Sites
+pub mod Site
 pub mod Unmatched

@@ -2,7 +2,7 @@
 use Rattle.std.specs.Prelude.{◌≡◌, ℕ, true, List, filter, if◌then◌else◌}
 use Rattle.audit_counts.specs.declared.sent_packet.SentPacket.{SentPacket}
 use Rattle.audit_counts.specs.declared.packet_tally.PacketTally.{PacketTally}
-use Rattle.audit_counts.specs.Causes.{AreCausesIf, causes_of, is_lost_for}
+use Rattle.audit_counts.specs.CauseCounts.{AreCausesIf, causes_of, is_lost_for}
 use Rattle.audit_counts.specs.Packets.{arrives, goes_round, is_between, is_lost, is_misdelivered}
 use Rattle.audit_counts.specs.Pairs.{ArePairs, ArePairsIf, ArePairsWithArrived}
 use Rattle.audit_counts.specs.FirstFew.{listed, listed_of}
@@ -17,8 +17,8 @@ pub record IsTally (most : ℕ) (packets : List SentPacket) (tally : PacketTally
   pub misdelivered : tally.misdelivered ≡ listed_of most is_misdelivered packets
   pub round : tally.round ≡ listed_of most goes_round packets
 
--- if `packet` does not arrive, it is added in `new` to the packets of its kind and, if it is lost, to the count of its
--- cause; the rest is as in `old`, but `all` and `between` are left open
+-- if `packet` does not arrive, `new` has `packet` among the packets of its kind and, if `packet` is lost, one more in
+-- the count of its cause; the rest is as in `old`, but `all` and `between` are left open
 pub record IsWithPacket (old : PacketTally) (packet : SentPacket) (new : PacketTally) : Type 0 where
   pub causes : AreCausesIf old.causes (λ cause. is_lost_for cause packet) new.causes
   pub lost : new.lost ≡ (if is_lost packet then listed old.lost packet else old.lost)

@@ -2,7 +2,7 @@
 use Rattle.std.specs.Prelude.{Bool, true, false, ◌&&◌, not, List, [], Option, None, Some, filter, map, if◌then◌else◌}
 use Rattle.std.specs.List.{flat_map}
 use Rattle.subnet_view.specs.declared.end_port.EndPort.{EndPort}
-use Rattle.subnet_view.specs.EndPorts.{end_ports}
+use Rattle.subnet_view.specs.EndPort.{end_ports}
 use Rattle.subnet_view.specs.Reading.{Cells}
 use Rattle.held_tables.specs.declared.held.HeldLid.{HeldLid}
 use Rattle.held_tables.specs.Held.{HeldPlan}
@@ -11,7 +11,7 @@ use Rattle.packet_walks.specs.declared.packet_end.End.TheVariants.{Taken, Lost}
 use Rattle.packet_walks.specs.HopsByTables.{end_for, is_at}
 use Rattle.held_tables.specs.Tables.{is_owner, lines_of}
 use Rattle.audit_counts.specs.declared.sent_packet.SentPacket.{SentPacket}
-use Rattle.audit_counts.specs.Sites.{are_adapters, in_one_component}
+use Rattle.audit_counts.specs.Site.{are_adapters, in_one_component}
 
 -- the packet from `e` for the LID of `line`
 abbrev pub packet_of : Cells → HeldPlan → HeldLid → EndPort → SentPacket
@@ -27,7 +27,7 @@ sent_to cells held line =
 abbrev pub packets_for : Cells → HeldPlan → HeldLid → List SentPacket
 packets_for cells held line = if is_owner (end_ports cells) line.port then sent_to cells held line else []
 
--- for each line, the packets for its LID from the end ports in the component of its port
+-- for each line, the packets for the line's LID from the end ports in the component of the line's port
 abbrev pub packets_of : Cells → HeldPlan → List SentPacket
 packets_of cells held = flat_map (packets_for cells held) (lines_of held)
 
@@ -35,7 +35,7 @@ packets_of cells held = flat_map (packets_for cells held) (lines_of held)
 abbrev pub arrives : SentPacket → Bool
 arrives packet = is_at packet.line.port packet.end
 
--- a packet with this end is lost at a node; false if it loops forever
+-- a packet with this end is lost at a node; false if the packet is taken at a port or loops forever
 abbrev pub is_lost_end : Option End → Bool
 is_lost_end None = false
 is_lost_end (Some (Taken e)) = false
@@ -45,13 +45,13 @@ is_lost_end (Some (Lost g cause)) = true
 abbrev pub is_lost : SentPacket → Bool
 is_lost packet = is_lost_end packet.end
 
--- a packet with this end is taken at a port; false if it loops forever
+-- a packet with this end is taken at a port; false if the packet is lost or loops forever
 abbrev pub is_taken_end : Option End → Bool
 is_taken_end None = false
 is_taken_end (Some (Taken e)) = true
 is_taken_end (Some (Lost g cause)) = false
 
--- a port takes `packet`, but not the end port of its line
+-- a port takes `packet`, but this port is not the end port of the packet's line
 abbrev pub is_misdelivered : SentPacket → Bool
 is_misdelivered packet = is_taken_end packet.end && not (arrives packet)
 

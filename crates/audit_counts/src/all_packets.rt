@@ -1,11 +1,11 @@
 //! The counts of the packets for all held LIDs.
 ghost use Rattle.std.specs.Prelude.{◌≡◌, ◌++◌, ℕ, [], true, Contains, IfOk, List, OnOk, count_by, map};
 ghost use Rattle.fact_store.specs.View.{cells_of};
-ghost use Rattle.subnet_view.specs.EndPorts.{end_ports};
+ghost use Rattle.subnet_view.specs.EndPort.{end_ports};
 ghost use Rattle.audit_ways.specs.Ways.{AllComeTo, AreKnownToArrive};
 ghost use Rattle.audit_counts.specs.declared.sent_packet.SentPacket.{SentPacket as Sent};
 ghost use Rattle.audit_counts.specs.Packets.{packets_of, sent_to};
-ghost use Rattle.audit_counts.specs.Sites.{IsCensus, are_joined, are_joined_adapters, site_of};
+ghost use Rattle.audit_counts.specs.Site.{IsCensus, are_joined, are_joined_adapters, site_of};
 ghost use Rattle.audit_counts.specs.PacketTally.{IsTally, IsWithArrived};
 
 use crate::packet_tally::PacketTally;
@@ -19,14 +19,14 @@ use std::alloc::{AllocError, Global};
 #[derive(Drop)]
 pub struct PacketSurvey {
     pub tally: PacketTally,
-    /// For each line, true only if all packets for its LID are delivered at its port.
+    /// For each line, true only if all packets for the line's LID are delivered at the line's port.
     pub told: Vec<bool>,
 }
 
-/// Counts the packets that end ports send to the LIDs of their components. Keeps the first `most` packets of each kind
-/// that do not arrive: lost, misdelivered and looping. `sites` must be the sites of the end ports, in order. Takes the
-/// time of `LidCursor::go_to` for each LID. If the deliveries do not show that all packets for a LID arrive, also
-/// takes the time of `LidCursor::ends` for that LID.
+/// Counts the packets that end ports send to the LIDs of their components. Keeps the first `most` packets of each
+/// kind that do not arrive: lost, misdelivered and looping. `sites` must be the sites of the end ports, in the order
+/// of the end ports. Takes the time of `LidCursor::go_to` for each LID. If the deliveries do not show that all
+/// packets for a LID arrive, also takes the time of `LidCursor::ends` for that LID.
 pub fn survey(
     alloc: Global,
     most: usize,
@@ -46,8 +46,8 @@ pub fn survey(
 }
 
 /// Adds the packets for the LIDs of all lines to `tally`. Appends to `told`, which must be empty, a flag for each
-/// line. It is true only if all packets for the line's LID are delivered at the line's port. `sites` must be the sites
-/// of the end ports, in order.
+/// line. It is true only if all packets for the line's LID are delivered at the line's port. `sites` must be the
+/// sites of the end ports, in the order of the end ports.
 fn add_lines(
     alloc: Global,
     tally: &mut PacketTally,
@@ -79,9 +79,9 @@ fn add_lines(
 }
 
 /// Adds to `tally` the packets that the end ports in the component of `owner` send to the LID of `line`. Returns true
-/// only if all packets for this LID are delivered at the port of `line`. `cursor` must be at this LID. `sites` must be
-/// the sites of the end ports, in order, and `census` their census. `owner` must be the site, among `sites`, of the
-/// port of `line`.
+/// only if all packets for this LID are delivered at the port of `line`. `cursor` must be at this LID. `sites` must
+/// be the sites of the end ports, in the order of the end ports, and `census` must be the census of `sites`. `owner`
+/// must be the site, among `sites`, of the port of `line`.
 fn add_packets(
     alloc: Global,
     tally: &mut PacketTally,

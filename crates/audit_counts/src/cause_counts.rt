@@ -14,7 +14,7 @@ pub struct Causes {
 }
 
 impl Causes {
-    ghost use Rattle.audit_counts.specs.Causes.{AreCausesWith, causes_of};
+    ghost use Rattle.audit_counts.specs.CauseCounts.{AreCausesWith, causes_of};
 
     /// Creates counts of 0.
     pub(crate) fn new() -> Self

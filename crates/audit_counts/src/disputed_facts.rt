@@ -1,7 +1,7 @@
 //! The number of disputed facts.
 ghost use Rattle.std.specs.Prelude.{◌≡◌};
 ghost use Rattle.fact_store.specs.View.{cells_of};
-ghost use Rattle.audit_counts.specs.Disputed.{disputed, is_disputed};
+ghost use Rattle.audit_counts.specs.DisputedFacts.{disputed, is_disputed};
 
 use fact_join::Cell;
 use fact_store::{Sighting, Store};

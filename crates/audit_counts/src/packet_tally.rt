@@ -39,7 +39,8 @@ impl PacketTally {
         }
     }
 
-    /// Counts `packet`. If `packet` does not arrive, also adds it to the packets of its kind.
+    /// Counts `packet`. If `packet` does not arrive, adds it to the packets of its kind. Returns an error if a count
+    /// does not fit in 64 bits, or if memory is refused.
     pub(crate) fn add(&mut self, packet: SentPacket) -> Result<(), AllocError>
         ensures { OnOk result (IsWith self.old packet self.new) }
     {

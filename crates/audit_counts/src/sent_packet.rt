@@ -12,7 +12,7 @@ pub struct SentPacket {
     pub line: HeldLid,
     /// The end port that sends the packet.
     pub source: EndPort,
-    /// Where the packet ends; `None` if it loops.
+    /// Where the packet ends; `None` if the packet loops forever.
     pub end: Option<End>,
 }
 

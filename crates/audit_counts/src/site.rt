@@ -2,15 +2,15 @@
 ghost use Rattle.std.specs.Prelude.{◌≡◌, false, Contains, IfOk, count_by, map, position, slice_get};
 ghost use Rattle.std.specs.Option.{option_map_or};
 ghost use Rattle.fact_store.specs.View.{cells_of};
-ghost use Rattle.subnet_view.specs.EndPorts.{end_ports};
+ghost use Rattle.subnet_view.specs.EndPort.{end_ports};
 ghost use Rattle.subnet_view.specs.Graph.{graph_of, guids_of};
 ghost use Rattle.subnet_view.specs.Components.{root_of};
 ghost use Rattle.audit_ways.specs.Ways.{is_adapter};
-ghost use Rattle.audit_counts.specs.Sites.{IsCensus, IsSiteOf, is_of};
-ghost use Rattle.audit_counts.specs.Sites.{are_adapters, are_joined, are_joined_adapters};
-ghost use Rattle.audit_counts.specs.Sites.{are_one_component, first_root, is_one_root, root_at};
+ghost use Rattle.audit_counts.specs.Site.{IsCensus, IsSiteOf, is_of};
+ghost use Rattle.audit_counts.specs.Site.{are_adapters, are_joined, are_joined_adapters};
+ghost use Rattle.audit_counts.specs.Site.{are_one_component, first_root, is_one_root, root_at};
 ghost use Rattle.subnet_view.specs.Wires.{leads_to};
-ghost use Rattle.audit_counts.specs.Sites.{site_of, switch_of};
+ghost use Rattle.audit_counts.specs.Site.{site_of, switch_of};
 
 use audit_ways::is_adapter;
 use fact_store::Refused;
@@ -155,7 +155,7 @@ pub fn are_adapters(port: &EndPort, other: &EndPort) -> bool
     is_adapter(port) && is_adapter(other)
 }
 
-/// Returns the sites of the end ports of `subnet`, in order.
+/// Returns the sites of the end ports of `subnet`, in the order of `Subnet::end_ports`.
 pub fn sites(alloc: Global, subnet: &Subnet) -> Result<Vec<Site>, Refused>
     ensures { IfOk result (λ sites. sites.items
         ≡ map (site_of (cells_of subnet.now)) (end_ports (cells_of subnet.now))) }
@@ -217,8 +217,8 @@ fn root_at(
     roots[index]
 }
 
-/// Returns the node of `port` if it is a usable switch. Otherwise returns the usable switch at the far end of the wire
-/// of `port`, or `None` if there is none.
+/// Returns the node of `port` if it is a usable switch. Otherwise returns the usable switch to which the wire of
+/// `port` leads, or `None` if this wire leads to no usable switch or `port` has no wire.
 fn switch_of(wires: &Wires, port: &EndPort) -> Option<Guid>
     ensures { result ≡ switch_of (cells_of wires.now) port.now }
 {

@@ -16,7 +16,7 @@ use Rattle.fabric_model.proofs.Cabled.{same_port-is, same_port-refl}
 use Rattle.fabric_model.proofs.FabricWalks.{port_at, same_port, EndNumber, type_at, vertex_node, switch_vertex, adapter_vertex, vertex_is_end, switch_number}
 use Rattle.fact_store.specs.View.{Facts, cells_of}
 use Rattle.subnet_view.specs.declared.end_port.EndPort.{EndPort}
-use Rattle.subnet_view.specs.EndPorts.{end_ports}
+use Rattle.subnet_view.specs.EndPort.{end_ports}
 use Rattle.reply_facts.specs.Known.{cap_of}
 use Rattle.subnet_view.specs.Reading.{Cells, is_switch_node, is_usable}
 use Rattle.subnet_view.specs.Wires.{across, attached, leads_to}
@@ -43,7 +43,7 @@ use Rattle.held_tables.specs.Tables.{is_same_end}
 use Rattle.audit_laws.specs.Laws.{MissedPacketsMiss, PassingAuditsDeliver}
 use Rattle.audit_report.proofs.Judged.{brought}
 use Rattle.audit_counts.specs.Packets.{arrives}
-use Rattle.audit_counts.specs.Sites.{in_one_component, is_one_root, root_at}
+use Rattle.audit_counts.specs.Site.{in_one_component, is_one_root, root_at}
 
 -- what is delivered stays within what is joined -----------------------------------------------
 

@@ -12,7 +12,7 @@ use Rattle.subnet_view.proofs.WireEnds.{same_port}
 use Rattle.lid_assign.specs.Lids.{IsNoRoom, lids, top_of}
 use Rattle.subnet_view.specs.Graph.{graph_of}
 use Rattle.subnet_view.specs.Components.{root_of}
-use Rattle.lft_blocks.specs.Rules.{RuleValue}
+use Rattle.lft_blocks.specs.Rule.{RuleValue}
 use Rattle.lft_blocks.specs.Entries.{attachment_of}
 use Rattle.lft_blocks.specs.Plan.{plan_of}
 use Rattle.held_tables.specs.Held.{HeldPlan, nothing_held}
@@ -22,7 +22,7 @@ use Rattle.held_tables.proofs.HeldPlans.{made}
 use Rattle.packet_walks.proofs.Judged.{same_ends}
 use Rattle.packet_walks.proofs.PlanPackets.{HasRoot, Meets, itself, of_root, by_wire, brought}
 use Rattle.audit_report.specs.Passing.{EachArrives}
-use Rattle.audit_counts.specs.Sites.{in_one_component, root_at, is_one_root}
+use Rattle.audit_counts.specs.Site.{in_one_component, root_at, is_one_root}
 
 roots : (a b : Option ℕ) → is_one_root a b ≡ true → (r : ℕ) × (a ≡ Some r) × (b ≡ Some r)
 roots None b h = absurd (cc)

@@ -22,7 +22,7 @@ use Rattle.subnet_view.proofs.Graphs.{edge_is_wire}
 use Rattle.subnet_view.proofs.GraphSwitches.{graph_guids}
 use Rattle.lft_blocks.specs.Entries.{attachment_of, port_to}
 use Rattle.lft_blocks.proofs.AttachmentSwitches.{attachment_is_switch}
-use Rattle.lft_blocks.specs.Rules.{RuleValue, routing_by}
+use Rattle.lft_blocks.specs.Rule.{RuleValue, routing_by}
 use Rattle.lft_blocks.proofs.RulesRoute.{rules_are_routings}
 use Rattle.lft_blocks.specs.Plan.{plan_of, lid_routing}
 use Rattle.held_tables.specs.Held.{HeldPlan, nothing_held}

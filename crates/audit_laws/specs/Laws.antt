@@ -9,12 +9,12 @@ use Rattle.reply_facts.specs.declared.key.Key.TheVariants as key
 use Rattle.reply_facts.specs.declared.value.Value.{Value}
 use Rattle.reply_facts.specs.Known.{link_of}
 use Rattle.fact_store.specs.View.{Facts, cells_of, AreInRange}
-use Rattle.subnet_view.specs.EndPorts.{IsNodeWith}
+use Rattle.subnet_view.specs.EndPort.{IsNodeWith}
 use Rattle.subnet_view.specs.Reading.{Cells}
 use Rattle.subnet_view.specs.FabricAgreement.{Part, IsEndPortIn}
 use Rattle.fact_gaps.specs.Gaps.{IsKnownNode, IsKnownPort, unjoined_ports}
 use Rattle.lid_assign.specs.Lids.{IsNoRoom}
-use Rattle.lft_blocks.specs.Rules.{RuleValue}
+use Rattle.lft_blocks.specs.Rule.{RuleValue}
 use Rattle.lft_blocks.specs.Plan.{plan_of}
 use Rattle.held_tables.specs.Held.{HeldPlan}
 use Rattle.held_tables.specs.PlanTables.{held_plan}
@@ -23,9 +23,9 @@ use Rattle.audit_counts.specs.declared.sent_packet.SentPacket.{SentPacket}
 use Rattle.audit_counts.specs.Packets.{arrives, packets_of}
 use Rattle.audit_report.specs.Passing.{EachNodeIsKnown, Passes}
 
--- by each rule and under each LMC, the tables of a view's plan pass an audit by that view, if three conditions hold:
--- the view's facts are in range; there is room for the LIDs; and the facts have the type of each node that they name
--- and, for a switch, the table room too
+-- if a view's facts are in range and have room for the LIDs, and have the type of each node that they name and, for a
+-- switch, the table room too, the tables of the view's plan under each rule and each LMC pass an audit against the
+-- view
 abbrev pub PlansPass : Type 0
 PlansPass =
     (rule : RuleValue) (lmc : ℕ) (facts : Facts) → AreInRange facts → ¬ (IsNoRoom lmc (cells_of facts))
@@ -52,7 +52,7 @@ pub record KnowsAll (cells : Cells) : Type 0 where
   pub far_ends : (g p h q : ℕ) → link_of cells g p ≡ Some (h, q) → AreKnown cells h q
   pub switches : (g ports : ℕ) → IsNodeWith cells g Switch ports → AreKnown cells g 0
 
--- if tables pass an audit by the facts, the facts know all (`KnowsAll`)
+-- if tables pass an audit against the facts, the facts know all (`KnowsAll`)
 abbrev pub PassingAuditsKnowAll : Type 0
 PassingAuditsKnowAll = (facts : Facts) (held : HeldPlan) → Passes (cells_of facts) held → KnowsAll (cells_of facts)
 
@@ -62,17 +62,17 @@ EachArrivesIn part f = (source target : NodePort) (from into : Node) (lid : ℕ)
     → IsEndPortIn part f target into → 1 ≤ lid
     → IsTrue (owns f target lid) → ArrivesAt f source target lid
 
--- each packet between end ports of the part that is joined to the end port `origin` is delivered at the end port that
--- owns the packet's LID, if three conditions hold: the facts describe this part; the part holds the tables; and the
--- tables pass an audit by the facts
+-- suppose the facts describe the part that is joined to the end port `origin`, the part holds the tables, and the
+-- tables pass an audit against the facts. Then each packet between end ports of this part is delivered at the end
+-- port that owns the packet's LID
 abbrev pub PassingAuditsDeliver : Type 0
 PassingAuditsDeliver =
     (facts : Facts) (held : HeldPlan) (f : Fabric) (origin : NodePort) → IsEndPort f origin
     → IsSeenIn (IsJoinedTo f origin) (cells_of facts) held f
     → Passes (cells_of facts) held → EachArrivesIn (IsJoinedTo f origin) f
 
--- a packet that is counted as not arriving is not delivered at the end port of its line, if the facts describe all that
--- is joined to the end port `origin`, and this part holds the tables
+-- if the facts describe all that is joined to the end port `origin`, and this part holds the tables, a packet for a
+-- LID other than 0 that is counted as not arriving is not delivered at the end port of its line
 abbrev pub MissedPacketsMiss : Type 0
 MissedPacketsMiss =
     (facts : Facts) (held : HeldPlan) (f : Fabric) (origin : NodePort) → IsEndPort f origin

@@ -5,7 +5,7 @@ use Rattle.std.proofs.lemmas.Bool.{eqb-true, eq-eqb}
 use Rattle.std.proofs.lemmas.List.Sums.{sum_by-cons, count_by-le-length}
 use Rattle.fact_store.specs.View.{cells_of}
 use Rattle.subnet_view.specs.declared.end_port.EndPort.{EndPort}
-use Rattle.subnet_view.specs.EndPorts.{end_ports}
+use Rattle.subnet_view.specs.EndPort.{end_ports}
 use Rattle.subnet_view.specs.Reading.{Cells}
 use Rattle.subnet_view.proofs.Members.{contains_here, contains_later, contains_cases, contains_none, contains_filter, contains-from_filter, list_any_true}
 use Rattle.subnet_view.proofs.Members.{list_any_at}
@@ -29,7 +29,7 @@ use Rattle.audit_counts.specs.declared.packet_tally.PacketTally.{PacketTally}
 use Rattle.audit_counts.specs.declared.unmatched.Unmatched.{Unmatched}
 use Rattle.audit_counts.specs.Packets.{arrives, packet_of, packets_for, packets_of, sent_to}
 use Rattle.audit_report.specs.Passing.{EachArrives, CanRise, IsCycle, IsFound}
-use Rattle.audit_counts.specs.Sites.{in_one_component}
+use Rattle.audit_counts.specs.Site.{in_one_component}
 
 -- counting all ------------------------------------------------------------------------
 

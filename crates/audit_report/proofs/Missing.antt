@@ -7,7 +7,7 @@ use Rattle.std.proofs.lemmas.List.Sums.{sum_by-cons}
 use Rattle.std.proofs.lemmas.Nat.{pow_pos}
 use Rattle.fact_store.specs.View.{Facts, cells_of}
 use Rattle.subnet_view.specs.declared.end_port.EndPort.{EndPort}
-use Rattle.subnet_view.specs.EndPorts.{end_ports}
+use Rattle.subnet_view.specs.EndPort.{end_ports}
 use Rattle.subnet_view.specs.Reading.{Cells, switches}
 use Rattle.subnet_view.proofs.Members.{contains_here, contains_later, contains_cases, contains_none, list_any_true, list_any_at}
 use Rattle.subnet_view.proofs.Apart.{contains_map, contains-from_map}
@@ -15,7 +15,7 @@ use Rattle.fact_gaps.specs.Gaps.{unusable_nodes}
 use Rattle.fact_gaps.proofs.Gaps.{nodes_law}
 use Rattle.lid_assign.specs.Lids.{Given, IsNoRoom, lids, lmc_of, top_of, top_among}
 use Rattle.lid_assign.proofs.LidLaws.{lids_law}
-use Rattle.lft_blocks.specs.Rules.{RuleValue}
+use Rattle.lft_blocks.specs.Rule.{RuleValue}
 use Rattle.lft_blocks.specs.Entries.{attachment_of_lid, block_count, blocks}
 use Rattle.lft_blocks.specs.Plan.{SwitchTable, plan_of, lid_routing}
 use Rattle.held_tables.specs.declared.held.HeldLid.{HeldLid}

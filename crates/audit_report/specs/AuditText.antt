@@ -1,16 +1,16 @@
 -- An audit as text.
 use Rattle.std.specs.Prelude.{ℕ, ◌-◌, ◌/◌, ◌%◌, ◌==◌, not, List, [], ◌∷◌, ◌++◌, Option, None, Some, codes, count_by, decimal, filter, length, nat_lt}
-use Rattle.std.specs.Prelude.{slice_index, if◌then◌else◌}
+use Rattle.std.specs.Prelude.{if◌then◌else◌}
 use Rattle.std.specs.Option.{option_map_or}
 use Rattle.std.specs.List.{flat_map}
 use Rattle.smp_bytes.specs.Text.{guid_text, port_text}
 use Rattle.fact_store.specs.View.{cells_of}
 use Rattle.subnet_view.specs.declared.end_port.EndPort.{EndPort}
-use Rattle.subnet_view.specs.Reading.{Cells, switches}
+use Rattle.subnet_view.specs.Reading.{Cells}
 use Rattle.held_tables.specs.declared.held.HeldLid.{HeldLid}
 use Rattle.held_tables.specs.Held.{HeldPlan}
-use Rattle.packet_walks.specs.declared.packet_end.Cause.{Cause}
-use Rattle.packet_walks.specs.declared.packet_end.Cause.TheVariants.{AboveTop, NoEntry, NoPort, NoLink, Foreign}
+use Rattle.packet_walks.specs.declared.cause.Cause.{Cause}
+use Rattle.packet_walks.specs.declared.cause.Cause.TheVariants.{AboveTop, NoEntry, NoPort, NoLink, Foreign}
 use Rattle.packet_walks.specs.declared.packet_end.End.{End}
 use Rattle.packet_walks.specs.declared.packet_end.End.TheVariants.{Taken, Lost}
 use Rattle.packet_walks.specs.HopsByTables.{entry_by}
@@ -22,9 +22,11 @@ use Rattle.audit_counts.specs.declared.cause_counts.Causes.{Causes}
 use Rattle.audit_counts.specs.declared.pairs.Pairs.{Pairs}
 use Rattle.audit_counts.specs.declared.packet_tally.PacketTally.{PacketTally}
 use Rattle.audit_counts.specs.declared.unmatched.Unmatched.{Unmatched}
-use Rattle.audit_counts.specs.Causes.{causes_of}
-use Rattle.audit_counts.specs.Disputed.{disputed}
+use Rattle.audit_counts.specs.CauseCounts.{causes_of}
+use Rattle.audit_counts.specs.DisputedFacts.{disputed}
 use Rattle.audit_counts.specs.Packets.{arrives, goes_round, is_between, is_lost, is_misdelivered, packets_of}
+use Rattle.audit_report.specs.declared.cycle_text.ChannelKind.TheVariants.{OnOneLane}
+use Rattle.audit_report.specs.CycleText.{cycle_line}
 use Rattle.audit_report.specs.Passing.{Audited}
 use Rattle.audit_counts.specs.FirstFew.{Listed, listed_of, more_of}
 use Rattle.audit_counts.specs.Unmatched.{lidless, tableless, twice, unjoined, unknown, unowned, unusable}
@@ -61,7 +63,8 @@ abbrev pub missed_line : Causes → ℕ → ℕ → List ℕ
 missed_line causes misdelivered round =
     codes "missed" ++ causes_text causes ++ others_text misdelivered round ++ codes "\n"
 
--- the entry by which a switch drops a packet; empty for None, if the node is not a usable switch
+-- if the node at which a packet is lost is a usable switch, the switch's entry for the packet; empty for None, since
+-- the node is not a usable switch
 abbrev pub entry_text : Option ℕ → List ℕ
 entry_text entry = option_map_or (λ port. codes " by " ++ decimal port) entry []
 
@@ -82,7 +85,7 @@ abbrev pub lost_text : Cells → HeldPlan → ℕ → ℕ → Cause → List ℕ
 lost_text cells held lid g cause =
     codes " at " ++ guid_text g ++ entry_text (entry_by cells held g lid) ++ cause_text cause
 
--- the end of a packet for `lid`; empty for None, if the packet loops
+-- the end of a packet for `lid`; empty for None, since the packet loops
 abbrev pub end_text : Cells → HeldPlan → ℕ → Option End → List ℕ
 end_text cells held lid None = []
 end_text cells held lid (Some (Taken e)) = taken_text e
@@ -93,12 +96,12 @@ abbrev pub sent_text : List ℕ → SentPacket → List ℕ
 sent_text word packet =
     word ++ codes " " ++ port_text packet.source.node packet.source.port ++ codes " " ++ decimal packet.line.lid
 
--- the line of a packet: `word`, its sender, its LID, and where it ends
+-- the line of a packet: `word`, the packet's sender and LID, and where the packet ends
 abbrev pub packet_line : Cells → HeldPlan → List ℕ → SentPacket → List ℕ
 packet_line cells held word packet =
     sent_text word packet ++ end_text cells held packet.line.lid packet.end ++ codes "\n"
 
--- a line for each packet: `word`, the packet's sender, its LID, and where it ends
+-- a line for each packet: `word`, the packet's sender and LID, and where the packet ends
 abbrev pub packets_text : Cells → HeldPlan → List ℕ → List SentPacket → List ℕ
 packets_text cells held word packets = flat_map (packet_line cells held word) packets
 
@@ -144,20 +147,6 @@ figures_line word figures = word ++ figures_text figures ++ codes "\n"
 -- the figures of the wires that packets between adapter ports take, and of the loads of channels
 abbrev pub ways_text : Option Figures → Option Figures → List ℕ
 ways_text hops load = figures_line (codes "hops") hops ++ figures_line (codes "load") load
-
--- a space, and the switch and the port of `channel`
-abbrev pub channel_text : Cells → ℕ → List ℕ
-channel_text cells channel = codes " " ++ port_text (slice_index (switches cells) (channel / 256)) (channel % 256)
-
--- the channels of a credit loop; `none` if the list is empty
-abbrev pub channels_text : Cells → List ℕ → List ℕ
-channels_text cells [] = codes " none"
-channels_text cells (channel ∷ later) = codes " on one lane" ++ flat_map (channel_text cells) (channel ∷ later)
-
--- the line of the credit loop `cycle`, which packets can form if all of them use one virtual lane; it says `none` if
--- `cycle` is empty
-abbrev pub cycle_line : Cells → List ℕ → List ℕ
-cycle_line cells cycle = codes "credit loop" ++ channels_text cells cycle ++ codes "\n"
 
 -- the first packets that are lost, that are misdelivered and that loop, and how many more of each kind there are
 abbrev pub missed_text : Cells → HeldPlan → Listed SentPacket → Listed SentPacket → Listed SentPacket → List ℕ
@@ -226,7 +215,7 @@ findings_text most cells held =
 
 -- the text of an audit with the credit loop `cycle`, or without one if `cycle` is empty
 abbrev pub text_of : ℕ → Cells → HeldPlan → List ℕ → List ℕ
-text_of most cells held cycle = findings_text most cells held ++ cycle_line cells cycle
+text_of most cells held cycle = findings_text most cells held ++ cycle_line cells OnOneLane cycle
 
 -- the text of an audit, with the credit loop that was found, if there is one
 unfoldable pub audit_text : Audited → List ℕ

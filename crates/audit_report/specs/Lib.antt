@@ -1,3 +1,4 @@
 pub mod AuditText
+pub mod CycleText
 pub mod Passing
-pub mod RunAudit
+pub mod AuditRun

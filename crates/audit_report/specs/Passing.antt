@@ -6,7 +6,7 @@ use base.Stored.{coded_list}
 use Rattle.fact_store.specs.View.{Facts, cells_of}
 use Rattle.fact_store.specs.Coded.{facts_code}
 use Rattle.subnet_view.specs.declared.end_port.EndPort.{EndPort}
-use Rattle.subnet_view.specs.EndPorts.{end_ports}
+use Rattle.subnet_view.specs.EndPort.{end_ports}
 use Rattle.subnet_view.specs.Reading.{Cells, switches}
 use Rattle.fact_gaps.specs.Gaps.{IsKnownNode}
 use Rattle.fact_gaps.specs.NamedPorts.{IsNamedNode}
@@ -24,9 +24,9 @@ use Rattle.audit_ways.specs.Figures.{figures_of}
 use Rattle.audit_ways.specs.Ways.{AreWayFigures, loads_of}
 use Rattle.audit_counts.specs.declared.packet_tally.PacketTally.{PacketTally}
 use Rattle.audit_counts.specs.declared.unmatched.Unmatched.{Unmatched}
-use Rattle.audit_counts.specs.Disputed.{disputed}
+use Rattle.audit_counts.specs.DisputedFacts.{disputed}
 use Rattle.audit_counts.specs.Packets.{packets_of}
-use Rattle.audit_counts.specs.Sites.{in_one_component}
+use Rattle.audit_counts.specs.Site.{in_one_component}
 use Rattle.audit_counts.specs.PacketTally.{IsTally}
 use Rattle.audit_counts.specs.Unmatched.{IsUnmatched}
 
@@ -37,8 +37,8 @@ ArriveAt cells held line = (e : EndPort) → Contains (end_ports cells) line.por
     → in_one_component cells e line.port ≡ true
     → IsBrought cells held line.lid e (Some (Taken line.port))
 
--- each packet for a held LID of an end port of the facts is delivered at that end port, if an end port of the same
--- component sends the packet
+-- each packet that an end port of the facts sends for a held LID of an end port of the same component is delivered at
+-- the latter end port
 abbrev pub EachArrives : Cells → HeldPlan → Type 0
 EachArrives cells held = (line : HeldLid) → Contains held.lids line → ArriveAt cells held line
 
@@ -94,14 +94,15 @@ is_within None load = true
 is_within (Some bound) None = true
 is_within (Some bound) (Some load) = nat_le load.most bound
 
--- the tables pass and, if there is a bound, no channel has a load above it: the load counts one packet from each
--- adapter port to each LID of another adapter port, if it is delivered there
+-- the tables pass and, if there is a bound, no channel has a load above it. The load counts one packet from each
+-- adapter port to each LID of another adapter port, if the packet is delivered there
 pub record PassesWithin (bound : Option ℕ) (cells : Cells) (held : HeldPlan) : Type 0 where
   pub passes : Passes cells held
   pub within : is_within bound (figures_of (loads_of cells held)) ≡ true
 
--- the tables are whole for the facts, each packet arrives and, if there is a bound, no channel has a load above it: the
--- load counts one packet from each adapter port to each LID of another adapter port, if it is delivered there
+-- the tables are whole for the facts, each packet arrives and, if there is a bound, no channel has a load above it.
+-- The load counts one packet from each adapter port to each LID of another adapter port, if the packet is delivered
+-- there
 pub record DeliversWithin (bound : Option ℕ) (cells : Cells) (held : HeldPlan) : Type 0 where
   pub whole : IsWholeFor cells held
   pub arrive : EachArrives cells held

@@ -4,7 +4,7 @@ ghost use Rattle.std.specs.Io.KnownBytes.{Appends};
 ghost use Rattle.fact_store.specs.View.{cells_of};
 ghost use Rattle.audit_report.specs.AuditText.{audit_text};
 ghost use Rattle.audit_report.specs.Passing.{PassesWithin};
-ghost use Rattle.audit_report.specs.RunAudit.{HasAudited, IsAnswerFault, IsAuditFault, IsAudited, most_lines};
+ghost use Rattle.audit_report.specs.AuditRun.{HasAudited, IsAnswerFault, IsAuditFault, IsAudited, most_lines};
 
 use crate::{Audit, write_audit};
 use byte_io::{Sink, Source};
@@ -29,9 +29,10 @@ pub struct AuditAsked {
     pub max_load: Option<u64>,
 }
 
-/// Reads the tables from the first input, and then the files in order. There must be at least one input. Writes what
-/// these tables do with the packets of the subnet that the files describe together, and flushes. Returns whether the
-/// tables pass and no channel has a load over `asked.max_load`.
+/// Reads the tables from the first input, and then the files from the other inputs, one after the other. There must
+/// be at least one input. Writes what these tables do with the packets of the subnet that the files describe
+/// together, and flushes. Returns whether the tables pass and, if there is an `asked.max_load`, no channel has a
+/// greater load.
 ///
 /// # Errors
 ///
@@ -58,8 +59,8 @@ pub fn run_audit<S: Source, W: Sink>(
     }
 }
 
-/// Writes the audit of `held` in the subnet of `store`, and flushes. Returns whether the tables pass and no channel has
-/// a load over `asked.max_load`.
+/// Writes the audit of the tables `held` in the subnet of `store`, and flushes. Returns whether the tables pass and,
+/// if there is an `asked.max_load`, no channel has a greater load. If the fault is not `Write`, nothing was written.
 fn answer<W: Sink>(
     alloc: Global,
     sink: &mut W,
@@ -90,7 +91,8 @@ pub fn most_lines(all: bool) -> usize
     if all { usize::MAX } else { MOST_TOLD }
 }
 
-/// Writes what `audit` found, and flushes. Returns whether the tables pass and no channel has a load over `max_load`.
+/// Writes what `audit` found, and flushes. Returns whether the tables pass and, if there is a `max_load`, no channel
+/// has a greater load. If the fault is not `Write`, nothing was written.
 fn tell<W: Sink>(sink: &mut W, max_load: Option<u64>, audit: &Audit) -> Result<bool, Fault>
     ensures told { IfOk result (λ passed.
         Appends (W.written sink.old) (W.written sink.new) (audit_text audit.now)

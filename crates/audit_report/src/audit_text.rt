@@ -1,11 +1,10 @@
 //! An audit as text.
-ghost use Rattle.std.specs.Prelude.{◌≡◌, ◌-◌, ◌/◌, IsTrue, OnOk, codes, slice_index};
+ghost use Rattle.std.specs.Prelude.{◌-◌, IsTrue, OnOk, codes};
 ghost use Rattle.std.specs.List.{flat_map};
 ghost use Rattle.fact_store.specs.View.{cells_of};
-ghost use Rattle.subnet_view.specs.Reading.{switches};
 ghost use Rattle.byte_io.specs.Writes.{Writes};
 ghost use Rattle.lft_blocks.specs.WritesPart.{WritesPart};
-ghost use Rattle.audit_report.specs.AuditText.{audit_text, channel_text, channels_text, cycle_line, disputed_line};
+ghost use Rattle.audit_report.specs.AuditText.{audit_text, disputed_line};
 ghost use Rattle.audit_report.specs.AuditText.{cause_text, causes_text, count_text, counts_line, findings_text};
 ghost use Rattle.audit_report.specs.AuditText.{listed_text, missed_line};
 ghost use Rattle.audit_report.specs.AuditText.{more_line, others_text, pairs_text, tally_text};
@@ -15,13 +14,14 @@ ghost use Rattle.audit_report.specs.AuditText.{port_line, kind_text};
 ghost use Rattle.audit_report.specs.AuditText.{lost_text, missed_text, sent_text, switch_line, taken_text};
 ghost use Rattle.audit_report.specs.AuditText.{unmatched_text};
 
+use crate::cycle_text::{ChannelKind, write_cycle};
 use crate::findings::Audit;
 use audit_counts::{Causes, FirstFew, PacketTally, Pairs, SentPacket, Unmatched};
 use audit_ways::{Figures, WayFigures};
 use byte_io::{Sink, WriteFault, write_guid, write_number, write_port};
 use held_tables::HeldLid;
 use packet_walks::{Cause, End, Network};
-use smp_bytes::{Guid, Lid, PortNum};
+use smp_bytes::{Guid, Lid};
 use subnet_view::EndPort;
 
 /// Writes an audit, and flushes:
@@ -44,7 +44,12 @@ pub fn write_audit<W: Sink>(sink: &mut W, audit: &Audit) -> Result<(), WriteFaul
     ensures flushed { OnOk result (IsTrue (W.is_flushed sink.new)) }
 {
     write_findings(sink, audit)?;
-    write_cycle(sink, &audit.network, &audit.findings.cycle)?;
+    write_cycle(
+        sink,
+        &audit.network,
+        ChannelKind::OnOneLane,
+        &audit.findings.cycle,
+    )?;
     sink.flush()
 }
 
@@ -209,7 +214,8 @@ fn write_packets<W: Sink>(
     Ok(())
 }
 
-/// Writes the line of `packet`: `word`, the end port that sends it, its LID, and where it ends.
+/// Writes the line of `packet`: `word`, the end port that sends the packet, the packet's LID, and where the packet
+/// ends.
 fn write_packet<W: Sink>(
     sink: &mut W,
     network: &Network,
@@ -473,70 +479,4 @@ fn write_hundredths<W: Sink>(sink: &mut W, number: u64) -> Result<(), WriteFault
     sink.write(b".")?;
     write_number(sink, number / 10 % 10)?;
     write_number(sink, number % 10)
-}
-
-/// Writes the line of the credit loop `cycle`, or that there is none if `cycle` is empty. Each channel is written as a
-/// switch and its outgoing port.
-pub fn write_cycle<W: Sink>(
-    sink: &mut W,
-    network: &Network,
-    cycle: &[usize],
-) -> Result<(), WriteFault>
-    ensures { WritesPart W.written W.has_failed result sink.old sink.new
-        (cycle_line (cells_of network.now.facts) cycle.now) }
-{
-    sink.write(b"credit loop")?;
-    write_channels(sink, network, cycle)?;
-    sink.write(b"\n")
-}
-
-/// Writes the channels of the credit loop `cycle`, or that there is none if `cycle` is empty.
-fn write_channels<W: Sink>(
-    sink: &mut W,
-    network: &Network,
-    cycle: &[usize],
-) -> Result<(), WriteFault>
-    ensures { WritesPart W.written W.has_failed result sink.old sink.new
-        (channels_text (cells_of network.now.facts) cycle.now) }
-{
-    if cycle.is_empty() {
-        return sink.write(b" none");
-    }
-    sink.write(b" on one lane")?;
-    write_each_channel(sink, network, cycle)
-}
-
-/// Writes each of `channels`, with a space before it.
-fn write_each_channel<W: Sink>(
-    sink: &mut W,
-    network: &Network,
-    channels: &[usize],
-) -> Result<(), WriteFault>
-    ensures { WritesPart W.written W.has_failed result sink.old sink.new
-        (flat_map (channel_text (cells_of network.now.facts)) channels.now) }
-{
-    for channel in channels {
-        write_channel(sink, network, *channel)?;
-    }
-    Ok(())
-}
-
-/// Writes a space, and the switch and the outgoing port of `channel`.
-fn write_channel<W: Sink>(sink: &mut W, network: &Network, channel: usize) -> Result<(), WriteFault>
-    ensures { Writes W.written W.has_failed result sink.old sink.new
-        (channel_text (cells_of network.now.facts) channel) }
-{
-    sink.write(b" ")?;
-    let port = PortNum::new((channel % 256) as u8);
-    write_port(sink, switch_of(network, channel), port)
-}
-
-/// Returns the switch of `channel`, or GUID 0 if no usable switch has the index that `channel` gives.
-fn switch_of(network: &Network, channel: usize) -> Guid
-    ensures { result ≡ slice_index (switches (cells_of network.now.facts)) (channel / 256) }
-{
-    match network.switch(channel / 256) {
-        Some(guid) => guid,
-        None => Guid::new(0),
-    }
 }

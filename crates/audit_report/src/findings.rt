@@ -88,9 +88,9 @@ impl<'a> Audit<'a> {
         })
     }
 
-    /// Returns whether the tables pass and no channel has a load over `bound`. If `bound` is `None`, there is no bound.
-    /// The load of a channel counts the delivered packets that take it, one from each adapter port to each LID of
-    /// another adapter port.
+    /// Returns whether the tables pass and, if there is a `bound`, no channel has a greater load. The load of a
+    /// channel counts the delivered packets that take it, one from each adapter port to each LID of another adapter
+    /// port.
     pub fn passes_within(&self, bound: Option<u64>) -> bool
         ensures { IsTrue result ↔ PassesWithin bound (cells_of self.now.facts) self.now.held }
     {
@@ -158,8 +158,8 @@ impl<'a> Audit<'a> {
         self.findings.cycle.is_empty()
     }
 
-    /// Returns whether the tables are whole for the facts, each packet arrives, and no channel has a load over `bound`.
-    /// If `bound` is `None`, there is no bound. Credit loops do not matter.
+    /// Returns whether the tables are whole for the facts, each packet arrives and, if there is a `bound`, no channel
+    /// has a greater load. Credit loops do not matter.
     pub fn delivers_within(&self, bound: Option<u64>) -> bool
         ensures { IsTrue result ↔ DeliversWithin bound (cells_of self.now.facts) self.now.held }
     {

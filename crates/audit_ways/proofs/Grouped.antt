@@ -7,7 +7,7 @@ use Rattle.std.proofs.lemmas.List.Elements.{filter-append}
 use Rattle.std.proofs.lemmas.List.Sums.{sum_by-cons, sum_by_push}
 use Rattle.std.proofs.lemmas.List.Quantifiers.{position-Some}
 use Rattle.subnet_view.specs.declared.end_port.EndPort.{EndPort}
-use Rattle.subnet_view.specs.EndPorts.{end_ports}
+use Rattle.subnet_view.specs.EndPort.{end_ports}
 use Rattle.subnet_view.specs.Reading.{Cells, switches}
 use Rattle.subnet_view.specs.Wires.{across}
 use Rattle.held_tables.specs.declared.held.HeldLid.{HeldLid}
@@ -25,7 +25,7 @@ use Rattle.packet_walks.proofs.InTime.{found_at}
 use Rattle.port_graph.proofs.Counts.{length_map}
 use Rattle.audit_ways.specs.declared.way_tally.WayTally.{WayTally}
 use Rattle.audit_ways.specs.declared.sender_groups.Groups.{Groups}
-use Rattle.audit_ways.specs.Groups.{AreGrouped, IsGroupedWith, IsWithin, by_switch, packets_at}
+use Rattle.audit_ways.specs.SenderGroups.{AreGrouped, IsGroupedWith, IsWithin, by_switch, packets_at}
 use Rattle.audit_ways.specs.WayTally.{IsCounted, IsCountedMore, Sum, grouped, weighed}
 use Rattle.audit_ways.specs.Ways.{Way, one_wire, reaches, reaches_if, way_from, way_of, way_over, ways_to}
 use Rattle.audit_ways.proofs.Counted.{counted_as, none_weighed, weighed_set}

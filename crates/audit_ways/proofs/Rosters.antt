@@ -2,21 +2,20 @@
 use Rattle.std.proofs.Common.{◌≡◌, ◌<◌, ℕ, List, [], ◌∷◌, Bool, true, false, get_or, length, map, inl, inr, refl, sym, ap, ◌∙◌, subst, arith}
 use Rattle.std.specs.Prelude.{Contains, Option, None, Some, ◌&&◌, ◌||◌}
 use Rattle.std.specs.Result.{result_ok}
-use Rattle.std.specs.Cmp.{IsTotalOrder, tied_itself}
-use Rattle.std.specs.FinMap.{nat_cmp-IsAntisymmetric}
+use Rattle.std.specs.Cmp.{tied_itself}
 use Rattle.std.specs.List.{list_any}
 use Rattle.std.specs.List.Sorted.{IsBinarySearchResult, IsNonDecreasingBy, IsPartitionPoint, IsSearchInRange}
-use Rattle.std.specs.Ordering.{nat_cmp, ordering_index}
+use Rattle.std.specs.Ordering.{ordering_index}
 use Rattle.std.specs.declared.cmp.Ordering.TheVariants.{Less, Equal, Greater}
 use Rattle.std.specs.declared.result.Result.{Result}
 use Rattle.std.specs.declared.result.Result.TheVariants.{Ok, Err}
 use Rattle.std.proofs.lemmas.Bool.{cases_lt}
-use Rattle.std.proofs.lemmas.Cmp.{nat_cmp_total, on_total, then_total}
 use Rattle.std.proofs.lemmas.List.Elements.{Contains-get_or}
 use Rattle.std.proofs.lemmas.List.Sorted.{Contains-permutation, IsPermutation-sym, list_any-IsPermutation, searchable_from_sorted}
-use Rattle.std.proofs.lemmas.Map.Lookups.{exact_pairs}
+use Rattle.smp_bytes.specs.Ports.{node_port_cmp}
+use Rattle.smp_bytes.proofs.NodePorts.{node_port_exact, node_port_total}
 use Rattle.subnet_view.specs.declared.end_port.EndPort.{EndPort}
-use Rattle.subnet_view.specs.EndPorts.{end_ports}
+use Rattle.subnet_view.specs.EndPort.{end_ports}
 use Rattle.subnet_view.specs.Reading.{Cells}
 use Rattle.subnet_view.proofs.Apart.{contains-from_map}
 use Rattle.subnet_view.proofs.Members.{list_any_at, list_any_true}
@@ -25,24 +24,21 @@ use Rattle.held_tables.specs.declared.senders.Sender.{Sender}
 use Rattle.held_tables.specs.Switches.{far_of, sender_of}
 use Rattle.held_tables.specs.Tables.{is_owner, is_same_end}
 use Rattle.packet_walks.proofs.Judged.{same_ends, same_itself}
-use Rattle.audit_ways.specs.Groups.{AreByPort, IsRoster, IsTargetAmong, LeadsTo, port_cmp, port_of}
+use Rattle.audit_ways.specs.SenderGroups.{AreByPort, IsRoster, IsTargetAmong, LeadsTo, port_of}
 use Rattle.audit_ways.specs.Ways.{is_adapter, is_target}
-
-port_total : IsTotalOrder port_cmp
-port_total = then_total (on_total (λ (x : ℕ × ℕ). x.0) nat_cmp_total) (on_total (λ (x : ℕ × ℕ). x.1) nat_cmp_total)
 
 module _ (roster : List Sender) (e : EndPort) where
   abbrev sought : ℕ × ℕ
   sought = (e.node, e.port)
 
   abbrev IsSearched : Result ℕ ℕ → Type 0
-  IsSearched r = IsBinarySearchResult (λ (s : Sender). port_cmp (port_of s) sought) roster r
+  IsSearched r = IsBinarySearchResult (λ (s : Sender). node_port_cmp (port_of s) sought) roster r
 
   -- what is found is the port's
-  found_at : (i : ℕ) (d : Sender) → i < length roster → port_cmp (port_of (get_or roster i d)) sought ≡ Equal → LeadsTo roster e (get_or roster i d).far
+  found_at : (i : ℕ) (d : Sender) → i < length roster → node_port_cmp (port_of (get_or roster i d)) sought ≡ Equal → LeadsTo roster e (get_or roster i d).far
   found_at i d within tied =
       let s = get_or roster i d in
-      let same : port_of s ≡ sought = exact_pairs nat_cmp nat_cmp nat_cmp-IsAntisymmetric nat_cmp-IsAntisymmetric (port_of s) sought tied in
+      let same : port_of s ≡ sought = node_port_exact (port_of s) sought tied in
       record {
         source = s;
         there = Contains-get_or roster i d within;
@@ -56,16 +52,16 @@ module _ (roster : List Sender) (e : EndPort) where
       cc in subst (λ (k : ℕ). LeadsTo roster e (get_or roster k d).far) same (found_at j d within (found d))
   one_found (Err j) i d within found is = absurd (cc)
 
-  nowhere : (i : ℕ) → IsPartitionPoint (λ (s : Sender). port_cmp (port_of s) sought ≡ Less) (λ (s : Sender). port_cmp (port_of s) sought ≡ Greater) roster i
+  nowhere : (i : ℕ) → IsPartitionPoint (λ (s : Sender). node_port_cmp (port_of s) sought ≡ Less) (λ (s : Sender). node_port_cmp (port_of s) sought ≡ Greater) roster i
       → (s : Sender) → Contains roster s → is_same_end e s.port ≡ true → ⊥
   nowhere i parts s h same =
       let at = get_or roster h.0 s in
-      let tied : port_cmp (port_of at) sought ≡ Equal =
-      ap (λ (x : Sender). port_cmp (port_of x) sought) h.2 ∙ ap (λ (x : EndPort). port_cmp (x.node, x.port) sought) (same_ends e s.port same)
-      ∙ tied_itself port_total sought in
+      let tied : node_port_cmp (port_of at) sought ≡ Equal =
+      ap (λ (x : Sender). node_port_cmp (port_of x) sought) h.2 ∙ ap (λ (x : EndPort). node_port_cmp (x.node, x.port) sought) (same_ends e s.port same)
+      ∙ tied_itself node_port_total sought in
       elim (cases_lt h.0 i) [
-        | inl l ↦ let less : port_cmp (port_of at) sought ≡ Less = parts.0 h.0 s (omega arith) l in absurd (cc)
-        | inr g ↦ let greater : port_cmp (port_of at) sought ≡ Greater = parts.1 h.0 s g h.1 in absurd (cc)
+        | inl l ↦ let less : node_port_cmp (port_of at) sought ≡ Less = parts.0 h.0 s (omega arith) l in absurd (cc)
+        | inr g ↦ let greater : node_port_cmp (port_of at) sought ≡ Greater = parts.1 h.0 s g h.1 in absurd (cc)
       ]
 
   -- if nothing is found, no source has the port
@@ -73,8 +69,8 @@ module _ (roster : List Sender) (e : EndPort) where
   none_found (Ok j) sorted found is = absurd (cc)
   none_found (Err j) sorted found is =
       let test : Sender → Bool = λ s. is_same_end e s.port in
-      let rising : IsNonDecreasingBy (λ (s : Sender). ordering_index (port_cmp (port_of s) sought)) roster =
-      searchable_from_sorted port_total port_of roster sought sorted in
+      let rising : IsNonDecreasingBy (λ (s : Sender). ordering_index (node_port_cmp (port_of s) sought)) roster =
+      searchable_from_sorted node_port_total port_of roster sought sorted in
       elim (list_any test roster) as (λ t. list_any test roster ≡ t → t ≡ false) [
         | true ↦ λ any. let at = list_any_at test roster any in absurd (nowhere j (found rising) at.0 at.1 at.2)
         | false ↦ λ none. refl

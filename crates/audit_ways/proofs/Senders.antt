@@ -8,7 +8,7 @@ use Rattle.std.proofs.lemmas.Bool.{and_parts}
 use Rattle.std.proofs.lemmas.List.Sums.{get_or-le-sum_by}
 use Rattle.fact_store.specs.View.{Facts, cells_of}
 use Rattle.subnet_view.specs.declared.end_port.EndPort.{EndPort}
-use Rattle.subnet_view.specs.EndPorts.{ComesBefore, end_ports}
+use Rattle.subnet_view.specs.EndPort.{ComesBefore, end_ports}
 use Rattle.reply_facts.specs.Known.{port_guid_of}
 use Rattle.subnet_view.specs.Reading.{Cells}
 use Rattle.subnet_view.proofs.EndPortList.{end_ports_law}
@@ -25,7 +25,7 @@ use Rattle.packet_walks.proofs.Arrivals.{all_there}
 use Rattle.packet_walks.proofs.InTime.{found_at}
 use Rattle.packet_walks.proofs.Judged.{same_ends, same_itself}
 use Rattle.audit_ways.specs.declared.sender_groups.Groups.{Groups}
-use Rattle.audit_ways.specs.Groups.{AreGrouped, IsGroupedWith, adapters, by_switch, packets_at, total}
+use Rattle.audit_ways.specs.SenderGroups.{AreGrouped, IsGroupedWith, adapters, by_switch, packets_at, total}
 use Rattle.audit_ways.specs.WayTally.{weighed}
 use Rattle.audit_ways.specs.Ways.{AllComeTo, is_adapter, is_target, reaches, reaches_if}
 use Rattle.audit_ways.proofs.Grouped.{delivered}

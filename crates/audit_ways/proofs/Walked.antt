@@ -6,7 +6,7 @@ use Rattle.std.proofs.lemmas.Bool.{eqb-true, eq-eqb}
 use Rattle.std.proofs.lemmas.List.{length-set}
 use Rattle.std.proofs.lemmas.List.Sums.{sum_by-cons}
 use Rattle.port_graph.specs.declared.edge.Edge.{Edge}
-use Rattle.audit_channels.specs.Columns.{number_of}
+use Rattle.audit_channels.specs.Column.{number_of}
 use Rattle.audit_ways.specs.WayTally.{IsLoadedWith}
 use Rattle.audit_ways.specs.Ways.{channels_from}
 

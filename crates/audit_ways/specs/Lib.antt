@@ -1,4 +1,4 @@
 pub mod Figures
-pub mod Groups
+pub mod SenderGroups
 pub mod WayTally
 pub mod Ways

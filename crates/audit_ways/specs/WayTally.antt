@@ -4,7 +4,7 @@ use Rattle.port_graph.specs.declared.edge.Edge.{Edge}
 use Rattle.audit_ways.specs.declared.way_tally.WayTally.{WayTally}
 use Rattle.audit_ways.specs.Ways.{Way, one_wire, times_on, way_from}
 
--- some routes, given as the sum over them of any number that depends on the route
+-- some routes, given as the sum, for all of these routes, of any number that depends on the route
 abbrev pub Sum : Type 0
 Sum = (Way → ℕ) → ℕ
 
@@ -12,7 +12,7 @@ Sum = (Way → ℕ) → ℕ
 abbrev pub over : ℕ → ℕ → ℕ
 over bound number = if nat_lt bound number then 1 else 0
 
--- `tally` counts the routes over which `sum` sums, their wires and the loads of `channels` channels
+-- `tally` counts the routes that `sum` gives, their wires and the loads of `channels` channels
 pub record IsCounted (channels : ℕ) (sum : Sum) (tally : WayTally) : Type 0 where
   pub as_many : length tally.loads.items ≡ channels
   pub count : tally.hops.count ≡ sum (λ way. 1)
@@ -38,12 +38,12 @@ abbrev pub weighed : (ℕ → ℕ) → List ℕ → ℕ
 weighed number [] = 0
 weighed number (weight ∷ weights) = weight * number 0 + weighed (λ i. number (suc i)) weights
 
--- the sum over `direct` routes of one wire each, and over routes from switches by `edges`, for each switch as many as
--- its weight
+-- the sum for `direct` routes of one wire each, and for routes from switches along `edges`, for each switch as many
+-- as the switch's weight
 abbrev pub grouped : List (Option Edge) → List ℕ → ℕ → Sum
 grouped edges weights direct number = weighed (λ i. number (way_from edges i)) weights + direct * number one_wire
 
--- if `old` counts the routes of some sum, then `new` counts these routes and those of `more`
+-- if `old` counts the routes of some sum, `new` counts these routes and those of `more`
 abbrev pub IsCountedMore : ℕ → WayTally → Sum → WayTally → Type 0
 IsCountedMore channels old more new =
     (sum : Sum) → IsCounted channels sum old → IsCounted channels (λ number. sum number + more number) new

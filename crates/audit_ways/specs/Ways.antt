@@ -4,9 +4,9 @@ use Rattle.std.specs.Prelude.{◌≡◌, ◌+◌, ◌*◌, ◌==◌, ◌&&◌, �
 use Rattle.std.specs.List.{flat_map, range_with_len, sum_by}
 use Rattle.std.specs.Option.{option_map_or}
 use Rattle.port_graph.specs.declared.edge.Edge.{Edge}
-use Rattle.audit_channels.specs.Columns.{number_of}
+use Rattle.audit_channels.specs.Column.{number_of}
 use Rattle.subnet_view.specs.declared.end_port.EndPort.{EndPort}
-use Rattle.subnet_view.specs.EndPorts.{end_ports}
+use Rattle.subnet_view.specs.EndPort.{end_ports}
 use Rattle.subnet_view.specs.Reading.{Cells, switches}
 use Rattle.held_tables.specs.declared.held.HeldLid.{HeldLid}
 use Rattle.held_tables.specs.Held.{HeldPlan}
@@ -26,15 +26,15 @@ pub record Way : Type 0 where
   pub wires : ℕ
   pub channels : List ℕ
 
--- the channels that a packet takes from `switch` on by `edges`, at most as many as the first argument says
+-- the channels that a packet takes along `edges`, starting at `switch`; at most as many as the first argument says
 abbrev pub channels_from : ℕ → List (Option Edge) → ℕ → List ℕ
 channels_from zero edges switch = []
 channels_from (suc steps) edges switch =
     option_map_or (λ edge. number_of switch edge
     ∷ channels_from steps edges edge.to) (slice_index_or edges switch None) []
 
--- the route from an adapter over one wire to `switch`, then over the channels that `edges` give, and over one wire to
--- an adapter
+-- the route from an adapter along one wire to `switch`, then along the channels that `edges` give, and along one wire
+-- to an adapter
 abbrev pub way_from : List (Option Edge) → ℕ → Way
 way_from edges switch = record {
   wires = length (channels_from (length edges) edges switch) + 2;
@@ -42,12 +42,12 @@ way_from edges switch = record {
       channels_from (length edges) edges switch;
 }
 
--- the route over one wire from an adapter to an adapter
+-- the route along one wire from an adapter to an adapter
 abbrev pub one_wire : Way
 one_wire = record { wires = 1; channels = [] }
 
--- the route, by `edges`, of a packet whose sender's wire leads to the given far end; the route over one wire if the
--- far end is not a switch
+-- the route, along `edges`, of a packet whose sender's wire leads to the given far end; the route along one wire if
+-- the far end is not a switch
 abbrev pub way_over : List (Option Edge) → Far → Way
 way_over edges Nothing = one_wire
 way_over edges (Switch index) = way_from edges index

@@ -1,17 +1,17 @@
-//! The channels that packets take from a switch on, and how often each channel is taken.
+//! The channels that packets take, starting at a switch, and how often each channel is taken.
 ghost use Rattle.std.specs.Prelude.{◌≡◌, ◌<◌, ◌+◌, ◌*◌, ◌^◌, None, IfOk, OnOk, length, slice_index};
 ghost use Rattle.std.specs.Prelude.{slice_index_or, slice_set};
-ghost use Rattle.audit_channels.specs.Columns.{number_of};
+ghost use Rattle.audit_channels.specs.Column.{number_of};
 ghost use Rattle.audit_ways.specs.WayTally.{IsLoadedWith};
 ghost use Rattle.audit_ways.specs.Ways.{channels_from};
 
 use port_graph::Edge;
 use std::alloc::AllocError;
 
-/// Follows `edges` from the switch at index `first` on, and adds `times` to the load of a channel each time that it is
-/// taken. Stops after as many channels as there are switches. Returns the number of channels taken. Returns an error
-/// if a load does not fit in 64 bits. Takes time linear in the number of channels taken. `loads` must have a load for
-/// each of the 256 channels of each switch of `edges`.
+/// Follows `edges`, starting at the switch at index `first`, and adds `times` to the load of a channel each time that
+/// the channel is taken. Stops after as many channels as there are switches. Returns the number of channels taken.
+/// Returns an error if a load does not fit in 64 bits. Takes time linear in the number of channels taken. `loads`
+/// must have a load for each of the 256 channels of each switch of `edges`.
 pub(crate) fn load_channels(
     loads: &mut [u64],
     edges: &[Option<Edge>],

@@ -2,7 +2,7 @@
 ghost use Rattle.std.specs.Prelude.{◌≡◌, IfOk};
 ghost use Rattle.std.specs.List.Sorted.{IsPermutation};
 ghost use Rattle.fact_store.specs.View.{cells_of};
-ghost use Rattle.audit_ways.specs.Groups.{AreByPort, IsRoster, IsTargetAmong, port_of};
+ghost use Rattle.audit_ways.specs.SenderGroups.{AreByPort, IsRoster, IsTargetAmong, port_of};
 
 use crate::sender_groups::is_adapter;
 use packet_walks::{Far, Network, Sender};

@@ -1,10 +1,10 @@
 //! Packets for one LID, grouped by the first switch that they reach.
 ghost use Rattle.std.specs.Prelude.{◌≡◌, ◌<◌, ◌≤◌, ◌+◌, [], IfOk, OnOk, filter, length, slice_index, slice_set};
 ghost use Rattle.fact_store.specs.View.{cells_of};
-ghost use Rattle.subnet_view.specs.EndPorts.{end_ports};
+ghost use Rattle.subnet_view.specs.EndPort.{end_ports};
 ghost use Rattle.held_tables.specs.Switches.{switch_over};
 ghost use Rattle.packet_walks.specs.HopsByTables.{AreBrought};
-ghost use Rattle.audit_ways.specs.Groups.{AreGrouped, IsGroupedWith, IsWithin, adapters, packets_at};
+ghost use Rattle.audit_ways.specs.SenderGroups.{AreGrouped, IsGroupedWith, IsWithin, adapters, packets_at};
 ghost use Rattle.audit_ways.specs.Ways.{is_adapter, reaches, reaches_if};
 
 use crate::channel_loads::load_channel;

@@ -2,11 +2,11 @@ ghost use Rattle.std.specs.Prelude.{◌≡◌, ◌*◌, true, false, IfOk, Match
 ghost use Rattle.std.specs.Prelude.{slice_index, slice_index_or};
 ghost use Rattle.std.specs.List.{sum_by};
 ghost use Rattle.fact_store.specs.View.{cells_of};
-ghost use Rattle.subnet_view.specs.EndPorts.{end_ports};
+ghost use Rattle.subnet_view.specs.EndPort.{end_ports};
 ghost use Rattle.subnet_view.specs.Reading.{switches};
 ghost use Rattle.held_tables.specs.Switches.{far_of};
 ghost use Rattle.audit_ways.specs.Figures.{IsTotal};
-ghost use Rattle.audit_ways.specs.Groups.{AreGrouped, adapters};
+ghost use Rattle.audit_ways.specs.SenderGroups.{AreGrouped, adapters};
 ghost use Rattle.audit_ways.specs.WayTally.{IsCounted, IsCountedMore};
 ghost use Rattle.audit_ways.specs.Ways.{AllComeTo, AreKnownToArrive, AreWayFigures, channels_of};
 ghost use Rattle.audit_ways.specs.Ways.{is_target, is_to_switch, reaches, ways_of, ways_to};

@@ -1,4 +1,4 @@
-//! Counts of routes, of their wires, and of how often they take each channel.
+//! Counts of routes, of the routes' wires, and of how often routes take each channel.
 ghost use Rattle.std.specs.Prelude.{◌≡◌, ◌*◌, IfOk, OnOk, length};
 ghost use Rattle.audit_ways.specs.WayTally.{IsCounted, IsCountedMore, IsCountedWith, grouped};
 ghost use Rattle.audit_ways.specs.Ways.{one_wire, way_from};
@@ -28,10 +28,10 @@ impl WayTally {
         })
     }
 
-    /// Adds, for each switch, its route by `edges` as many times as its weight, and `direct` routes over one wire.
-    /// `weights` must have as many items as `edges`, and `self` must have 256 channels for each of these switches.
-    /// Takes time linear in the number of switches and, for each weight above 0, in the number of channels of that
-    /// switch's route.
+    /// For each switch, adds the route along `edges` as many times as the switch's weight. Adds `direct` routes along
+    /// one wire. `weights` must have as many items as `edges`, and `self` must have 256 channels for each of these
+    /// switches. Takes time linear in the number of switches and, for each weight above 0, in the number of channels
+    /// of that switch's route.
     pub(crate) fn add(
         &mut self,
         edges: &[Option<Edge>],
@@ -54,8 +54,8 @@ impl WayTally {
         Ok(())
     }
 
-    /// Adds the route over the switch at index `first`, `times` times: a wire to that switch, the channels from there
-    /// on by `edges`, and a wire to an adapter. `self` must have 256 channels for each switch of `edges`.
+    /// Adds the route via the switch at index `first`, `times` times: a wire to that switch, the channels along
+    /// `edges`, starting there, and a wire to an adapter. `self` must have 256 channels for each switch of `edges`.
     fn add_from(
         &mut self,
         edges: &[Option<Edge>],
@@ -70,7 +70,7 @@ impl WayTally {
         self.hops.add(wires, times)
     }
 
-    /// Adds a route over one wire, `times` times.
+    /// Adds a route along one wire, `times` times.
     fn add_direct(&mut self, times: u64) -> Result<(), AllocError>
         ensures { OnOk result (IsCountedWith self.old one_wire times self.new) }
     {

@@ -6,7 +6,7 @@ use Rattle.std.proofs.lemmas.Option.{slice_get_past}
 use Rattle.std.specs.Prelude.{None, Option, slice_get, slice_set}
 use Rattle.port_graph.specs.declared.edge.Edge.{Edge}
 use Rattle.port_graph.specs.Heads.{edges_at}
-use Rattle.spread_labels.specs.Levels.{greatest}
+use Rattle.spread_labels.specs.Level.{greatest}
 use Rattle.spread_labels.proofs.Numbers.{made_all, made_at, numbers_long}
 use Rattle.balanced_choices.specs.declared.ways.Change.TheVariants.{Remove}
 use Rattle.balanced_choices.specs.Ways.{candidates_at, channel_by, edge_taken, first_least, lightest, way, way_from, with_changes}

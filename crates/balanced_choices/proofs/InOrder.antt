@@ -54,6 +54,10 @@ near_first_positions ways =
     (All-filter above P (reverse (numbers_from 0 n)) (all_reversed P (numbers_from 0 n) all))
     (All-filter (is_below ways) P (numbers_from 0 n) all)
 
+-- each of these in turn
+pub next_position : (ways : List (List Edge)) (order : List ℕ) (i : ℕ) → order ≡ near_first ways → i < length order → get_or order i 0 < length ways
+next_position ways order i is h = subst (All (λ p. p < length ways)) (sym is) (near_first_positions ways) i 0 h
+
 -- the next position chooses
 pub choose_next : (choice : Chosen → ℕ → ℕ) (ways : List (List Edge)) (sent : List ℕ) (old : Chosen) (ps : List ℕ) (i : ℕ) → i < length ps
     → choose_each choice ways sent (with_choice ways sent old (get_or ps i 0) (choice old (get_or ps i 0))) (drop (i + 1) ps)

@@ -1,3 +1,4 @@
+pub mod AsLong
 pub mod EdgeByEdge
 pub mod EdgesTaken
 pub mod Counting

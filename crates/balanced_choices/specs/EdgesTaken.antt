@@ -1,7 +1,7 @@
 -- The ways of packets, given the edge that each position takes, so that this edge is found only once.
 use Rattle.std.specs.Prelude.{ℕ, List, [], ◌∷◌, length, map, Option, None, slice_index, slice_index_or}
 use Rattle.port_graph.specs.declared.edge.Edge.{Edge}
-use Rattle.spread_labels.specs.Levels.{greatest}
+use Rattle.spread_labels.specs.Level.{greatest}
 use Rattle.spread_labels.specs.Orders.{numbers_from}
 use Rattle.balanced_choices.specs.declared.ways.Change.TheVariants.{Remove}
 use Rattle.balanced_choices.specs.Ways.{candidates_at, channel_by, edge_taken, first_least, way, with_changes}

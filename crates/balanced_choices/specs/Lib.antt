@@ -1,6 +1,8 @@
 pub mod BalancedChoices
+pub mod Choosing
 pub mod EdgesTaken
 pub mod LeastPeakLaw
 pub mod Loads
-pub mod RoundRobins
+pub mod RoundRobin
+pub mod Traffic
 pub mod Ways

@@ -1,101 +1,115 @@
 //! The choices for one end.
-ghost use Rattle.std.specs.Prelude.{◌≡◌, ◌<◌, ◌≤◌, ◌+◌, ◌*◌, ◌^◌, All, OnOk, length};
+ghost use Rattle.std.specs.Prelude.{◌≡◌, ◌<◌, ◌≤◌, ◌+◌, ◌*◌, ◌^◌, length};
 ghost use Rattle.spread_labels.specs.Orders.{numbers_from};
-ghost use Rattle.balanced_choices.specs.EdgesTaken.{edges_taken, without_by};
-ghost use Rattle.balanced_choices.specs.Ways.{lightest};
-ghost use Rattle.balanced_choices.specs.BalancedChoices.{Chosen, choices_in, choose_each, digits_from, first_choice};
-ghost use Rattle.balanced_choices.specs.BalancedChoices.{first_choices, in_turn, with_choice};
+ghost use Rattle.balanced_choices.specs.declared.ways.Change.TheVariants.{Add};
+ghost use Rattle.balanced_choices.specs.EdgesTaken.{way_by, without_by};
+ghost use Rattle.balanced_choices.specs.Ways.{lightest, with_changes};
+ghost use Rattle.balanced_choices.specs.BalancedChoices.{choices_in, choose_each, digits_from, first_choice};
+ghost use Rattle.balanced_choices.specs.BalancedChoices.{first_choices, in_turn, near_first, with_choice};
 
+use crate::edges_taken::edge_taken;
 use crate::loads::PORTS;
-use crate::taken::{edge_taken, edges_taken};
+use crate::target_ways::TargetWays;
 use crate::ways::{Change, change_way, lightest};
-use port_graph::{Adjacency, Edge};
-use std::alloc::{AllocError, Global};
+use port_graph::Edge;
+use std::marker::Model;
 
-/// Makes the choices of `round` for the end with the number `number`: first choices in round 0, and new choices in
-/// later rounds. Before it makes new choices, takes the packets to the end off `loads`. `weights` must have the digit
-/// weight of each position, and `sent` the number of packets that each position sends to the end. `order` must have
-/// only positions of `ways`. `choices` must have a choice for each position, and `loads` 256 loads for each position.
-/// `number` plus the number of positions must fit in 64 bits.
-pub(crate) fn choose(
-    alloc: Global,
-    round: usize,
-    ways: &Adjacency,
-    order: &[usize],
-    sent: &[usize],
-    weights: &[usize],
-    number: usize,
-    choices: &mut [u8],
-    loads: &mut [usize],
-) -> Result<(), AllocError>
-    requires positions { All (λ p. p < length ways.now) order.now }
-    requires sent { length sent.now ≡ length ways.now }
-    requires weights { length weights.now ≡ length ways.now }
-    requires number { number + length ways.now < 2 ^ 64 }
-    requires choices { length choices.old ≡ length ways.now }
-    requires loads { length loads.old ≡ 256 * length ways.now }
-    ensures { OnOk result (let before : Chosen = record { choices = choices.old; loads = loads.old } in
-        choices_in round ways.now sent.now weights.now order.now number before
-        ≡ record { choices = choices.new; loads = loads.new }) }
-{
-    let mut taken = edges_taken(alloc, ways, choices)?;
-    if round == 0 {
-        choose_in_turn(
-            ways, order, sent, weights, number, choices, &mut taken, loads,
-        );
-    } else {
-        remove_packets(&taken, sent, loads);
-        choose_lightest(ways, order, sent, choices, &mut taken, loads);
-    }
-    Ok(())
+/// The choices for one end while they are made, and the loads of channels.
+#[derive(Drop)]
+pub(crate) struct Choosing<'a> {
+    pub(crate) ways: &'a TargetWays<'a>,
+    pub(crate) choices: Vec<u8>,
+    /// The edge that each position takes by its choice.
+    pub(crate) taken: Vec<Option<Edge>>,
+    pub(crate) loads: Vec<usize>,
 }
 
-/// Makes the first choices for the end with the number `number`, at each position of `order` in turn. Each position
-/// takes the candidate that `first_choice` gives. `taken` must have the edges that positions take by `choices`. The
-/// other preconditions are those of `choose`.
-fn choose_in_turn(
-    ways: &Adjacency,
-    order: &[usize],
-    sent: &[usize],
-    weights: &[usize],
-    number: usize,
-    choices: &mut [u8],
-    taken: &mut [Option<Edge>],
-    loads: &mut [usize],
-)
-    requires positions { All (λ p. p < length ways.now) order.now }
-    requires sent { length sent.now ≡ length ways.now }
-    requires weights { length weights.now ≡ length ways.now }
-    requires number { number + length ways.now < 2 ^ 64 }
-    requires choices { length choices.old ≡ length ways.now }
-    requires taken { taken.old ≡ edges_taken ways.now choices.old }
-    requires loads { length loads.old ≡ 256 * length ways.now }
-    ensures { let before : Chosen = record { choices = choices.old; loads = loads.old } in
-        first_choices ways.now sent.now weights.now order.now number before
-        ≡ record { choices = choices.new; loads = loads.new } }
-{
-    for position in order {
-        let choice = first_choice(ways, weights, number, *position);
-        take(ways, sent, *position, choice, choices, taken, loads);
+impl<'a> Model for Choosing<'a> {
+    ghost use Rattle.balanced_choices.specs.Choosing.{AtEnd, IsChoosing};
+
+    ghost Value = { AtEnd };
+
+    ghost view = { λ a.
+        record { ways = a.ways.now; chosen = record { choices = a.choices.items; loads = a.loads.items } } };
+
+    ghost invariant = { λ a. IsChoosing a.ways.now.edges a.choices.items a.taken.items a.loads.items };
+}
+
+impl<'a> Choosing<'a> {
+    /// Makes the choices of `round` for the end, which has the number `number`: first choices in round 0, and new
+    /// choices in later rounds. Before it makes new choices, takes the packets to the end off the loads. `number` plus
+    /// the number of positions must fit in 64 bits.
+    pub(crate) fn choose(&mut self, round: usize, number: usize)
+        requires { number + length self.old.ways.edges < 2 ^ 64 }
+        ensures ways { self.new.ways ≡ self.old.ways }
+        ensures chosen { choices_in round self.old.ways.edges self.old.ways.sent self.old.ways.weights
+            (near_first self.old.ways.edges) number self.old.chosen ≡ self.new.chosen }
+    {
+        if round == 0 {
+            self.choose_in_turn(number);
+        } else {
+            let ways = self.ways;
+            remove_packets(&self.taken, ways.sent, &mut self.loads);
+            self.choose_lightest();
+        }
+    }
+
+    /// Makes the first choices for the end with the number `number`, at each position in turn. Each position takes the
+    /// candidate that `first_choice` gives. `number` plus the number of positions must fit in 64 bits.
+    fn choose_in_turn(&mut self, number: usize)
+        requires { number + length self.old.ways.edges < 2 ^ 64 }
+        ensures ways { self.new.ways ≡ self.old.ways }
+        ensures chosen { first_choices self.old.ways.edges self.old.ways.sent self.old.ways.weights
+            (near_first self.old.ways.edges) number self.old.chosen ≡ self.new.chosen }
+    {
+        let ways = self.ways;
+        for position in &ways.order {
+            let choice = first_choice(ways, number, *position);
+            self.take(*position, choice);
+        }
+    }
+
+    /// Makes new choices, at each position in turn. Each position takes the candidate whose way has the least peak
+    /// load. If peak loads are equal, it takes the first.
+    fn choose_lightest(&mut self)
+        ensures ways { self.new.ways ≡ self.old.ways }
+        ensures chosen { choose_each (λ now p. lightest self.old.ways.edges now.choices now.loads p) self.old.ways.edges
+            self.old.ways.sent self.old.chosen (near_first self.old.ways.edges) ≡ self.new.chosen }
+    {
+        let ways = self.ways;
+        for position in &ways.order {
+            let choice = lightest(&ways.ways, &self.taken, &self.loads, *position);
+            self.take(*position, choice);
+        }
+    }
+
+    /// Lets `position` take the candidate with the number `choice`. Adds the packets that `position` sends to the loads
+    /// of the channels on their way. There must be such a position.
+    fn take(&mut self, position: usize, choice: u8)
+        requires { position < length self.old.ways.edges }
+        ensures ways { self.new.ways ≡ self.old.ways }
+        ensures chosen { with_choice self.old.ways.edges self.old.ways.sent self.old.chosen position choice
+            ≡ self.new.chosen }
+    {
+        let ways = self.ways;
+        self.choices[position] = choice;
+        self.taken[position] = edge_taken(&ways.ways, &self.choices, position);
+        let added = ways.sent[position];
+        add_packets(&self.taken, &mut self.loads, position, added);
     }
 }
 
 /// Returns the number of the candidate that is the first choice of `position` towards the end with the number `number`.
-/// Returns 0 if `position` has no candidate. `weights` has the digit weight of each position, and must have an entry
-/// for each. There must be such a position, and `number` plus the number of positions must fit in 64 bits.
-pub(crate) fn first_choice(
-    ways: &Adjacency,
-    weights: &[usize],
-    number: usize,
-    position: usize,
-) -> u8
-    requires position { position < length ways.now }
-    requires weights { length weights.now ≡ length ways.now }
-    requires number { number + length ways.now < 2 ^ 64 }
-    ensures { result ≡ first_choice ways.now weights.now number position }
+/// Returns 0 if `position` has no candidate. There must be such a position, and `number` plus the number of positions
+/// must fit in 64 bits.
+fn first_choice(ways: &TargetWays, number: usize, position: usize) -> u8
+    requires position { position < length ways.now.edges }
+    requires number { number + length ways.now.edges < 2 ^ 64 }
+    ensures { result ≡ first_choice ways.now.edges ways.now.weights number position }
 {
-    let digits = digits_from(weights[position], number);
-    in_turn(ways.at(position).len().min(PORTS), digits + position)
+    let count = ways.ways.at(position).len().min(PORTS);
+    let digits = digits_from(ways.weights[position], number);
+    in_turn(count, digits + position)
 }
 
 /// Returns `number` without the digits below the digit whose weight is `weight`, or `number` itself if `weight` is 0.
@@ -118,57 +132,12 @@ fn in_turn(count: usize, number: usize) -> u8
     }
 }
 
-/// Makes new choices for an end, at each position of `order` in turn. Each position takes the candidate whose way has
-/// the least peak load. If peak loads are equal, it takes the first. `taken` must have the edges that positions take by
-/// `choices`. The other preconditions are those of `choose`.
-fn choose_lightest(
-    ways: &Adjacency,
-    order: &[usize],
-    sent: &[usize],
-    choices: &mut [u8],
-    taken: &mut [Option<Edge>],
-    loads: &mut [usize],
-)
-    requires positions { All (λ p. p < length ways.now) order.now }
-    requires sent { length sent.now ≡ length ways.now }
-    requires choices { length choices.old ≡ length ways.now }
-    requires taken { taken.old ≡ edges_taken ways.now choices.old }
-    requires loads { length loads.old ≡ 256 * length ways.now }
-    ensures { let before : Chosen = record { choices = choices.old; loads = loads.old } in
-        choose_each (λ now p. lightest ways.now now.choices now.loads p) ways.now sent.now before order.now
-        ≡ record { choices = choices.new; loads = loads.new } }
+/// Adds `added` packets to the loads of the channels of the way from `position`. `taken` has the edge that is taken at
+/// each position. `loads` must have 256 loads for each position.
+fn add_packets(taken: &[Option<Edge>], loads: &mut [usize], position: usize, added: usize)
+    requires { length loads.old ≡ 256 * length taken.now }
+    ensures { loads.new ≡ with_changes (Add added) loads.old (way_by taken.now position) }
 {
-    for position in order {
-        let choice = lightest(ways, taken, loads, *position);
-        take(ways, sent, *position, choice, choices, taken, loads);
-    }
-}
-
-/// Lets `position` take the candidate with the number `choice`. Adds the packets that `position` sends to the loads of
-/// the channels on their way. There must be such a position. `taken` must have the edges that positions take by
-/// `choices`. The other preconditions are those of `choose`.
-fn take(
-    ways: &Adjacency,
-    sent: &[usize],
-    position: usize,
-    choice: u8,
-    choices: &mut [u8],
-    taken: &mut [Option<Edge>],
-    loads: &mut [usize],
-)
-    requires position { position < length ways.now }
-    requires sent { length sent.now ≡ length ways.now }
-    requires choices { length choices.old ≡ length ways.now }
-    requires taken { taken.old ≡ edges_taken ways.now choices.old }
-    requires loads { length loads.old ≡ 256 * length ways.now }
-    ensures choice { let before : Chosen = record { choices = choices.old; loads = loads.old } in
-        with_choice ways.now sent.now before position choice
-        ≡ record { choices = choices.new; loads = loads.new } }
-    ensures taken { taken.new ≡ edges_taken ways.now choices.new }
-{
-    choices[position] = choice;
-    taken[position] = edge_taken(ways, choices, position);
-    let added = sent[position];
     if added > 0 {
         change_way(taken, loads, position, Change::Add(added));
     }

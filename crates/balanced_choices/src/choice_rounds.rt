@@ -1,18 +1,21 @@
 //! The choices for all ends, in rounds.
-ghost use Rattle.std.specs.Prelude.{◌≡◌, ◌<◌, ◌≤◌, ◌+◌, ◌-◌, ◌*◌, ◌^◌, ◌++◌, All, IfOk, OnOk, length, map, replicate};
-ghost use Rattle.port_graph.specs.Heads.{LeadToVertices, edges_at};
-ghost use Rattle.spread_labels.specs.MarkSets.{AreRowsOf, picked, sets_at};
+ghost use Rattle.std.specs.Prelude.{◌≡◌, ◌<◌, ◌≤◌, ◌+◌, ◌*◌, ◌++◌, All, IfOk, OnOk, length, map, replicate};
+ghost use Rattle.port_graph.specs.Heads.{LeadToVertices};
 ghost use Rattle.spread_labels.specs.Orders.{numbers_from};
-ghost use Rattle.balanced_choices.specs.BalancedChoices.{Balance, balanced_choices, ends_of, with_all, with_ends};
-ghost use Rattle.balanced_choices.specs.BalancedChoices.{with_round};
+ghost use Rattle.balanced_choices.specs.BalancedChoices.{at_first, balanced_choices, ends_of, near_first, with_all};
+ghost use Rattle.balanced_choices.specs.BalancedChoices.{with_ends, with_round};
 
-use crate::choice::choose;
-use crate::choice_order::near_first;
+use crate::choice::Choosing;
+use crate::edges_taken::edges_taken;
 use crate::evenness::are_even;
 use crate::loads::no_loads;
-use port_graph::{Adjacency, Edge};
-use spread_labels::{CandidateSets, TARGETS, TargetSet};
+use crate::target_ways::TargetWays;
+use crate::traffic::Traffic;
+use port_graph::Adjacency;
+use spread_labels::{CandidateSets, TARGETS};
 use std::alloc::{AllocError, Global};
+use std::marker::Model;
+use std::mem;
 
 /// The greatest number of rounds: one for first choices, and two for new choices.
 const ROUNDS: usize = 3;
@@ -50,21 +53,158 @@ pub fn balanced_choices(
     ensures { IfOk result (λ choices. map (λ own. own.items) choices.items
         ≡ balanced_choices graph.now sent.now weights.now destinations.now) }
 {
-    let mut choices = no_choices(alloc, graph.len(), destinations)?;
-    let mut loads = no_loads(alloc, graph.len())?;
+    let traffic = Traffic {
+        graph,
+        sent,
+        weights,
+    };
+    let mut balance = Balance::at_first(alloc, graph, destinations)?;
     for round in 0..ROUNDS {
-        make_round(
-            alloc,
-            round,
-            graph,
-            sent,
-            weights,
-            destinations,
-            &mut choices,
-            &mut loads,
-        )?;
+        balance.make_round(alloc, round, &traffic, destinations)?;
     }
-    Ok(choices)
+    Ok(balance.choices)
+}
+
+/// For each end, the number of the candidate that each position takes; and the loads of channels.
+#[derive(Drop)]
+struct Balance {
+    choices: Vec<Vec<u8>>,
+    loads: Vec<usize>,
+}
+
+impl Model for Balance {
+    ghost use Rattle.std.specs.Prelude.{◌≡◌, ◌*◌, All, length, map};
+    ghost use Rattle.balanced_choices.specs.BalancedChoices.{Balance as Balanced};
+
+    ghost Value = { Balanced };
+
+    ghost view = { λ b. record { choices = map (λ own. own.items) b.choices.items; loads = b.loads.items } };
+
+    ghost invariant = { λ b. All (λ own. 256 * length own.items ≡ length b.loads.items) b.choices.items };
+}
+
+impl Balance {
+    /// Returns the balance before the first round: all choices and all loads are 0.
+    fn at_first(
+        alloc: Global,
+        graph: &Adjacency,
+        destinations: &[Destination],
+    ) -> Result<Self, AllocError>
+        ensures { IfOk result (λ balance. balance ≡ at_first graph.now destinations.now) }
+    {
+        let choices = no_choices(alloc, graph.len(), destinations)?;
+        let loads = no_loads(alloc, graph.len())?;
+        Ok(Balance { choices, loads })
+    }
+
+    /// Makes the choices of `round` for all ends of `destinations`. Makes no choices if `round` is not 0 and the loads
+    /// are even. Destinations must be at positions. There must be choices for each of their ends, and 256 loads for
+    /// each position.
+    fn make_round(
+        &mut self,
+        alloc: Global,
+        round: usize,
+        traffic: &Traffic,
+        destinations: &[Destination],
+    ) -> Result<(), AllocError>
+        requires destinations { All (λ d. d.position < length traffic.now.edges) destinations.now }
+        requires ends { length self.old.choices ≡ ends_of 0 destinations.now }
+        requires loads { length self.old.loads ≡ 256 * length traffic.now.edges }
+        ensures { OnOk result (with_round round traffic.now.edges traffic.now.sent traffic.now.weights destinations.now
+            self.old ≡ self.new) }
+    {
+        if round > 0 && are_even(traffic.graph, &self.loads) {
+            return Ok(());
+        }
+        self.choose_all(alloc, round, traffic, destinations)
+    }
+
+    /// Makes the choices of `round` for all ends of `destinations`. Finds the candidates towards 64 destinations at a
+    /// time. The preconditions are those of `make_round`.
+    fn choose_all(
+        &mut self,
+        alloc: Global,
+        round: usize,
+        traffic: &Traffic,
+        destinations: &[Destination],
+    ) -> Result<(), AllocError>
+        requires destinations { All (λ d. d.position < length traffic.now.edges) destinations.now }
+        requires ends { length self.old.choices ≡ ends_of 0 destinations.now }
+        requires loads { length self.old.loads ≡ 256 * length traffic.now.edges }
+        ensures { OnOk result (with_all round traffic.now.edges traffic.now.sent traffic.now.weights self.old 0
+            destinations.now ≡ self.new) }
+    {
+        let mut first = 0;
+        let mut end = 0;
+        while first < destinations.len() {
+            let last = first + TARGETS.min(destinations.len() - first);
+            end = self.choose_some(alloc, round, traffic, &destinations[first..last], end)?;
+            first = last;
+        }
+        Ok(())
+    }
+
+    /// Makes the choices of `round` for the ends of `destinations`. There must be at most 64 destinations. `first` is
+    /// the index of the first of these ends. Returns the index after the last of them.
+    fn choose_some(
+        &mut self,
+        alloc: Global,
+        round: usize,
+        traffic: &Traffic,
+        destinations: &[Destination],
+        first: usize,
+    ) -> Result<usize, AllocError>
+        requires few { length destinations.now ≤ 64 }
+        requires destinations { All (λ d. d.position < length traffic.now.edges) destinations.now }
+        requires ends { ends_of first destinations.now ≤ length self.old.choices }
+        requires loads { length self.old.loads ≡ 256 * length traffic.now.edges }
+        ensures balance { OnOk result (with_all round traffic.now.edges traffic.now.sent traffic.now.weights self.old
+            first destinations.now ≡ self.new) }
+        ensures next { IfOk result (λ end. end ≡ ends_of first destinations.now) }
+    {
+        let targets = positions_of(alloc, destinations)?;
+        let sets = CandidateSets::towards(alloc, traffic.graph, &targets)?;
+        let mut end = first;
+        for (k, destination) in destinations.iter().enumerate() {
+            let ways = TargetWays::of(alloc, traffic, &sets, k)?;
+            end = self.choose_at(alloc, round, &ways, destination, end)?;
+        }
+        Ok(end)
+    }
+
+    /// Makes the choices of `round` for the ends of `destination`. `ways` are the ways to its position, and `first` is
+    /// the index of the first of these ends. Returns the index after the last of them. There must be choices for each
+    /// of these ends, and 256 loads for each position.
+    fn choose_at(
+        &mut self,
+        alloc: Global,
+        round: usize,
+        ways: &TargetWays,
+        destination: &Destination,
+        first: usize,
+    ) -> Result<usize, AllocError>
+        requires ends { first + destination.now.ends ≤ length self.old.choices }
+        requires loads { length self.old.loads ≡ 256 * length ways.now.edges }
+        ensures balance { OnOk result (with_ends round ways.now.edges ways.now.sent ways.now.weights
+            (near_first ways.now.edges) destination.now.number first self.old (numbers_from first destination.now.ends)
+            ≡ self.new) }
+        ensures next { IfOk result (λ end. end ≡ first + destination.now.ends) }
+    {
+        let ends = usize::from(destination.ends);
+        for k in 0..ends {
+            let taken = edges_taken(alloc, &ways.ways, &self.choices[first + k])?;
+            let mut choosing = Choosing {
+                ways: &*ways,
+                choices: mem::replace(&mut self.choices[first + k], Vec::new(alloc)),
+                taken,
+                loads: mem::replace(&mut self.loads, Vec::new(alloc)),
+            };
+            choosing.choose(round, destination.number as usize + k);
+            self.choices[first + k] = choosing.choices;
+            self.loads = choosing.loads;
+        }
+        Ok(first + ends)
+    }
 }
 
 /// Returns, for each end of each of `destinations`, a choice of 0 for each position.
@@ -104,138 +244,6 @@ fn push_choices(
     Ok(())
 }
 
-/// Makes the choices of `round` for all ends of `destinations`. Makes no choices if `round` is not 0 and `loads` are
-/// even. `choices` must have choices for each of these ends. The other preconditions are those of `balanced_choices`.
-fn make_round(
-    alloc: Global,
-    round: usize,
-    graph: &Adjacency,
-    sent: &[usize],
-    weights: &[usize],
-    destinations: &[Destination],
-    choices: &mut [Vec<u8>],
-    loads: &mut [usize],
-) -> Result<(), AllocError>
-    requires lead { LeadToVertices graph.now }
-    requires sent { length sent.now ≡ length graph.now }
-    requires weights { length weights.now ≡ length graph.now }
-    requires destinations { All (λ d. d.position < length graph.now) destinations.now }
-    requires ends { length choices.old ≡ ends_of 0 destinations.now }
-    requires small { ends_of 0 destinations.now < 2 ^ 64 }
-    requires choices { All (λ own. length own.items ≡ length graph.now) choices.old }
-    requires loads { length loads.old ≡ 256 * length graph.now }
-    ensures balance { OnOk result (let before : Balance
-        = record { choices = map (λ own. own.items) choices.old; loads = loads.old } in
-        with_round round graph.now sent.now weights.now destinations.now before
-        ≡ record { choices = map (λ own. own.items) choices.new; loads = loads.new }) }
-    ensures long { OnOk result (All (λ own. length own.items ≡ length graph.now) choices.new) }
-{
-    if round > 0 && are_even(graph, loads) {
-        return Ok(());
-    }
-    choose_all(
-        alloc,
-        round,
-        graph,
-        sent,
-        weights,
-        destinations,
-        choices,
-        loads,
-    )
-}
-
-/// Makes the choices of `round` for all ends of `destinations`. Finds the candidates towards 64 destinations at a time.
-/// The preconditions are those of `make_round`.
-fn choose_all(
-    alloc: Global,
-    round: usize,
-    graph: &Adjacency,
-    sent: &[usize],
-    weights: &[usize],
-    destinations: &[Destination],
-    choices: &mut [Vec<u8>],
-    loads: &mut [usize],
-) -> Result<(), AllocError>
-    requires lead { LeadToVertices graph.now }
-    requires sent { length sent.now ≡ length graph.now }
-    requires weights { length weights.now ≡ length graph.now }
-    requires destinations { All (λ d. d.position < length graph.now) destinations.now }
-    requires ends { length choices.old ≡ ends_of 0 destinations.now }
-    requires small { ends_of 0 destinations.now < 2 ^ 64 }
-    requires choices { All (λ own. length own.items ≡ length graph.now) choices.old }
-    requires loads { length loads.old ≡ 256 * length graph.now }
-    ensures balance { OnOk result (let before : Balance
-        = record { choices = map (λ own. own.items) choices.old; loads = loads.old } in
-        with_all round graph.now sent.now weights.now before 0 destinations.now
-        ≡ record { choices = map (λ own. own.items) choices.new; loads = loads.new }) }
-    ensures long { OnOk result (All (λ own. length own.items ≡ length graph.now) choices.new) }
-{
-    let mut first = 0;
-    let mut end = 0;
-    while first < destinations.len() {
-        let last = first + TARGETS.min(destinations.len() - first);
-        end = choose_some(
-            alloc,
-            round,
-            graph,
-            sent,
-            weights,
-            &destinations[first..last],
-            end,
-            choices,
-            loads,
-        )?;
-        first = last;
-    }
-    Ok(())
-}
-
-/// Makes the choices of `round` for the ends of `destinations`. There must be at most 64 destinations. `first` is the
-/// index of the first of these ends. Returns the index after the last of them.
-fn choose_some(
-    alloc: Global,
-    round: usize,
-    graph: &Adjacency,
-    sent: &[usize],
-    weights: &[usize],
-    destinations: &[Destination],
-    first: usize,
-    choices: &mut [Vec<u8>],
-    loads: &mut [usize],
-) -> Result<usize, AllocError>
-    requires lead { LeadToVertices graph.now }
-    requires sent { length sent.now ≡ length graph.now }
-    requires weights { length weights.now ≡ length graph.now }
-    requires few { length destinations.now ≤ 64 }
-    requires destinations { All (λ d. d.position < length graph.now) destinations.now }
-    requires ends { ends_of first destinations.now ≤ length choices.old }
-    requires small { ends_of first destinations.now < 2 ^ 64 }
-    requires choices { All (λ own. length own.items ≡ length graph.now) choices.old }
-    requires loads { length loads.old ≡ 256 * length graph.now }
-    ensures balance { OnOk result (let before : Balance
-        = record { choices = map (λ own. own.items) choices.old; loads = loads.old } in
-        with_all round graph.now sent.now weights.now before first destinations.now
-        ≡ record { choices = map (λ own. own.items) choices.new; loads = loads.new }) }
-    ensures long { OnOk result (All (λ own. length own.items ≡ length graph.now) choices.new) }
-    ensures next { IfOk result (λ end. end ≡ ends_of first destinations.now) }
-{
-    let targets = positions_of(alloc, destinations)?;
-    let sets = CandidateSets::towards(alloc, graph, &targets)?;
-    let mut end = first;
-    for (k, destination) in destinations.iter().enumerate() {
-        let ways = ways_towards(alloc, graph, &sets, k)?;
-        let order = near_first(alloc, &ways)?;
-        let next = end + usize::from(destination.ends);
-        let number = destination.number;
-        choose_between(
-            alloc, round, &ways, &order, sent, weights, number, end, next, choices, loads,
-        )?;
-        end = next;
-    }
-    Ok(end)
-}
-
 /// Returns the position of each destination.
 pub(crate) fn positions_of(
     alloc: Global,
@@ -247,81 +255,4 @@ pub(crate) fn positions_of(
         .iter()
         .map(|destination| destination.position)
         .collect(alloc)
-}
-
-/// Makes the choices of `round` for the ends at one position: those at the indices from `first` up to, but not
-/// including, `last`. The end at `first` has the number `number`, and the further ends have the numbers that follow.
-fn choose_between(
-    alloc: Global,
-    round: usize,
-    ways: &Adjacency,
-    order: &[usize],
-    sent: &[usize],
-    weights: &[usize],
-    number: u32,
-    first: usize,
-    last: usize,
-    choices: &mut [Vec<u8>],
-    loads: &mut [usize],
-) -> Result<(), AllocError>
-    requires positions { All (λ p. p < length ways.now) order.now }
-    requires sent { length sent.now ≡ length ways.now }
-    requires weights { length weights.now ≡ length ways.now }
-    requires ends { (first ≤ last) × (last ≤ length choices.old) }
-    requires choices { All (λ own. length own.items ≡ length ways.now) choices.old }
-    requires loads { length loads.old ≡ 256 * length ways.now }
-    ensures balance { OnOk result (let before : Balance
-        = record { choices = map (λ own. own.items) choices.old; loads = loads.old } in
-        with_ends round ways.now sent.now weights.now order.now number first before (numbers_from first (last - first))
-        ≡ record { choices = map (λ own. own.items) choices.new; loads = loads.new }) }
-    ensures long { OnOk result (All (λ own. length own.items ≡ length ways.now) choices.new) }
-{
-    for end in first..last {
-        let own = &mut choices[end];
-        let number = number as usize + (end - first);
-        choose(alloc, round, ways, order, sent, weights, number, own, loads)?;
-    }
-    Ok(())
-}
-
-/// Returns the candidates of each position towards target `k`, as `sets` gives them. `k` must be less than 64.
-pub(crate) fn ways_towards(
-    alloc: Global,
-    graph: &Adjacency,
-    sets: &CandidateSets,
-    k: usize,
-) -> Result<Adjacency, AllocError>
-    requires target { k < 64 }
-    requires rows { AreRowsOf graph.now sets.now }
-    ensures { IfOk result (λ ways. ways
-        ≡ map (λ p. picked k (sets_at sets.now p) (edges_at graph.now p)) (numbers_from 0 (length graph.now))) }
-{
-    let mut ways = Adjacency::new(alloc);
-    let mut found = Vec::new(alloc);
-    for position in 0..graph.len() {
-        find_having(graph.at(position), sets.at(position), k, &mut found)?;
-        ways.push_vertex(&found)?;
-    }
-    Ok(ways)
-}
-
-/// Sets `found` to those of `edges` whose sets in `sets` have `target`. `target` must be less than 64. There must be a
-/// set for each edge.
-fn find_having(
-    edges: &[Edge],
-    sets: &[TargetSet],
-    target: usize,
-    found: &mut Vec<Edge>,
-) -> Result<(), AllocError>
-    requires target { target < 64 }
-    requires all { length sets.now ≡ length edges.now }
-    ensures { OnOk result (found.new.items ≡ picked target sets.now edges.now) }
-{
-    found.clear();
-    for (j, edge) in edges.iter().enumerate() {
-        if sets[j].has(target) {
-            found.push(*edge)?;
-        }
-    }
-    Ok(())
 }

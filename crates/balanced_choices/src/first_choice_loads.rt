@@ -9,9 +9,10 @@ ghost use Rattle.balanced_choices.specs.Loads.{first_loads, loads_with, loads_wi
 ghost use Rattle.balanced_choices.specs.Ways.{channel_by, with_changes};
 
 use crate::choice_order::near_first;
-use crate::choice_rounds::{Destination, positions_of, ways_towards};
+use crate::choice_rounds::{Destination, positions_of};
 use crate::loads::{PORTS, no_loads};
 use crate::round_robin::RoundRobin;
+use crate::target_ways::ways_towards;
 use port_graph::{Adjacency, Edge};
 use spread_labels::{CandidateSets, TARGETS};
 use std::alloc::{AllocError, Global};

@@ -4,12 +4,14 @@
 mod choice;
 mod choice_order;
 mod choice_rounds;
+mod edges_taken;
 mod evenness;
 mod first_choice_loads;
 pub mod laws;
 mod loads;
 mod round_robin;
-mod taken;
+mod target_ways;
+mod traffic;
 mod ways;
 
 pub use choice_rounds::{Destination, balanced_choices};

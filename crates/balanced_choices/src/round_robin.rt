@@ -1,6 +1,6 @@
 //! Which candidate has its turn, as the numbers that choose rise.
 ghost use Rattle.std.specs.Prelude.{◌≡◌, ◌<◌, ◌+◌, ◌/◌, ◌%◌, ◌^◌, max};
-ghost use Rattle.balanced_choices.specs.RoundRobins.{IsTurn, IsOfSame};
+ghost use Rattle.balanced_choices.specs.RoundRobin.{IsTurn, IsOfSame};
 
 /// The turn of a number among candidates: the number's digit plus an offset, modulo the number of candidates. Moving to
 /// one of the 2 * `weight` numbers from `start` on takes no division.

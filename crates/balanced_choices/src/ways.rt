@@ -1,6 +1,6 @@
 //! The ways of packets, and the loads of the channels that they take.
 ghost use Rattle.std.specs.Prelude.{◌≡◌, ◌<◌, ◌+◌, ◌*◌, IfSome, None, length, map, min, slice_index, slice_index_or};
-ghost use Rattle.spread_labels.specs.Levels.{greatest};
+ghost use Rattle.spread_labels.specs.Level.{greatest};
 ghost use Rattle.balanced_choices.specs.EdgesTaken.{lightest_by, peak_by, way_by};
 ghost use Rattle.balanced_choices.specs.Ways.{changed, with_changes};
 

@@ -26,8 +26,8 @@ use Rattle.held_tables.specs.declared.far_end.Far.TheVariants.{Nothing, Switch, 
 use Rattle.held_tables.specs.Switches.{far_at, far_of, far_to, index_in, row_of}
 use Rattle.held_tables.specs.Tables.{entry_for, is_owner, owners_of}
 use Rattle.held_tables.proofs.HeldTables.{within_length}
-use Rattle.packet_walks.specs.declared.packet_end.Cause.{Cause}
-use Rattle.packet_walks.specs.declared.packet_end.Cause.TheVariants.{Foreign}
+use Rattle.packet_walks.specs.declared.cause.Cause.{Cause}
+use Rattle.packet_walks.specs.declared.cause.Cause.TheVariants.{Foreign}
 use Rattle.packet_walks.specs.declared.packet_end.End.TheVariants.{Lost, Taken}
 use Rattle.packet_walks.specs.declared.next_hop.NextHop.{NextHop}
 use Rattle.packet_walks.specs.declared.next_hop.NextHop.TheVariants.{To, Ends}

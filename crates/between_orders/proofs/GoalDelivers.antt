@@ -37,7 +37,7 @@ use Rattle.packet_walks.specs.HopsByTables.{by_entry, cause_of, next_hops_of, ov
 use Rattle.packet_walks.specs.EndsBySwitch.{after}
 use Rattle.packet_walks.proofs.Judged.{at_is}
 use Rattle.packet_walks.proofs.PlanSteps.{contains_at, no_wire_at_0}
-use Rattle.next_tables.specs.Assembled.{most_blocks}
+use Rattle.next_tables.specs.Assembly.{most_blocks}
 use Rattle.next_tables.specs.SwitchPositions.{IsOrder, position_at, switch_at}
 use Rattle.next_tables.specs.SettledRule.{step_at}
 use Rattle.next_tables.proofs.Assembled.{greatest_at}

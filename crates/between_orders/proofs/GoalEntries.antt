@@ -30,10 +30,10 @@ use Rattle.packet_walks.proofs.PlanSteps.{contains_at}
 use Rattle.packet_walks.proofs.Tops.{entry_above}
 use Rattle.packet_walks.specs.declared.next_hop.SwitchStep.{SwitchStep}
 use Rattle.packet_walks.specs.HopsByTables.{switch_step}
-use Rattle.next_tables.specs.Assembled.{all_blocks, block_in, entry_in, some_blocks, tables_with}
+use Rattle.next_tables.specs.Assembly.{all_blocks, block_in, entry_in, some_blocks, tables_with}
 use Rattle.next_tables.specs.SwitchPositions.{switch_at}
 use Rattle.next_tables.specs.NextTables.{next_switch, next_top}
-use Rattle.next_tables.specs.SettledComputed.{Both}
+use Rattle.next_tables.specs.SettledEntries.{Both}
 use Rattle.next_tables.proofs.Entries.{at_mapped}
 use Rattle.next_tables.proofs.Ordered.{index_own}
 use Rattle.next_tables.proofs.Steps.{at_index}

@@ -28,7 +28,7 @@ use Rattle.packet_walks.proofs.PlanSteps.{leaves}
 use Rattle.packet_walks.specs.HopsByTables.{switch_step}
 use Rattle.held_tables.proofs.HeldTables.{within_length}
 use Rattle.next_tables.proofs.Steps.{at_index}
-use Rattle.next_tables.specs.Assembled.{most_blocks, tables_with}
+use Rattle.next_tables.specs.Assembly.{most_blocks, tables_with}
 use Rattle.next_tables.specs.SwitchPositions.{AreRight, Leads, is_bad, is_down, is_up, position_at, switch_at}
 use Rattle.next_tables.specs.SettledRule.{step_at}
 use Rattle.next_tables.proofs.Hops.{edge_at, leads_at, leads_within, none_to, placed, to_same}

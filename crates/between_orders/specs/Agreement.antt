@@ -19,7 +19,7 @@ use Rattle.between_orders.specs.Orders.{edges_in, orders_from, told_positions}
 abbrev pub order_of_plan : Cells → List ℕ → List ℕ
 order_of_plan cells by = grown_by (edges_in cells) by
 
--- `tables` imply an order, and it agrees with the plan's order on the first `k` switches
+-- `tables` imply an order that agrees with the plan's order on the first `k` switches
 pub record AgreeTo (cells : Cells) (tables : HeldPlan) (by : List ℕ) (k : ℕ) : Type 0 where
   pub some : IsImpliedOrder cells tables (order_of_plan cells by) None → ⊥
   pub agrees : (taken : List ℕ) → IsImpliedOrder cells tables (order_of_plan cells by) (Some taken)
@@ -34,25 +34,25 @@ abbrev pub IsRightByGrown : Cells → HeldPlan → List ℕ → Type 0
 IsRightByGrown cells tables told =
     are_right cells (position_at (positions_in (grown_by (edges_in cells) told) (length (edges_in cells)))) tables ≡ true
 
--- `tables` imply an order, and of several the one nearest to the plan's is taken; `positions` are the positions of the
--- switches in it
+-- `tables` imply an order, and of several orders the one nearest to the plan's is taken; `positions` are the
+-- positions of the switches in this order
 pub record TellsPositions (cells : Cells) (tables : HeldPlan) (by : List ℕ) : Type 0 where
   pub taken : List ℕ
   pub is_told : IsImpliedOrder cells tables (order_of_plan cells by) (Some taken)
   pub positions : List ℕ
   pub are : positions ≡ told_positions taken (length (edges_in cells))
 
--- after a step towards the goal between two orders, the order that the tables imply agrees with the plan's order at
--- least as far as before, if the plan's order is preferred
+-- if the plan's order is preferred, then after a step towards the goal between two orders, the order that the tables
+-- imply agrees with the plan's order at least as far as before the step
 abbrev pub StepsKeepAgreement : Type 0
 StepsKeepAgreement =
     (facts : Facts) (held plan : HeldPlan) (by : List ℕ) (goal : Goal) (k : ℕ)
     → IsGoal (cells_of facts) held plan by by (Some goal) → AgreeTo (cells_of facts) held by k
     → AgreeTo (cells_of facts) (next_towards facts held goal) by k
 
--- `next` is right by the first order of a step from `held`, or by the second. If it is right by the second, it may
--- count as a goal reached (`goal`): then `later` is one more than `count`, and `held` is right by the order that grows
--- by the order that it implies. If it does not count (`first`, `second`), `later` is `count`
+-- `next` is right by the first or by the second order of a step from `held`. If `next` is right by the second order,
+-- `next` may count as a goal reached (`goal`): then `later` is one more than `count`, and `held` is right by the
+-- order that grows by the order that `held` implies. If `next` does not count (`first`, `second`), `later` is `count`
 pub data IsOnward (cells : Cells) (held next : HeldPlan) (by : List ℕ) (count later : ℕ) : Type 0 where
   first : (told : TellsPositions cells held by)
       → AreRightBy cells (orders_from cells held (edges_in cells) by told.positions).first next → later ≡ count
@@ -80,7 +80,7 @@ pub record AreOnTheWay (cells : Cells) (by : List ℕ) (tables : ℕ → HeldPla
   pub none_yet : reached 0 ≡ 0
   pub each : (m : ℕ) → IsOnward cells (tables m) (tables (suc m)) by (reached m) (reached (suc m))
 
--- once n - 1 goals are reached, for n switches, tables on the way are right by the plan's order
+-- once n - 1 goals are reached, where n is the number of switches, tables on the way are right by the plan's order
 abbrev pub GoalsAreFew : Type 0
 GoalsAreFew =
     (facts : Facts) (by : List ℕ) (tables : ℕ → HeldPlan) (reached : ℕ → ℕ)
@@ -89,9 +89,9 @@ GoalsAreFew =
     → AreRightBy (cells_of facts)
     (positions_in (order_of_plan (cells_of facts) by) (length (edges_in (cells_of facts)))) (tables m)
 
--- the order that grew by `told` is the first order of the next step, and the second order grows by the plan's
--- positions over the tree of the first, if two conditions hold: the tables are right by the grown order for every LID;
--- and of the orders that they imply, the one nearest to this grown order is taken
+-- suppose the tables are right for every LID by the order that grew by `told`, and of the orders that the tables
+-- imply, the one nearest to this grown order is taken. Then this grown order is the first order of the next step, and
+-- the second order grows by the plan's positions along the tree of the first
 abbrev pub OrdersStay : Type 0
 OrdersStay =
     (facts : Facts) (tables : HeldPlan) (told by taken : List ℕ)
@@ -102,20 +102,20 @@ OrdersStay =
     (told_positions taken (length (edges_in (cells_of facts))))
     ≡ grown_twice (edges_in (cells_of facts)) told by
 
--- by `tables`, packets for `lid` from switch `i` reach switch `j` over the given number of channels
+-- under `tables`, packets for `lid` from switch `i` reach switch `j` along the given number of channels
 abbrev pub ComeTo : Cells → HeldPlan → ℕ → ℕ → ℕ → ℕ → Type 0
 ComeTo cells tables lid zero i j = i ≡ j
 ComeTo cells tables lid (suc n) i j = (x : ℕ) × Leads cells tables lid i x × ComeTo cells tables lid n x j
 
--- by `tables`, for any two switches that wires join, directly or over others, packets for at least one LID from the
+-- under `tables`, for any two switches that wires join, directly or via others, packets for at least one LID from the
 -- first switch reach the second
 abbrev pub ComeEverywhere : Cells → HeldPlan → Type 0
 ComeEverywhere cells tables =
     (i j k : ℕ) → i < length (switches cells) → j < length (switches cells) → Walk (heads (edges_in cells)) i j k
     → (lid n : ℕ) × (1 ≤ lid) × ComeTo cells tables lid n i j
 
--- tables that imply an order are right by the order that grows by the implied one, if packets get by the tables from
--- each switch to all switches that wires join to it
+-- if, under tables that imply an order, packets get from each switch to all switches that wires join to that switch,
+-- the tables are right by the order that grows by the implied one
 abbrev pub WholeTablesGrow : Type 0
 WholeTablesGrow =
     (facts : Facts) (tables : HeldPlan) (preferred taken : List ℕ) → ComeEverywhere (cells_of facts) tables

@@ -38,8 +38,9 @@ pub record IsGoalLine (cells : Cells) (plan : HeldPlan) (line : HeldLid) : Type 
   pub first : slice_get (owners_of plan line.lid) 0 ≡ Some line.port
   pub within : (g : ℕ) → Contains (switches cells) g → line.lid ≤ top_of plan g
 
--- for the LID of a goal line (`IsGoalLine`), the tables between two orders deliver from each switch with a label, if
--- the facts are in range and the first order gives each switch a position below the number of switches
+-- suppose the facts are in range, and the first of two orders gives each switch a position below the number of
+-- switches. Then, for the LID of a goal line (`IsGoalLine`), the tables between the two orders deliver from each
+-- switch with a label
 abbrev pub GoalDelivers : Type 0
 GoalDelivers =
     (facts : Facts) → AreInRange facts → (orders : TwoOrders) → IsOrder (cells_of facts) (position_at orders.first)
@@ -47,9 +48,9 @@ GoalDelivers =
     → (i : ℕ) (label : Sides) → label_at (labels_of_line (cells_of facts) orders plan line) i ≡ Some label
     → DeliverFrom (cells_of facts) (tables_between (cells_of facts) (edges_in (cells_of facts)) orders held plan) line i
 
--- for the LID of a goal line (`IsGoalLine`), the tables between two orders deliver from each switch from which wires
--- lead to a switch whose plan entry leads to the end port, if two conditions hold: the facts are in range; and the
--- first order grows, and the second grows over the tree of the first
+-- suppose the facts are in range, the first of two orders grows, and the second grows along the tree of the first.
+-- Then, for the LID of a goal line (`IsGoalLine`), the tables between the two orders deliver from each switch from
+-- which wires lead to a switch whose plan entry leads to the end port
 abbrev pub GoalReachesAll : Type 0
 GoalReachesAll =
     (facts : Facts) → AreInRange facts → (told by : List ℕ) (held plan : HeldPlan) (line : HeldLid)
@@ -64,8 +65,8 @@ GoalReachesAll =
 abbrev pub next_towards : Facts → HeldPlan → Goal → HeldPlan
 next_towards facts held goal = next_tables (cells_of facts) (by_order goal.positions) held goal.tables
 
--- the next tables towards the goal of a step are a step by the goal's order, and are right by it for every LID; so no
--- mixture makes a credit loop
+-- the next tables towards the goal of a step are a step by the goal's order, and are right by this order for every
+-- LID; so no mixture makes a credit loop
 abbrev pub GoalsAreSafe : Type 0
 GoalsAreSafe =
     (facts : Facts) (held plan : HeldPlan) (by preferred : List ℕ) (goal : Goal)
@@ -81,9 +82,9 @@ GoalsFollowTheRule =
     → IsGoal (cells_of facts) held plan by preferred (Some goal) → IsKept held plan line → 1 ≤ line.lid
     → IsLineStep (cells_of facts) (position_at goal.positions) held goal.tables line (next_towards facts held goal)
 
--- a step of a goal line towards the tables between two orders leaves these tables as they are for the LID: made from
--- the next tables, they have the same entries as made from the held tables. Premises: the facts are in range; and each
--- held entry for the LID is 255 or delivers
+-- if the facts are in range, and each held entry for the LID is 255 or delivers, a step of a goal line towards the
+-- tables between two orders leaves these tables as they are for the LID: made from the next tables, they have the
+-- same entries as made from the held tables
 abbrev pub GoalStandsStill : Type 0
 GoalStandsStill =
     (facts : Facts) → AreInRange facts → (orders : TwoOrders) (held plan next : HeldPlan) (line : HeldLid)
@@ -97,8 +98,9 @@ GoalStandsStill =
     ≡ entry_for (tables_between (cells_of facts) (edges_in (cells_of facts)) orders held plan) line.lid g
 
 -- `tables n` are the tables for the LID of `line` after n steps. Each step goes from the tables before it towards the
--- tables between two orders, one that grows by `told` and one that grows by `by` over the tree of the first. The first
--- tables have the plan's owners of the LID, and are right by the first order; each of their entries is 255 or delivers
+-- tables between two orders, one that grows by `told` and one that grows by `by` along the tree of the first. The
+-- first tables have the plan's owners of the LID, and are right by the first order; each of their entries is 255 or
+-- delivers
 pub record AreGoalSteps (facts : Facts) (told by : List ℕ) (plan : HeldPlan) (line : HeldLid) (tables : ℕ → HeldPlan)
     : Type 0 where
   pub is_line : IsGoalLine (cells_of facts) plan line
@@ -112,9 +114,9 @@ pub record AreGoalSteps (facts : Facts) (told by : List ℕ) (plan : HeldPlan) (
       (tables_between (cells_of facts) (edges_in (cells_of facts)) (grown_twice (edges_in (cells_of facts)) told by)
       (tables n) plan) line (tables (suc n))
 
--- in steps towards the tables between two orders that grow (`AreGoalSteps`), each switch from which the first goal
--- delivers has that goal's entry after 2n or more steps, for n switches, and the tables then deliver from this switch,
--- if the facts are in range
+-- suppose the facts are in range. In steps towards the tables between two orders that grow (`AreGoalSteps`), each
+-- switch from which the first goal delivers has that goal's entry after 2n or more steps, where n is the number of
+-- switches, and the tables then deliver from this switch
 abbrev pub GoalIsReached : Type 0
 GoalIsReached =
     (facts : Facts) → AreInRange facts → (told by : List ℕ) (plan : HeldPlan) (line : HeldLid) (tables : ℕ → HeldPlan)
@@ -129,9 +131,10 @@ GoalIsReached =
     (grown_twice (edges_in (cells_of facts)) told by) (tables 0) plan) line.lid g)
     × DeliverFrom (cells_of facts) (tables m) line i
 
--- in steps towards the tables between two orders that grow (`AreGoalSteps`), the tables are right by the second order
--- for the LID after 2n or more steps, for n switches, and at least one step. Premises: the facts are in range; and the
--- first goal delivers from each switch that sends packets straight to the end port by the first tables
+-- suppose the facts are in range, and the first goal delivers from each switch from which the first tables send
+-- packets straight to the end port. In steps towards the tables between two orders that grow (`AreGoalSteps`), the
+-- tables after 2n or more steps (at least one), where n is the number of switches, are right for the LID by the
+-- second order
 abbrev pub GoalEndsRight : Type 0
 GoalEndsRight =
     (facts : Facts) → AreInRange facts → (told by : List ℕ) (plan : HeldPlan) (line : HeldLid) (tables : ℕ → HeldPlan)

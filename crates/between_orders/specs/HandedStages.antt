@@ -39,9 +39,9 @@ pub record AreHandedSteps (facts : Facts) (by preferred : List ℕ) (plan : Held
       → IsGoal (cells_of facts) (tables n) plan by (handed preferred goals n) (Some (goals n))
   pub step_is : (n : ℕ) → n < count → tables (suc n) ≡ next_towards facts (tables n) (goals n)
 
--- both orders stay in all handed steps: the first grows by the order that `tables 0` imply, and the second grows by
--- the plan's positions over the tree of the first. All tables are right by the first order. The condition is that
--- `tables 0` are right by this grown order
+-- suppose `tables 0` are right by the order that grows by the order that they imply. Then both orders stay in all
+-- handed steps: the first is this grown order, and the second grows by the plan's positions along the tree of the
+-- first. All tables are right by the first order
 abbrev pub HandedOrdersStay : Type 0
 HandedOrdersStay =
     (facts : Facts) (by preferred : List ℕ) (plan : HeldPlan) (tables : ℕ → HeldPlan) (goals : ℕ → Goal) (count : ℕ)
@@ -53,9 +53,9 @@ HandedOrdersStay =
     × ((n : ℕ) → n ≤ count
     → AreRightBy (cells_of facts) (grown_twice (edges_in (cells_of facts)) told.positions by).first (tables n))
 
--- handed steps are goal steps for the LID of a goal line, if three conditions hold: `tables 0` are right by the order
--- that grows by the order that they imply; one end port alone holds the LID, in `tables 0` and in the plan; and each
--- entry for it in `tables 0` is 255 or delivers
+-- suppose `tables 0` are right by the order that grows by the order that they imply. Let the end port of a goal line
+-- alone hold the LID, in `tables 0` and in the plan, and let each entry for the LID in `tables 0` be 255 or deliver.
+-- Then handed steps are goal steps for the LID
 abbrev pub HandedStepsAreGoalSteps : Type 0
 HandedStepsAreGoalSteps =
     (facts : Facts) (by preferred : List ℕ) (plan : HeldPlan) (tables : ℕ → HeldPlan) (goals : ℕ → Goal) (count : ℕ)
@@ -68,15 +68,16 @@ HandedStepsAreGoalSteps =
     → (all : ℕ → HeldPlan) × AreGoalSteps facts told.positions by plan line all
     × ((n : ℕ) → n ≤ count → tables n ≡ all n)
 
--- `lid` is a LID of the switch at index `i`: in the plan this switch alone holds the LID, and takes packets for it
+-- `lid` is a LID of the switch at index `i`: in the plan this switch alone holds the LID, and takes packets for the
+-- LID
 pub record IsOwnLid (cells : Cells) (plan : HeldPlan) (i lid : ℕ) : Type 0 where
   pub some : 1 ≤ lid
   pub alone : owners_of plan lid ≡ record { node = switch_at cells i; port = 0 } ∷ []
   pub takes : step_at cells plan lid (switch_at cells i) ≡ Ends (Taken (record { node = switch_at cells i; port = 0 }))
 
 -- in the plan, each LID is held by no end port, or by one alone. In the latter case, no usable switch has a top below
--- the LID. The plan delivers at that end port from each switch from which any tables deliver there that give the LID
--- to this end port alone
+-- the LID. If some tables that give the LID to that end port alone deliver there from a switch, the plan delivers
+-- there from that switch, too
 pub record IsWholePlan (cells : Cells) (plan : HeldPlan) : Type 0 where
   pub lines : (lid : ℕ) → 1 ≤ lid → (owners_of plan lid ≡ [])
       ⊎ ((port : EndPort) × (owners_of plan lid ≡ port ∷ [])
@@ -88,9 +89,9 @@ pub record IsWholePlan (cells : Cells) (plan : HeldPlan) : Type 0 where
 abbrev pub HaveOwnLids : Cells → HeldPlan → Type 0
 HaveOwnLids cells plan = (i : ℕ) → i < length (switches cells) → (lid : ℕ) × IsOwnLid cells plan i lid
 
--- after 2n + 2 handed steps towards a whole plan, for n switches, no further handed step changes the tables, if two
--- conditions hold: the facts are in range; and `tables 0` are right by the order that grows by the order that they
--- imply
+-- suppose the facts are in range, and `tables 0` are right by the order that grows by the order that they imply. Then
+-- after 2n + 2 or more handed steps towards a whole plan, where n is the number of switches, no further handed step
+-- changes the tables
 abbrev pub HandedStepsEnd : Type 0
 HandedStepsEnd =
     (facts : Facts) → AreInRange facts → (by preferred : List ℕ) (plan : HeldPlan) (tables : ℕ → HeldPlan)
@@ -100,14 +101,15 @@ HandedStepsEnd =
     → IsRightByGrown (cells_of facts) (tables 0) told.positions → IsWholePlan (cells_of facts) plan
     → (m : ℕ) → 2 * length (switches (cells_of facts)) + 2 ≤ m → m < count → tables (suc m) ≡ tables m
 
--- the number of steps `count` is at least 2n + 2, for n switches, or the last step changes nothing
+-- the number of steps `count` is at least 2n + 2, where n is the number of switches, or the last step changes nothing
 abbrev pub AreDone : Cells → (ℕ → HeldPlan) → ℕ → Type 0
 AreDone cells tables count =
     (2 * length (switches cells) + 2 ≤ count)
     ⊎ ((last : ℕ) × (count ≡ suc last) × (tables (suc last) ≡ tables last))
 
--- a stage from `start` to `end`: handed steps towards a plan, until there are 2n + 2 of them or one changes nothing. In
--- the first of them, of the orders that `start` implies, the one nearest to the plan's is taken
+-- a stage from `start` to `end`: handed steps towards a plan, until there are at least 2n + 2 steps, where n is the
+-- number of switches, or the last one changes nothing. In the first step, of the orders that `start` implies, the one
+-- nearest to the plan's is taken
 pub record IsStage (facts : Facts) (by : List ℕ) (plan start end : HeldPlan) : Type 0 where
   pub tables : ℕ → HeldPlan
   pub goals : ℕ → Goal
@@ -117,18 +119,19 @@ pub record IsStage (facts : Facts) (by : List ℕ) (plan start end : HeldPlan) :
   pub begins : tables 0 ≡ start
   pub ends : tables count ≡ end
 
--- if packets get by the tables at the beginning of a stage from each switch to all switches that wires join to it, they
--- do so by the tables at its end. Premises: the facts are in range; and the stage goes towards a whole plan in which
--- each usable switch has a LID
+-- suppose the facts are in range, and a stage goes towards a whole plan in which each usable switch has a LID. If,
+-- under the tables at the beginning of the stage, packets get from each switch to all switches that wires join to
+-- that switch, they do so under the tables at the end of the stage
 abbrev pub StagesStayWhole : Type 0
 StagesStayWhole =
     (facts : Facts) → AreInRange facts → (by : List ℕ) (plan start end : HeldPlan) → IsWholePlan (cells_of facts) plan
     → HaveOwnLids (cells_of facts) plan → IsStage facts by plan start end → ComeEverywhere (cells_of facts) start
     → ComeEverywhere (cells_of facts) end
 
--- after n - 1 or more stages, for n switches, the tables are right by the plan's order, if three conditions hold: the
--- facts are in range; the stages go towards a whole plan in which each usable switch has a LID; and the first tables
--- imply an order, and packets get by them from each switch to all switches that wires join to it
+-- suppose the facts are in range, and stages go towards a whole plan in which each usable switch has a LID. Let the
+-- first tables imply an order, and let packets get under these tables from each switch to all switches that wires
+-- join to that switch. Then after n - 1 or more stages, where n is the number of switches, the tables are right by
+-- the plan's order
 abbrev pub StagesAreFew : Type 0
 StagesAreFew =
     (facts : Facts) → AreInRange facts → (by : List ℕ) (plan : HeldPlan) (tables : ℕ → HeldPlan) (count : ℕ)

@@ -24,7 +24,8 @@ told_positions taken n = map (position_in taken) (range_with_len 0 n)
 
 -- the two orders of a step, from the positions `told` in the order that the tables imply, and the order `grown` that
 -- grows by them. If the tables are right by the grown order, that one is the first, and the second grows by the
--- positions `plan` over the tree of the first. Otherwise the implied order is the first, and the grown one the second
+-- positions `plan` along the tree of the first. Otherwise the implied order is the first, and the grown one the
+-- second
 abbrev pub orders_by : Cells → HeldPlan → List (List Edge) → List ℕ → List ℕ → List ℕ → TwoOrders
 orders_by cells held edges plan told grown =
     if are_right cells (position_at (positions_in grown (length edges))) held

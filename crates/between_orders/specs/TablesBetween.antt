@@ -12,8 +12,8 @@ use Rattle.packet_walks.specs.declared.next_hop.NextHop.{NextHop}
 use Rattle.packet_walks.specs.declared.next_hop.NextHop.TheVariants.{To, Ends}
 use Rattle.packet_walks.specs.declared.next_hop.SwitchStep.{SwitchStep}
 use Rattle.packet_walks.specs.HopsByTables.{is_at, switch_step}
-use Rattle.next_tables.specs.Assembled.{most_blocks, tables_with}
-use Rattle.next_tables.specs.SettledComputed.{Both}
+use Rattle.next_tables.specs.Assembly.{most_blocks, tables_with}
+use Rattle.next_tables.specs.SettledEntries.{Both}
 use Rattle.two_orders.specs.declared.labels.Sides.{Sides}
 use Rattle.two_orders.specs.Labels.{both_down, label_at, labels_from, leads_on}
 use Rattle.two_orders.specs.TwoOrders.{TwoOrders}
@@ -25,7 +25,7 @@ abbrev pub arrives : EndPort → NextHop → Bool
 arrives port (To j) = false
 arrives port (Ends e) = is_at port (Some e)
 
--- the label that a switch has at first: down by both orders, if its hop by the plan ends at `port`, otherwise None
+-- the label that a switch has at first: down by both orders, if its hop under the plan ends at `port`, otherwise None
 abbrev pub first_label : EndPort → SwitchStep → Option Sides
 first_label port plan = if arrives port plan.hop then Some both_down else None
 
@@ -48,22 +48,23 @@ entry_to edges orders labels sides i x =
     (if fits orders labels sides i x.1.hop then x.1.entry else
     port_of (find (λ e. leads_on orders labels sides i e.to) (edges_at edges i)))
 
--- the entry of switch `i` by its label; 255 for None
+-- the entry of switch `i` according to its label; 255 for None
 abbrev pub entry_with : List (List Edge) → TwoOrders → List (Option Sides) → Option Sides → ℕ → Both → ℕ
 entry_with edges orders labels None i x = 255
 entry_with edges orders labels (Some sides) i x = entry_to edges orders labels sides i x
 
--- the entry of a switch towards `port`: the plan's if its hop ends there, otherwise the one by the switch's label
+-- the entry of a switch towards `port`: the plan's if the plan's hop ends there, otherwise the one according to the
+-- switch's label
 abbrev pub entry_between : EndPort → List (List Edge) → TwoOrders → List (Option Sides) → ℕ × Both → ℕ
 entry_between port edges orders labels x =
     if arrives port x.1.1.hop then x.1.1.entry else entry_with edges orders labels (label_at labels x.0) x.0 x.1
 
--- the labels of all switches towards `port`, by two orders, from what each switch does by the plan
+-- the labels of all switches towards `port`, by two orders, from what each switch does under the plan
 abbrev pub labels_towards : EndPort → List (List Edge) → TwoOrders → List SwitchStep → List (Option Sides)
 labels_towards port edges orders plan = labels_from edges orders (map (first_label port) plan)
 
--- the entries of all switches towards `port`, by two orders, from what each switch does by the held tables and by the
--- plan
+-- the entries of all switches towards `port`, by two orders, from what each switch does under the held tables and
+-- under the plan
 unfoldable pub entries_towards : EndPort → List (List Edge) → TwoOrders → List SwitchStep → List SwitchStep → List ℕ
 entries_towards port edges orders held plan =
     map (entry_between port edges orders (labels_towards port edges orders plan)) (enumerate_from 0 (zip held plan))

@@ -14,11 +14,11 @@ use told_order::told_order;
 use two_orders::{Orders, grown_by, positions_in, tree};
 
 /// Returns the two orders of a step from the tables of `held`. The first is the order that these tables imply, or the
-/// order that grows by it. The second is the next order on the way to the plan's. If several switches may be last, the
-/// one that comes last in the order that grows by `preferred` is taken first. Returns `None` if the tables imply no
-/// order. `edges` has the wires of each switch. Each wire must lead to a switch, and be listed at both ends. `plan`
-/// must have the position of each switch in the plan's order, and `preferred` must have its position in the preferred
-/// order.
+/// order that grows by it. The second is the next order on the way to the plan's. If several switches may be last,
+/// the one that comes last in the order that grows by `preferred` is taken first. Returns `None` if the tables imply
+/// no order. `edges` has the wires of each switch. Each wire must lead to a switch, and be listed at both ends.
+/// `plan` must have the position of each switch in the plan's order, and `preferred` must have the position of each
+/// switch in the preferred order.
 pub(crate) fn orders(
     alloc: Global,
     edges: &Adjacency,
@@ -45,9 +45,9 @@ pub(crate) fn orders(
 
 /// Returns the orders of a step from the tables of `held`. `told` must have the position of each switch in the order
 /// that the tables imply. If the tables are right by the order that grows by `told`, this grown order is the first,
-/// and the second grows by the positions `plan` over the tree of the first. Otherwise the implied order is the first,
-/// and the grown order the second. `plan` must have a position for each switch. Each wire of `edges` must lead to a
-/// switch, and be listed at both ends.
+/// and the second grows by the positions `plan` along the tree of the first. Otherwise the implied order is the
+/// first, and the grown order the second. `plan` must have a position for each switch. Each wire of `edges` must lead
+/// to a switch, and be listed at both ends.
 fn orders_from(
     alloc: Global,
     edges: &Adjacency,

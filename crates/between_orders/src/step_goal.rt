@@ -27,7 +27,7 @@ pub struct StepGoal {
 /// second is the next order on the way to the plan's. Returns `None` if the held tables imply no order. If they imply
 /// several orders, takes the one nearest to the order that grows by `preferred`. `held` and `plan` must have the same
 /// facts. `positions` must have the position of each usable switch in the plan's order, in ascending order of GUID,
-/// and `preferred` must have its position in the preferred order.
+/// and `preferred` must have the position of each usable switch in the preferred order.
 pub fn between(
     alloc: Global,
     held: &Network,

@@ -67,9 +67,9 @@ fn columns(
     Ok(columns)
 }
 
-/// Returns the entries between the two orders of all usable switches, for the LID of both cursors. `held` and `plan`
-/// must be at the same LID, and have the same facts. The labels in `labelled` must follow from its first labels, and
-/// do so afterwards too. If the LID has an owner in the plan, they are then the labels for this LID.
+/// Returns the entry between the two orders of each usable switch, for the LID that both cursors are at. `held` and
+/// `plan` must be at the same LID, and have the same facts. The labels in `labelled` must follow from its first
+/// labels, and do so afterwards too. If the LID has an owner in the plan, they are then the labels for this LID.
 fn column(
     alloc: Global,
     edges: &Adjacency,
@@ -103,9 +103,9 @@ fn column(
     )
 }
 
-/// Returns the entries of all switches towards `port`, by `orders`. `held` and `plan` have what each switch does by
-/// the held tables and by the plan. The labels in `labelled` must follow from its first labels. They are replaced by
-/// the labels towards `port`.
+/// Returns the entries of all switches towards `port`, by `orders`. `held` and `plan` have what each switch does
+/// under the held tables and under the plan. The labels in `labelled` must follow from its first labels. They are
+/// replaced by the labels towards `port`.
 fn entries_towards(
     alloc: Global,
     port: &EndPort,
@@ -126,7 +126,7 @@ fn entries_towards(
     entries_by(alloc, port, edges, orders, &labelled.labels, held, plan)
 }
 
-/// Returns the first label of each switch: down by both orders if the switch's hop by the plan ends at `port`,
+/// Returns the first label of each switch: down by both orders if the switch's hop under the plan ends at `port`,
 /// otherwise `None`.
 fn first_labels(
     alloc: Global,
@@ -165,7 +165,7 @@ fn arrives(port: &EndPort, hop: &NextHop) -> bool
 }
 
 /// Returns the entry of each switch towards `port`, by `labels` and `orders`. `held` and `plan` have what each switch
-/// does by the held tables and by the plan.
+/// does under the held tables and under the plan.
 fn entries_by(
     alloc: Global,
     port: &EndPort,
@@ -185,8 +185,8 @@ fn entries_by(
         .collect(alloc)
 }
 
-/// Returns the entry of the switch at `index`: the plan's entry if its hop ends at `port`, otherwise the entry by the
-/// switch's label, or 255 if the switch has no label.
+/// Returns the entry of the switch at `index`: the plan's entry if its hop ends at `port`, otherwise the entry
+/// according to the switch's label, or 255 if the switch has no label.
 fn entry(
     port: &EndPort,
     edges: &Adjacency,

@@ -61,7 +61,8 @@ pub record FailsToGive (old new : ReadingState) : Type 0 where
   pub answered : IsAnswered old new
   pub failed : IsTrue new.has_failed
 
--- no bytes were taken, each call that was made was interrupted, and the reading is used up
+-- no bytes were taken, each call that was made was interrupted, and the reading is used up. No call failed meanwhile.
+-- If the reading was not used up before, no call of the source has ever failed
 pub record IsSpentBefore (old new : ReadingState) : Type 0 where
   pub taken : Takes old new []
   pub spent : IsSpent new.bytes new.calls

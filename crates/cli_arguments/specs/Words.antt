@@ -12,7 +12,7 @@ use Rattle.clap.specs.declared.parser.matches.ArgMatches.{ArgMatches}
 abbrev pub values_in : List ℕ → List Row → Option (List (List ℕ))
 values_in name rows = option_map (λ r. r.values) (find (λ r. bytes_eq r.id name) rows)
 
--- the names of files after the subcommand; None if there is no subcommand, or it has no such argument
+-- the names of files after the subcommand; None if there is no subcommand, or the subcommand has no such argument
 abbrev pub files_named : ArgMatches → Option (List (List ℕ))
 files_named matches = option_and_then (λ s. values_in (codes "FILE") s.1) (subcommand_rows_of matches)
 

@@ -6,7 +6,7 @@ use Rattle.std.specs.Char.{is_ascii_hexdigit, is_digit}
 use Rattle.std.specs.Int.{is_in_range}
 use Rattle.std.specs.List.{list_all}
 use Rattle.std.specs.Str.Parse.{digits_value}
-use Rattle.text_words.specs.Number.{number_of}
+use Rattle.text_words.specs.Numbers.{number_of}
 use Rattle.serve_lines.specs.ServeLine.{hex_number}
 use Rattle.cli_arguments.specs.Words.{is_guid_word}
 

@@ -12,11 +12,11 @@ use Rattle.sm_cli.specs.declared.asked.RuleAsked.TheVariants.{UpDown, Spread, Sp
 use Rattle.next_run.specs.Asked.{has_lanes, is_named}
 use Rattle.next_run.specs.declared.asked.StepLanes.{StepLanes}
 use Rattle.next_run.specs.declared.asked.StepLanes.TheVariants.{ByText, One}
-use Rattle.cli_task.specs.Tasks.{audit_by, held_order_asked, lanes_asked}
+use Rattle.cli_task.specs.Task.{audit_by, held_order_asked, lanes_asked}
 use Rattle.cli_task.specs.InputNames.{followed_by, names_in, text_if, texts_of_rule}
 use Rattle.cli_task.specs.OptionValues.{floor_asked, guid_asked, lmc_asked, max_load_asked, number_in, port_asked}
 use Rattle.cli_task.specs.OptionValues.{priority_asked, sm_key_asked, within, planning_asked, rule_asked}
-use Rattle.cli_task.specs.Tasks.{task_behind}
+use Rattle.cli_task.specs.Task.{task_behind}
 use Rattle.cli_task.proofs.Guids.{guid_is_read}
 use Rattle.cli_task.proofs.Within.{number_within}
 

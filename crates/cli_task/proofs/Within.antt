@@ -5,7 +5,7 @@ use Rattle.std.specs.Prelude.{is_some, option_and_then, if◌then◌else◌, neg
 use Rattle.std.specs.Str.Parse.{IsNumeral, digits_value, starts_with_minus, without_leading_plus}
 use Rattle.std.proofs.lemmas.Bool.{leb-true}
 use Rattle.clap.specs.Values.{IsSignedIn}
-use Rattle.text_words.specs.Number.{number_of}
+use Rattle.text_words.specs.Numbers.{number_of}
 use Rattle.text_words.proofs.Digits.{is_within}
 use Rattle.text_words.proofs.NumbersPrinted.{number_from}
 use Rattle.cli_task.specs.OptionValues.{number_in, within}

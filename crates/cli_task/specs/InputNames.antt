@@ -1,4 +1,4 @@
--- The names of the inputs that a task reads, in their order.
+-- The names of the inputs that a task reads, in the order in which they are read.
 use Rattle.std.specs.Prelude.{ℕ, Bool, true, false, List, [], ◌∷◌, ◌++◌, Option, Some, codes, option_map}
 use Rattle.std.specs.Prelude.{option_and_then, if◌then◌else◌}
 use Rattle.clap.specs.declared.parser.matches.ArgMatches.{ArgMatches}
@@ -10,7 +10,7 @@ use Rattle.sm_cli.specs.declared.asked.RuleAsked.TheVariants.{BalanceInOrder}
 use Rattle.next_run.specs.Asked.{has_lanes, is_named}
 use Rattle.cli_task.specs.declared.task.Task.{Task}
 use Rattle.cli_task.specs.declared.task.Task.TheVariants.{Answer, Audit, AuditByLane, OrderOf, Next, Run, Serve}
-use Rattle.cli_task.specs.Tasks.{task_asked}
+use Rattle.cli_task.specs.Task.{task_asked}
 
 -- the names of the texts that a rule takes, from the words for roots and order; None if the name of such a text is
 -- missing

@@ -1,4 +1,4 @@
 pub mod InputNames
 pub mod Laws
 pub mod OptionValues
-pub mod Tasks
+pub mod Task

@@ -4,7 +4,7 @@ use Rattle.std.specs.Prelude.{option_map, option_and_then, ◌&&◌, ◌||◌, i
 use Rattle.std.specs.Str.{bytes_eq}
 use Rattle.std.specs.Str.Parse.{starts_with_minus, without_leading_plus}
 use Rattle.cli_arguments.specs.Words.{order_rule}
-use Rattle.text_words.specs.Number.{number_of}
+use Rattle.text_words.specs.Numbers.{number_of}
 use Rattle.sm_cli.specs.declared.asked.RuleAsked.{RuleAsked}
 use Rattle.sm_cli.specs.declared.asked.RuleAsked.TheVariants.{UpDown, Spread, SpreadFromRoots, SpreadInOrder, Balance}
 use Rattle.sm_cli.specs.declared.asked.RuleAsked.TheVariants.{BalanceInOrder}
@@ -21,18 +21,17 @@ number_in word =
     if starts_with_minus word then option_and_then (within 0 0) (number_of 10 (drop 1 word))
     else number_of 10 (without_leading_plus word)
 
--- the number of the word, or None if it does not fit in 32 bits or the word is not a number; `otherwise` if there is
--- no word
+-- the number of the word, or None if the word is not a number that fits in 32 bits; `otherwise` if there is no word
 abbrev pub number_or : ℕ → Option (List ℕ) → Option ℕ
 number_or otherwise None = Some otherwise
 number_or otherwise (Some word) = option_and_then (within 0 4294967295) (number_in word)
 
--- the floor: the number of the word, or None if it is not from 1 to 2^32 - 1; 1 if there is no word
+-- the floor: the number of the word, or None if this number is not from 1 to 2^32 - 1; 1 if there is no word
 abbrev pub floor_asked : Option (List ℕ) → Option ℕ
 floor_asked None = Some 1
 floor_asked (Some word) = option_and_then (within 1 4294967295) (number_in word)
 
--- the LMC: the number of the word, or None if it is not from 0 to 7; 0 if there is no word
+-- the LMC: the number of the word, or None if this number is not from 0 to 7; 0 if there is no word
 abbrev pub lmc_asked : Option (List ℕ) → Option ℕ
 lmc_asked None = Some 0
 lmc_asked (Some word) = option_and_then (within 0 7) (number_in word)

@@ -1,10 +1,10 @@
 //! The task that the words of the command line ask for.
 ghost use Rattle.std.specs.Prelude.{◌≡◌, IfOk, codes, map, option_map};
 ghost use Rattle.clap.specs.Matches.{first_value, found_of, matched_of, raw_values};
-ghost use Rattle.cli_task.specs.Tasks.{audit_asked, audit_task, held_order_of, lanes_of, output_asked, step_asked};
-ghost use Rattle.cli_task.specs.Tasks.{task_asked, task_behind};
+ghost use Rattle.cli_task.specs.Task.{audit_asked, audit_task, held_order_of, lanes_of, output_asked, step_asked};
+ghost use Rattle.cli_task.specs.Task.{task_asked, task_behind};
 ghost use Rattle.cli_task.specs.InputNames.{step_texts, names_asked, names_in, rule_of_task};
-ghost use Rattle.cli_task.specs.Tasks.{serving_asked};
+ghost use Rattle.cli_task.specs.Task.{serving_asked};
 ghost use Rattle.cli_task.specs.InputNames.{takes_files, texts_asked, texts_of_rule};
 
 use crate::option_values::{

@@ -3,7 +3,7 @@ use Rattle.std.proofs.Common.{◌≡◌, ◌<◌, ◌++◌, ◌||◌, ◌==◌, 
 use Rattle.std.proofs.lemmas.Bool.{cases_eq, eq-eqb, ne_eqb}
 use Rattle.std.proofs.lemmas.List.{get_or-set_same, get_or-set_other}
 use Rattle.std.specs.Prelude.{slice_set}
-use Rattle.depth_orders.specs.DepthOrders.{flag_at, is_among}
+use Rattle.depth_orders.specs.DepthOrder.{flag_at, is_among}
 
 or_false : (b : Bool) → (b || false) ≡ b
 or_false true = refl

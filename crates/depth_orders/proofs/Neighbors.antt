@@ -3,7 +3,7 @@ use Rattle.std.proofs.Common.{◌≡◌, ◌<◌, ◌+◌, ◌++◌, ℕ, List, 
 use Rattle.std.proofs.lemmas.List.{map-append, take_more}
 use Rattle.std.specs.Prelude.{Some, filter}
 use Rattle.port_graph.specs.declared.edge.Edge.{Edge}
-use Rattle.spread_labels.specs.Stages.{earlier_of, earliest_of}
+use Rattle.spread_labels.specs.Growth.{earlier_of, earliest_of}
 use Rattle.spread_labels.proofs.Earlier.{earliest_more, filter_more}
 
 module _ (before : ℕ → ℕ → Bool) (left : ℕ → Bool) (edges : List Edge) (i : ℕ) (e : Edge) (h : i < length edges) where

@@ -1,1 +1,1 @@
-pub mod DepthOrders
+pub mod DepthOrder

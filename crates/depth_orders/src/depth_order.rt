@@ -2,20 +2,20 @@
 ghost use Rattle.std.specs.Prelude.{◌≡◌, ◌<◌, length, count_by, IfOk, MatchOption};
 ghost use Rattle.port_graph.specs.Heads.{LeadToVertices};
 ghost use Rattle.spread_labels.specs.KeyOrder.{before_by};
-ghost use Rattle.spread_labels.specs.Stages.{earlier_of};
-ghost use Rattle.depth_orders.specs.DepthOrders.{best_beside, deepest, first_left, flag_at, goes_before};
-ghost use Rattle.depth_orders.specs.DepthOrders.{next_by_depth, order_by_depth, turned};
+ghost use Rattle.spread_labels.specs.Growth.{earlier_of};
+ghost use Rattle.depth_orders.specs.DepthOrder.{best_beside, deepest, first_left, flag_at, goes_before};
+ghost use Rattle.depth_orders.specs.DepthOrder.{next_by_depth, order_by_depth, turned};
 
 use crate::direction::Direction;
 use port_graph::{Adjacency, Edge};
 use spread_labels::VertexKey;
 use std::alloc::{AllocError, Global};
 
-/// Returns the vertices in their order by depth from `root`. `root` is placed first. While a placed vertex has unplaced
+/// Returns the vertices in the order by depth from `root`. `root` is placed first. While a placed vertex has unplaced
 /// neighbors, the last such vertex decides: of its unplaced neighbors, the one with the most edges to placed vertices
 /// is placed next. Of equals, it is the one that `direction` prefers by `keys`. If no placed vertex has an unplaced
 /// neighbor, the first unplaced vertex by `keys` and `direction` is placed next. `root` must be a vertex, all edges
-/// must lead to vertices, and there must be a key for each vertex.
+/// must lead to vertices, and there must be a key for each vertex. Returns an error if memory runs out.
 pub fn order_by_depth(
     alloc: Global,
     edges: &Adjacency,
@@ -42,7 +42,8 @@ pub fn order_by_depth(
     Ok(vertices)
 }
 
-/// Returns the vertex that is placed after `vertices`, or `None` if all vertices are placed.
+/// Returns the vertex that is placed after `vertices`, or `None` if all vertices are placed. `keys` must have a key
+/// for each vertex, and all edges must lead to vertices.
 fn next_by_depth(
     edges: &Adjacency,
     keys: &[VertexKey],
@@ -63,7 +64,8 @@ fn next_by_depth(
 }
 
 /// Looks for the last of `vertices` that has an unplaced neighbor. Returns the first unplaced neighbor of this vertex
-/// by `goes_before`, or `None` if none of `vertices` has an unplaced neighbor.
+/// by `goes_before`, or `None` if none of `vertices` has an unplaced neighbor. The preconditions are those of
+/// `next_by_depth`.
 fn deepest(
     edges: &Adjacency,
     keys: &[VertexKey],
@@ -89,7 +91,7 @@ fn deepest(
 }
 
 /// Returns the first, by `goes_before`, of the unplaced neighbors of `vertex`. Returns `None` if `vertex` has no
-/// unplaced neighbor.
+/// unplaced neighbor. The preconditions are those of `next_by_depth`.
 fn best_beside(
     edges: &Adjacency,
     keys: &[VertexKey],
@@ -112,7 +114,8 @@ fn best_beside(
     found
 }
 
-/// Returns `vertex` if `found` is `None` or if `vertex` goes before `found` (`goes_before`). Otherwise returns `found`.
+/// Returns `vertex` if `found` is `None` or if `vertex` goes before `found` (`goes_before`). Otherwise returns
+/// `found`. `keys` must have a key for each vertex, and `vertex` and `found` must be vertices.
 fn better(
     edges: &Adjacency,
     keys: &[VertexKey],
@@ -133,8 +136,9 @@ fn better(
     }
 }
 
-/// Returns whether `one` goes before `other`. It does if more of its edges lead to placed vertices, or if equally many
-/// do and `direction` prefers `one` by `keys`.
+/// Returns whether `one` goes before `other`. It does if more of its edges lead to placed vertices, or if equally
+/// many do and `direction` prefers `one` by `keys`. `keys` must have a key for each vertex, and `one` and `other`
+/// must be vertices.
 fn goes_before(
     edges: &Adjacency,
     keys: &[VertexKey],
@@ -180,6 +184,7 @@ fn first_left(keys: &[VertexKey], direction: Direction, placed: &[bool]) -> Opti
 }
 
 /// Returns `vertex` if `found` is `None` or if `direction` prefers `vertex` to `found`. Otherwise returns `found`.
+/// `keys` must have a key for each of the two.
 fn earlier(keys: &[VertexKey], direction: Direction, found: Option<usize>, vertex: usize) -> usize
     requires vertex { vertex < length keys.now }
     requires found { MatchOption found (Unit {0}) (λ other. other < length keys.now) }

@@ -1,6 +1,6 @@
 ghost use Rattle.std.specs.Prelude.{◌≡◌, ◌<◌, length};
 ghost use Rattle.spread_labels.specs.KeyOrder.{before_by};
-ghost use Rattle.depth_orders.specs.DepthOrders.{turned};
+ghost use Rattle.depth_orders.specs.DepthOrder.{turned};
 
 use spread_labels::{VertexKey, is_before};
 

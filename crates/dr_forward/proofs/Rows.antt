@@ -11,7 +11,7 @@ use Rattle.smp_bytes.proofs.OffsetLaws.{get_or-with_number}
 use Rattle.smp_bytes.proofs.RequestLaws.{hop_pointer_parses, path_parses}
 use Rattle.dr_forward.specs.declared.here.Here.{Here}
 use Rattle.dr_forward.specs.declared.verdict.Verdict.TheVariants.{Out, ToAgent, ToManager}
-use Rattle.dr_forward.specs.Step.{pointed, noted, is_port, leaves_by, moved_on, step}
+use Rattle.dr_forward.specs.DirectedStep.{pointed, noted, is_port, leaves_by, moved_on, step}
 
 -- the way that a known test chooses
 pub taken : {X : Type 0} (b : Bool) (x y : X) → b ≡ true → (if b then x else y) ≡ x

@@ -10,7 +10,7 @@ use Rattle.dr_forward.specs.declared.verdict.Verdict.{Verdict}
 use Rattle.dr_forward.specs.declared.verdict.Verdict.TheVariants.{Out, ToAgent, ToManager, Discard}
 use Rattle.dr_forward.specs.declared.verdict.DiscardReason.{DiscardReason}
 use Rattle.dr_forward.specs.declared.verdict.DiscardReason.TheVariants.{Course, Transit, OutPort}
-use Rattle.dr_forward.specs.Step.{Stepped, discarded, pointed, noted, is_port, leaves_by, moved_on, goes_on, goes_back, outgoing, returning, step}
+use Rattle.dr_forward.specs.DirectedStep.{Stepped, discarded, pointed, noted, is_port, leaves_by, moved_on, goes_on, goes_back, outgoing, returning, step}
 use Rattle.dr_forward.specs.StepLaws.{DiscardedIsUnchanged, LeavesByAPort, OtherFieldsStay}
 
 -- what holds of both holds of either

@@ -9,7 +9,7 @@ use Rattle.smp_bytes.specs.ReadBack.{HoldsAnswer, IsKeptInAnswer}
 use Rattle.smp_bytes.proofs.FieldLaws.{number_in-alike}
 use Rattle.dr_forward.specs.declared.here.Here.{Here}
 use Rattle.dr_forward.specs.declared.verdict.Verdict.TheVariants.{Out, ToAgent, ToManager}
-use Rattle.dr_forward.specs.Step.{pointed, moved_on, step}
+use Rattle.dr_forward.specs.DirectedStep.{pointed, moved_on, step}
 use Rattle.dr_forward.proofs.Rows.{out_row, agent_row, back_row, home_row, IsKeptInStep, pointed_is, pointed_keeps_notes, moved_on_is, moved_on_notes, moved_on_keeps_notes}
 
 -- bytes that a step keeps --------------------------------------------------------------

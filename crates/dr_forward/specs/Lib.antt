@@ -1,2 +1,2 @@
-pub mod Step
+pub mod DirectedStep
 pub mod StepLaws

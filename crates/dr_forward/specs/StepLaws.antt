@@ -5,7 +5,7 @@ use Rattle.smp_bytes.specs.Packet.{hop_pointer}
 use Rattle.dr_forward.specs.declared.here.Here.{Here}
 use Rattle.dr_forward.specs.declared.verdict.Verdict.TheVariants.{Out, Discard}
 use Rattle.dr_forward.specs.declared.verdict.DiscardReason.{DiscardReason}
-use Rattle.dr_forward.specs.Step.{step}
+use Rattle.dr_forward.specs.DirectedStep.{step}
 
 -- a packet that is discarded is unchanged
 abbrev pub DiscardedIsUnchanged : Type 0

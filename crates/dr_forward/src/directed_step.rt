@@ -1,7 +1,7 @@
 ghost use Rattle.std.specs.Prelude.{◌≡◌, ◌+◌, ◌≤◌, ◌<◌, true, false};
 ghost use Rattle.smp_bytes.specs.Field.{number_in};
 ghost use Rattle.smp_bytes.specs.Packet.{hop_pointer, hop_count, is_directed, is_returning};
-ghost use Rattle.dr_forward.specs.Step.{step, outgoing, returning, goes_on, goes_back, moved_on, is_port};
+ghost use Rattle.dr_forward.specs.DirectedStep.{step, outgoing, returning, goes_on, goes_back, moved_on, is_port};
 
 use crate::here::Here;
 use crate::verdict::{DiscardReason, Verdict};
@@ -11,7 +11,7 @@ use smp_bytes::{PortNum, Smp};
 /// a directed route. On its way out the packet leaves through the next port of its path, and the port where it came
 /// in is recorded. At the end of the path the node's agent takes the packet. On its way back the packet leaves
 /// through the recorded port, until it is back where it was sent. A packet that is discarded stays unchanged.
-#[tactic(auto, unfolding(crate::specs::Step::step))]
+#[tactic(auto, unfolding(crate::specs::DirectedStep::step))]
 pub fn step(smp: &mut Smp, here: &Here) -> Verdict
     requires { is_directed smp.old ≡ true }
     ensures packet { smp.new ≡ (step here.now smp.old).packet }

@@ -1,4 +1,4 @@
-//! A request over one hop and its answer, and a step of each kind.
+//! A request of one hop and its answer, and a step of each kind.
 use super::*;
 use smp_bytes::{AttributeId, Method, Path, PortNum, Smp, SmpClass, SmpFault, Status};
 use std::test::Fail;
@@ -18,7 +18,7 @@ fn out(port: u8) -> Verdict {
     Verdict::Out(PortNum::new(port))
 }
 
-/// Builds a request for NodeInfo over a path of `hops` hops that begins with `path`. The hop pointer is `pointer`.
+/// Builds a request for NodeInfo along a path of `hops` hops that begins with `path`. The hop pointer is `pointer`.
 /// The request is on its way back if `is_returning`, and otherwise on its way out.
 fn packet(hops: u8, path: [u8; 2], pointer: u8, is_returning: bool) -> Result<Smp, SmpFault> {
     let (get, node_info) = (Method::GET, AttributeId::NODE_INFO);

@@ -13,9 +13,9 @@ PacketsEndOnce = (f : Fabric) (lid : ℕ) (source : NodePort)
     × ((hops others : List Hop) (target : NodePort) (node : ℕ) → IsDelivered f lid source hops target
     → IsLost f lid source others node → ⊥)
 
--- if the port `out` is appended to a path of at least one port, the longer path leads on from the end of the path by
--- the cable in `out` (`on_by`). It leads nowhere if the path itself leads nowhere, if its end is not at a switch, or if
--- no cable is in `out` there
+-- if the port `out` is appended to a path of at least one port, the longer path leads on from the end of the shorter
+-- path by the cable in `out` (`on_by`). It leads nowhere if the shorter path leads nowhere, if the end of the shorter
+-- path is not at a switch, or if no cable is in `out` there
 abbrev pub WalksGoOn : Type 0
 WalksGoOn = (f : Fabric) (origin : NodePort) (first : ℕ) (path : List ℕ) (out : ℕ)
     → directed_end f origin ((first ∷ path) ++ out ∷ [])

@@ -1,4 +1,4 @@
--- Which ports of a fabric are joined: the wires between them, and walks over wires. InfiniBand Architecture
+-- Which ports of a fabric are joined: the wires between them, and walks along wires. InfiniBand Architecture
 -- Specification, Volume 1: architectural overview, topology: channel adapters and switches joined by links.
 use Rattle.std.specs.Prelude.{◌≡◌, ◌≢◌, ◌⊎◌, ℕ, zero, suc, Some, IsTrue, if◌then◌else◌}
 use Rattle.fabric_model.specs.declared.cable.NodePort.{NodePort}
@@ -21,12 +21,12 @@ pub record AreNeighbors (f : Fabric) (a b : NodePort) : Type 0 where
   pub of_one : vertex_of f out ≡ a
   pub of_other : vertex_of f into ≡ b
 
--- a walk over a given number of wires leads from vertex `a` to vertex `b`, with only switches between them
+-- a walk along a given number of wires leads from vertex `a` to vertex `b`, with only switches between them
 abbrev pub Walk : Fabric → NodePort → NodePort → ℕ → Type 0
 Walk f a b zero = a ≡ b
 Walk f a b (suc n) = (c : NodePort) × AreNeighbors f a c × ((n ≡ 0) ⊎ IsTrue (is_switch_at f c.node)) × Walk f c b n
 
--- in a fabric, vertex `a` is joined to vertex `b`: some walk over wires leads from `a` to `b`
+-- in a fabric, vertex `a` is joined to vertex `b`: some walk along wires leads from `a` to `b`
 abbrev pub IsJoinedTo : Fabric → NodePort → NodePort → Type 0
 IsJoinedTo f a b = (n : ℕ) × Walk f a b n
 

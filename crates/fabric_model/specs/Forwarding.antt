@@ -27,9 +27,9 @@ arrived_at p = record { at = p; by_wire = true }
 abbrev pub adapter_course : Bool → Standing → Course
 adapter_course is_own s = if is_own then Delivers s.at else if s.by_wire then Drops else LeavesBy s.at
 
--- what the switch with the number `number` and `ports` ports does with a packet by `entry`. The switch drops the packet
--- if `entry` is 255 or is a port that the switch does not have. It takes the packet if `entry` is 0. Otherwise it sends
--- the packet out by the port `entry`
+-- what the switch with the number `number` and `ports` ports does with a packet whose table entry is `entry`. The
+-- switch drops the packet if `entry` is 255 or is a port that the switch does not have. It takes the packet if
+-- `entry` is 0. Otherwise it sends the packet out by the port `entry`
 abbrev pub entry_course : ℕ → ℕ → ℕ → Course
 entry_course ports number entry =
     if entry == 255 || nat_lt ports entry then Drops
@@ -57,13 +57,13 @@ pub record Hop : Type 0 where
   pub out : NodePort
   pub into : NodePort
 
--- a packet for `lid` goes from `s` to `end` over the wires `hops`, one after the other
+-- a packet for `lid` goes from `s` to `end` along the wires `hops`, one after the other
 abbrev pub Goes : Fabric → ℕ → Standing → List Hop → Standing → Type 0
 Goes f lid s [] end = s ≡ end
 Goes f lid s (h ∷ hops) end =
     (course f lid s ≡ LeavesBy h.out) × (f.across h.out ≡ Some h.into) × Goes f lid (arrived_at h.into) hops end
 
--- a packet for `lid` that port `source` sends goes over the wires `hops`, and is delivered at port `target`
+-- a packet for `lid` that port `source` sends goes along the wires `hops`, and is delivered at port `target`
 abbrev pub IsDelivered : Fabric → ℕ → NodePort → List Hop → NodePort → Type 0
 IsDelivered f lid source hops target =
     (end : Standing) × Goes f lid (sent_from source) hops end × (course f lid end ≡ Delivers target)
@@ -76,7 +76,7 @@ IsStuck f lid s = (course f lid s ≡ Drops) ⊎ ((p : NodePort) × (course f li
 abbrev pub wire_bound : Fabric → ℕ
 wire_bound f = 2 * switch_count f + 2
 
--- a packet for `lid` that port `source` sends goes over the wires `hops` to the node with the number `node`, and is
+-- a packet for `lid` that port `source` sends goes along the wires `hops` to the node with the number `node`, and is
 -- lost there. It is dropped, leaves by a port without a cable, or has taken `wire_bound` wires, and so loops forever
 abbrev pub IsLost : Fabric → ℕ → NodePort → List Hop → ℕ → Type 0
 IsLost f lid source hops node =

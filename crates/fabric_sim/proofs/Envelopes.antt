@@ -17,7 +17,9 @@ use Rattle.fabric_sim.specs.PacketOutcome.{Outcome, Moves, Asks, HandsUp, Repres
 use Rattle.fabric_sim.specs.Simulation.{Simulation, IsSimulation}
 use Rattle.fabric_sim.specs.Flights.{Finds, flight_with}
 use Rattle.fabric_sim.specs.Called.{Called}
-use Rattle.fabric_sim.specs.Delivery.{CanFare, IsEnvelopeAt, after_deliver, after_outcome, delivered_flight, envelope_of, flight_in, outcome_by, outcome_of, packet_in, without}
+use Rattle.fabric_sim.specs.Delivery.{IsEnvelopeAt, after_deliver, after_outcome, delivered_flight, envelope_of, flight_in, packet_in, without}
+use Rattle.fabric_sim.specs.PacketOutcome.{CanFare, outcome_by}
+use Rattle.fabric_sim.specs.PacketOutcome.{outcome_of}
 use Rattle.fabric_sim.proofs.Kept.{fares}
 use Rattle.fabric_sim.proofs.Serials.{at_index}
 

@@ -12,12 +12,12 @@ use Rattle.smp_bytes.specs.Packet.{fault_of, is_directed, is_response, method, t
 use Rattle.fabric_model.specs.Forwarding.{course}
 use Rattle.dr_forward.specs.declared.verdict.Verdict.{Verdict}
 use Rattle.dr_forward.specs.declared.verdict.Verdict.TheVariants.{Out, ToAgent, ToManager, Discard}
-use Rattle.dr_forward.specs.Step.{step}
+use Rattle.dr_forward.specs.DirectedStep.{step}
 use Rattle.fabric_sim.specs.declared.packet.Packet.{Packet}
 use Rattle.fabric_sim.specs.declared.flight.Whereabouts.{Whereabouts}
 use Rattle.fabric_sim.specs.declared.flight.Whereabouts.TheVariants.{Seat, Arrived}
 use Rattle.fabric_sim.specs.declared.flight.Flight.{Flight}
-use Rattle.fabric_sim.specs.declared.fault.FabricFault.TheVariants.{NoSuchPacket, NoSuchPort, SerialsSpent}
+use Rattle.fabric_sim.specs.declared.fabric_fault.FabricFault.TheVariants.{NoSuchPacket, NoSuchPort, SerialsSpent}
 use Rattle.fabric_sim.specs.declared.delivered.Delivered.TheVariants.{Answered}
 use Rattle.fabric_sim.specs.declared.delivered.Reason.TheVariants.{Down, Unreadable, Course as OffCourse}
 use Rattle.fabric_sim.specs.PacketOutcome.{Outcome, Moves, Asks, HandsUp, Represses, Drops}
@@ -25,8 +25,10 @@ use Rattle.fabric_sim.specs.Simulation.{Simulation, IsSimulation, IsWaiting, Can
 use Rattle.fabric_sim.specs.Simulation.{port_of, is_at_seat, is_by_wire}
 use Rattle.fabric_sim.specs.Flights.{is_numbered, flight_with}
 use Rattle.fabric_sim.specs.Called.{refused}
-use Rattle.fabric_sim.specs.Notices.{trap_repress}
-use Rattle.fabric_sim.specs.Delivery.{CanFare, carrying, leaving, is_for_manager, here_at, at_agent, by_verdict, directed_outcome, by_course, lid_routed_outcome, outcome_of, with_flight, without, asked, after_enqueue, after_outcome, delivered_flight, after_deliver}
+use Rattle.fabric_sim.specs.Notice.{trap_repress}
+use Rattle.fabric_sim.specs.Delivery.{with_flight, without, asked, after_enqueue, after_outcome, delivered_flight, after_deliver}
+use Rattle.fabric_sim.specs.PacketOutcome.{CanFare}
+use Rattle.fabric_sim.specs.PacketOutcome.{carrying, leaving, is_for_manager, here_at, at_agent, by_verdict, directed_outcome, by_course, lid_routed_outcome, outcome_of}
 use Rattle.fabric_sim.specs.Changes.{addressed, after_inject, copied, after_repeat, after_lose}
 use Rattle.fabric_sim.proofs.Invariants.{with_flight_is, without_is, moved_to_is, asked_is, with_traps_is}
 

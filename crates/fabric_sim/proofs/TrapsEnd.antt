@@ -20,8 +20,9 @@ use Rattle.fabric_sim.specs.declared.delivered.Delivered.{Delivered}
 use Rattle.fabric_sim.specs.declared.flight.Flight.{Flight}
 use Rattle.fabric_sim.specs.PacketOutcome.{Represses}
 use Rattle.fabric_sim.specs.Called.{Called}
-use Rattle.fabric_sim.specs.Delivery.{after_deliver, after_outcome, by_course, delivered_flight, is_for_manager, is_trap, outcome_of}
-use Rattle.fabric_sim.specs.Notices.{trap_repress}
+use Rattle.fabric_sim.specs.Delivery.{after_deliver, after_outcome, delivered_flight}
+use Rattle.fabric_sim.specs.PacketOutcome.{by_course, is_for_manager, is_trap, outcome_of}
+use Rattle.fabric_sim.specs.Notice.{trap_repress}
 use Rattle.fabric_sim.specs.Simulation.{Simulation, IsSimulation, across, agent_at, fabric_of, is_at_seat, is_seat_at}
 use Rattle.fabric_sim.specs.Simulation.{port_of}
 use Rattle.fabric_sim.specs.Flights.{flight_with}

@@ -14,12 +14,13 @@ use Rattle.fabric_sim.specs.declared.flight.Whereabouts.{Whereabouts}
 use Rattle.fabric_sim.specs.declared.flight.Flight.{Flight}
 use Rattle.fabric_sim.specs.PacketOutcome.{Outcome, Moves, Asks, HandsUp, Represses, Drops}
 use Rattle.fabric_sim.specs.declared.flight.Whereabouts.TheVariants.{Seat as AtSeat}
-use Rattle.fabric_sim.specs.declared.fault.FabricFault.TheVariants.{NoSuchPacket, NoSuchPort, PortTaken, SerialsSpent}
+use Rattle.fabric_sim.specs.declared.fabric_fault.FabricFault.TheVariants.{NoSuchPacket, NoSuchPort, PortTaken, SerialsSpent}
 use Rattle.fabric_sim.specs.declared.delivered.Delivered.TheVariants.{Answered}
 use Rattle.fabric_sim.specs.Simulation.{Simulation, is_cable_port, is_seat_at, fabric_of, port_of, answer_whereabouts}
 use Rattle.fabric_sim.specs.Flights.{flight_with, without_flight}
 use Rattle.fabric_sim.specs.Called.{refused}
-use Rattle.fabric_sim.specs.Delivery.{with_changed, with_flight, without, asked, answer_at, after_enqueue, after_outcome, delivered_flight, after_deliver, outcome_of}
+use Rattle.fabric_sim.specs.Delivery.{with_changed, with_flight, without, asked, answer_at, after_enqueue, after_outcome, delivered_flight, after_deliver}
+use Rattle.fabric_sim.specs.PacketOutcome.{outcome_of}
 use Rattle.fabric_sim.specs.Changes.{addressed, after_inject, copied, after_repeat, after_lose, after_seat}
 use Rattle.fabric_sim.specs.Calls.{Call, Inject, Deliver, Lose, Repeat, Seat, after_call, after_calls, is_delivery_of}
 use Rattle.fabric_sim.specs.ThereAndBack.{KeepsPacket}

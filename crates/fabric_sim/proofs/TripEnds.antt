@@ -18,7 +18,7 @@ use Rattle.fabric_model.proofs.DirectedWalks.{stops_along}
 use Rattle.smp_bytes.proofs.FieldLaws.{number_in-alike}
 use Rattle.smp_bytes.proofs.Made.{directed_reads_back}
 use Rattle.smp_bytes.proofs.OffsetLaws.{bytes_in-alike}
-use Rattle.dr_forward.specs.Step.{Stepped, moved_on}
+use Rattle.dr_forward.specs.DirectedStep.{Stepped, moved_on}
 use Rattle.dr_forward.proofs.Rows.{passed}
 use Rattle.dr_forward.proofs.Trips.{IsKeptFrom, field_kept, IsRequestOver, IsOut, ComesToAgent, comes_to_agent, out_asks, out_directed, IsBack, Turns, turns}
 use Rattle.node_agents.specs.Agent.{Agent, IsAgent, has_seat}
@@ -37,8 +37,9 @@ use Rattle.fabric_sim.specs.Simulation.{fabric_of, port_of, answer_whereabouts}
 use Rattle.fabric_sim.specs.Flights.{flight_with, without_flight}
 use Rattle.fabric_sim.specs.declared.delivered.Delivered.{Delivered}
 use Rattle.fabric_sim.specs.Called.{Called}
-use Rattle.fabric_sim.specs.Notices.{trap}
-use Rattle.fabric_sim.specs.Delivery.{with_changed, with_flight, by_verdict, carrying, is_for_manager, is_trap, outcome_of, after_outcome, asked, answer_at, delivered_flight, after_deliver}
+use Rattle.fabric_sim.specs.Notice.{trap}
+use Rattle.fabric_sim.specs.Delivery.{with_changed, with_flight, after_outcome, asked, answer_at, delivered_flight, after_deliver}
+use Rattle.fabric_sim.specs.PacketOutcome.{by_verdict, carrying, is_for_manager, is_trap, outcome_of}
 use Rattle.fabric_sim.specs.Changes.{after_inject}
 use Rattle.fabric_sim.specs.Calls.{Call, Inject, Deliver, after_calls, is_delivery_of}
 use Rattle.fabric_sim.specs.ThereAndBack.{ThereAndBack, directed_packet, BeginsWith, IsAnswerOver, IsAnsweredAt, ComesHome, KeepsPacket}

@@ -5,7 +5,7 @@ use Rattle.std.specs.Prelude.{Some, slice_index, Ok}
 use Rattle.fabric_model.specs.declared.cable.NodePort.{NodePort}
 use Rattle.fabric_model.specs.Fabric.{is_switch_at}
 use Rattle.dr_forward.specs.declared.here.Here.{Here}
-use Rattle.dr_forward.specs.Step.{Stepped, pointed}
+use Rattle.dr_forward.specs.DirectedStep.{Stepped, pointed}
 use Rattle.dr_forward.proofs.Trips.{IsBack, IsAnswerBack, GoesBack, IsHome, back_directed, goes_back, is_home}
 use Rattle.fabric_sim.specs.declared.packet.Packet.{Packet}
 use Rattle.fabric_sim.specs.declared.flight.Whereabouts.{Whereabouts}
@@ -15,7 +15,8 @@ use Rattle.fabric_sim.specs.declared.delivered.Delivered.TheVariants.{ToManager}
 use Rattle.fabric_sim.specs.PacketOutcome.{Moves}
 use Rattle.fabric_sim.specs.Simulation.{Simulation, port_count, across, fabric_of, port_of, answer_whereabouts}
 use Rattle.fabric_sim.specs.Flights.{flight_with, with_moved}
-use Rattle.fabric_sim.specs.Delivery.{carrying, here_at, by_verdict, directed_outcome, outcome_of, after_outcome, delivered_flight, after_deliver}
+use Rattle.fabric_sim.specs.Delivery.{after_outcome, delivered_flight, after_deliver}
+use Rattle.fabric_sim.specs.PacketOutcome.{carrying, here_at, by_verdict, directed_outcome, outcome_of}
 use Rattle.fabric_sim.specs.ThereAndBack.{BeginsWith}
 use Rattle.fabric_sim.proofs.TripFlights.{found_given, found_moved}
 use Rattle.fabric_sim.proofs.TripShapes.{IsAlong, port_count_stays, switch_stays}

@@ -8,7 +8,7 @@ use Rattle.smp_bytes.specs.Packet.{fault_of, is_directed}
 use Rattle.fabric_model.specs.Fabric.{is_switch_at}
 use Rattle.fabric_model.proofs.DirectedWalks.{Stops}
 use Rattle.dr_forward.specs.declared.here.Here.{Here}
-use Rattle.dr_forward.specs.Step.{Stepped, moved_on}
+use Rattle.dr_forward.specs.DirectedStep.{Stepped, moved_on}
 use Rattle.dr_forward.proofs.Rows.{taken, passed}
 use Rattle.dr_forward.proofs.Trips.{IsRequestOver, IsOut, GoesOut, out_directed, goes_out}
 use Rattle.fabric_sim.specs.declared.packet.Packet.{Packet}
@@ -19,7 +19,8 @@ use Rattle.fabric_sim.specs.declared.delivered.Reason.TheVariants.{Down}
 use Rattle.fabric_sim.specs.PacketOutcome.{Moves, Drops}
 use Rattle.fabric_sim.specs.Simulation.{Simulation, AreCables, port_count, across, fabric_of, port_of, is_at_seat}
 use Rattle.fabric_sim.specs.Flights.{flight_with, with_moved}
-use Rattle.fabric_sim.specs.Delivery.{carrying, leaving, here_at, by_verdict, directed_outcome, outcome_of, after_outcome, delivered_flight, after_deliver}
+use Rattle.fabric_sim.specs.Delivery.{after_outcome, delivered_flight, after_deliver}
+use Rattle.fabric_sim.specs.PacketOutcome.{carrying, leaving, here_at, by_verdict, directed_outcome, outcome_of}
 use Rattle.fabric_sim.proofs.TripFlights.{found_given, found_moved}
 use Rattle.fabric_sim.proofs.TripShapes.{IsAlong, port_count_stays, switch_stays}
 

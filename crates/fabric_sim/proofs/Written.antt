@@ -17,7 +17,8 @@ use Rattle.fabric_sim.specs.declared.packet.Packet.{Packet}
 use Rattle.fabric_sim.specs.Simulation.{Simulation, IsSimulation, CanWait, IsWaiting, HasPeerSlot, is_seat_at, across}
 use Rattle.fabric_sim.specs.Simulation.{has_cable_port, port_of, answer_whereabouts, next_serial}
 use Rattle.fabric_sim.specs.Flights.{IsFlightAt, without_flight}
-use Rattle.fabric_sim.specs.Delivery.{with_changed, with_flight, without, moved_to, asked, answer_at, leaving}
+use Rattle.fabric_sim.specs.Delivery.{with_changed, with_flight, without, moved_to, asked, answer_at}
+use Rattle.fabric_sim.specs.PacketOutcome.{leaving}
 use Rattle.fabric_sim.specs.Changes.{with_peer, changed_at}
 use Rattle.fabric_sim.proofs.AgentLists.{at_agent, length-changed, cable_ports_stay}
 use Rattle.fabric_sim.proofs.PeerLists.{length-with_peer, has_slot_after}

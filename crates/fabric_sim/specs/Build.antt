@@ -25,7 +25,8 @@ agent_node node = record {
 abbrev pub new_agent : Node → Agent
 new_agent node = fresh_agent (agent_node node)
 
--- the other ends of the cables in the ports of `node`, from port 0 on, before there is any cable: None for each port
+-- the other ends of the cables in the ports of `node`, starting at port 0, before there is any cable: None for each
+-- port
 abbrev pub no_peers : Node → List (Option NodePort)
 no_peers node = replicate (node.ports + 1) None
 

@@ -1,7 +1,7 @@
 -- What a call of a simulated fabric leaves and returns.
 use Rattle.std.specs.Prelude.{◌≡◌, Result, Err, IsOk}
-use Rattle.fabric_sim.specs.declared.fault.FabricFault.{FabricFault}
-use Rattle.fabric_sim.specs.declared.fault.FabricFault.TheVariants.{Memory}
+use Rattle.fabric_sim.specs.declared.fabric_fault.FabricFault.{FabricFault}
+use Rattle.fabric_sim.specs.declared.fabric_fault.FabricFault.TheVariants.{Memory}
 use Rattle.fabric_sim.specs.Simulation.{Simulation}
 
 -- the fabric after a call, and the call's result

@@ -5,13 +5,13 @@ pub mod Changes
 pub mod Delivery
 pub mod FabricFault
 pub mod Flights
-pub mod Notices
+pub mod Notice
 pub mod PacketOutcome
 pub mod Ping
 pub mod Simulation
 pub mod SimulationsAreFabrics
 pub mod ThereAndBack
 pub mod ToldOfEnd
-pub mod TrapCalls
+pub mod TrapSending
 pub mod TrapLaws
 pub mod Traps

@@ -7,8 +7,8 @@ use Rattle.fabric_model.specs.declared.course.Course.{Course}
 use Rattle.fabric_model.specs.declared.course.Course.TheVariants.{Delivers, LeavesBy, Drops}
 use Rattle.fabric_model.specs.Fabric.{Fabric}
 use Rattle.fabric_model.specs.Forwarding.{Standing, Hop, sent_from, arrived_at, course, wire_bound, IsDelivered, IsLost}
-use Rattle.fabric_sim.specs.declared.fault.FabricFault.{FabricFault}
-use Rattle.fabric_sim.specs.declared.fault.FabricFault.TheVariants.{NoSuchPort}
+use Rattle.fabric_sim.specs.declared.fabric_fault.FabricFault.{FabricFault}
+use Rattle.fabric_sim.specs.declared.fabric_fault.FabricFault.TheVariants.{NoSuchPort}
 use Rattle.fabric_sim.specs.Simulation.{Simulation, is_port}
 use Rattle.fabric_sim.specs.declared.ping.Ping.{Ping}
 use Rattle.fabric_sim.specs.declared.ping.Ping.TheVariants.{Reached, Lost}
@@ -41,8 +41,8 @@ pub record DeliversOver (f : Fabric) (lid : ℕ) (source target : NodePort) (cou
   pub length : length hops ≡ count
   pub delivered : IsDelivered f lid source hops target
 
--- what a ping says is true: if it reports a port, the packet is delivered at that port over as many wires as it says;
--- if it reports a loss at a node, the packet is lost at that node
+-- what a ping says is true: if it reports a port, the packet is delivered at that port along as many wires as the
+-- ping says; if it reports a loss at a node, the packet is lost at that node
 abbrev pub PingsTell : Type 0
 PingsTell = (f : Fabric) (lid : ℕ) (source : NodePort)
     → ((target : NodePort) (count : ℕ) → ping f lid source ≡ Reached target count

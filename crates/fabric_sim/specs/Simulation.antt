@@ -14,7 +14,7 @@ use Rattle.fabric_sim.specs.Traps.{Traps}
 use Rattle.fabric_sim.specs.Flights.{AreRising}
 
 -- a simulated fabric: `agents` has the agents by the ids of their nodes. `peers` has for each node the other ends of
--- the cables in its ports, from port 0 on; port 0 never has a cable. `flights` has the packets in flight, in
+-- the cables in its ports, starting at port 0; port 0 never has a cable. `flights` has the packets in flight, in
 -- ascending order of serial number. `next` is the next serial number, or 2 ^ 64 if none is left. `traps` has the
 -- traps that wait at switches
 pub record Simulation : Type 0 where
@@ -51,7 +51,8 @@ is_cable_port s p = has_cable_port s.agents p
 abbrev pub is_seat_at : Simulation → NodePort → Bool
 is_seat_at s p = option_map_or (λ a. has_seat a p.port) (agent_at s p.node) false
 
--- the port at the other end of the cable in the port `p`, by `peers`; for a loop, `p` itself; None if there is no cable
+-- the port at the other end of the cable in the port `p`, according to `peers`; for a loop, `p` itself; None if there
+-- is no cable
 abbrev pub across : List (List (Option NodePort)) → NodePort → Option NodePort
 across peers p = slice_index_or (slice_index_or peers p.node []) p.port None
 
@@ -98,7 +99,7 @@ answer_whereabouts (Seat p) = Seat p
 answer_whereabouts (Arrived p) = Made p
 answer_whereabouts (Made p) = Made p
 
--- what holds of each simulation ---------------------------------------------------------
+-- what each simulation satisfies ---------------------------------------------------------
 
 -- `peers` has a slot for the other end of the cable in the port `p`
 abbrev pub HasPeerSlot : List (List (Option NodePort)) → NodePort → Type 0

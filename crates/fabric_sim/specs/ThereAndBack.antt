@@ -27,7 +27,7 @@ abbrev pub BeginsWith : ℕ → List ℕ → Type 0
 BeginsWith port [] = Unit {0}
 BeginsWith port (first ∷ path) = first ≡ port
 
--- `answer` is the answer to `request` over `path`: a GetResp that has returned to its sender, with the request's
+-- `answer` is the answer to `request` along `path`: a GetResp that has returned to its sender, with the request's
 -- TransactionID, attribute and modifier. Its status and data are those of `told`, the agent's answer
 pub record IsAnswerOver (path : List ℕ) (request told answer : List ℕ) : Type 0 where
   pub method : number_in field.method answer ≡ get_resp
@@ -57,16 +57,17 @@ pub record IsAnsweredAt (s : Simulation) (serial : ℕ) (request : List ℕ) (at
   pub after : agent_at (after_deliver s serial).fabric at.node ≡ Some (after_answer agent request at.port).agent
 
 -- the delivery of the packet with the number `serial` hands it up to the manager at the port `at`. The packet answers
--- `request` over `path`, with the status and the data of `told`, the agent's answer
+-- `request` along `path`, with the status and the data of `told`, the agent's answer
 pub record ComesHome (s : Simulation) (serial : ℕ) (at : NodePort) (path request told : List ℕ) : Type 0 where
   pub packet : Packet
   pub result : (after_deliver s serial).result ≡ Ok (delivered_is.ToManager at packet)
   pub answer : IsAnswerOver path request told packet.bytes
 
--- a request for an attribute other than SMInfo is sent over a path of n ports. If the path has ports, the first is
--- the port that the request was sent from. Then the agent at the end of the path answers delivery n + 1 of the
--- request. Delivery n + 1 of the answer hands the answer up at the port that the request was sent from. Any other
--- calls may come between, if no cable changes, neither packet is lost, and serial numbers are left
+-- suppose a request for an attribute other than SMInfo is sent along a path of n ports, at most 63, that has an end
+-- and is empty or begins with the port that the request is sent from. Suppose also that no cable changes, that
+-- neither the request nor its answer is lost, and that serial numbers are left. Then the agent at the end of the path
+-- answers delivery n + 1 of the request, and delivery n + 1 of the answer hands the answer up at the port that the
+-- request was sent from. Any other calls may come between
 abbrev pub ThereAndBack : Type 0
 ThereAndBack =
     (s : Simulation) (origin end : NodePort) (method attribute modifier tid : ℕ) (path payload : List ℕ)

@@ -1,5 +1,5 @@
--- What a packet that came back over a directed route says of the node at the end of its path. InfiniBand Architecture
--- Specification, Volume 1: subnet management, NodeInfo, PortInfo and SwitchInfo; directed route SMPs.
+-- What a packet that came back along a directed route says of the node at the end of its path. InfiniBand
+-- Architecture Specification, Volume 1: subnet management, NodeInfo, PortInfo and SwitchInfo; directed route SMPs.
 use Rattle.std.specs.Prelude.{◌≡◌, ◌↔◌, ◌⊎◌, ℕ, ◌≤◌, true, List, Some, if◌then◌else◌}
 use Rattle.fabric_model.specs.declared.cable.NodePort.{NodePort}
 use Rattle.smp_bytes.specs.Header.{node_info, switch_info, port_info, done}

@@ -12,7 +12,7 @@ use Rattle.fabric_sim.specs.declared.delivered.Reason.TheVariants.{Repress}
 use Rattle.fabric_sim.specs.declared.flight.Flight.{Flight}
 use Rattle.fabric_sim.specs.Called.{Called}
 use Rattle.fabric_sim.specs.Delivery.{after_deliver}
-use Rattle.fabric_sim.specs.Notices.{trap_repress}
+use Rattle.fabric_sim.specs.Notice.{trap_repress}
 use Rattle.fabric_sim.specs.Simulation.{Simulation, IsSimulation, across, fabric_of, is_by_wire, port_of}
 use Rattle.fabric_sim.specs.Flights.{flight_with}
 use Rattle.fabric_sim.specs.Traps.{trap_at}
@@ -42,7 +42,8 @@ pub record EndsTrap (s : Simulation) (done : Called Delivered) (id number : ℕ)
   pub newer : trap_at s.traps id ≢ Some number → trap_at done.fabric.traps id ≡ trap_at s.traps id
   pub others : (other : ℕ) → other ≢ id → trap_at done.fabric.traps other ≡ trap_at s.traps other
 
--- the delivery of a TrapRepress that has arrived at its switch ends the trap with its TransactionID, if it waits there
+-- the delivery of a TrapRepress that has arrived at its switch ends the trap with the TransactionID of the
+-- TrapRepress, if this trap waits there
 abbrev pub RepressesEndTraps : Type 0
 RepressesEndTraps = (s : Simulation) (serial id number : ℕ) (flight : Flight) → IsSimulation s
     → flight_with s.flights serial ≡ Some flight → IsRepress s flight id number

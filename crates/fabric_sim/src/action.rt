@@ -4,8 +4,10 @@ ghost use Rattle.smp_bytes.specs.Packet.{is_directed, fault_of};
 ghost use Rattle.fabric_sim.specs.PacketOutcome.{Asks};
 ghost use Rattle.fabric_sim.specs.declared.packet.Packet.{Packet};
 ghost use Rattle.fabric_sim.specs.Simulation.{port_of, is_cable_port};
-ghost use Rattle.fabric_sim.specs.Delivery.{here_at, is_for_manager, leaving, at_agent, arrived, directed_outcome};
-ghost use Rattle.fabric_sim.specs.Delivery.{lid_routed_outcome, outcome_of, packet_in, outcome_by, is_trap};
+ghost use Rattle.fabric_sim.specs.PacketOutcome.{here_at, is_for_manager, leaving, at_agent, arrived, directed_outcome};
+ghost use Rattle.fabric_sim.specs.Delivery.{packet_in};
+ghost use Rattle.fabric_sim.specs.PacketOutcome.{outcome_by};
+ghost use Rattle.fabric_sim.specs.PacketOutcome.{lid_routed_outcome, outcome_of, is_trap};
 
 use crate::delivered::Reason;
 use crate::envelope::Envelope;
@@ -34,7 +36,7 @@ pub(crate) enum Action {
 impl Fabric {
     /// Returns what to do with the packet `smp`, which waits as `envelope` says. If `smp` is on a directed route,
     /// performs its step. `smp` must have no fault, and must wait at a port from 1 to the port count of its node.
-    #[tactic(auto, using(crate::proofs::AgentLists::within_agents), unfolding(crate::specs::Delivery::outcome_of))]
+    #[tactic(auto, using(crate::proofs::AgentLists::within_agents), unfolding(crate::specs::PacketOutcome::outcome_of))]
     pub(crate) fn action(&self, envelope: &Envelope, smp: &mut Smp) -> Action
         requires parses { fault_of smp.old ≡ None }
         requires port { is_cable_port self.now (port_of envelope.now.whereabouts) ≡ true }

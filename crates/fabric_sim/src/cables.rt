@@ -5,7 +5,7 @@ ghost use Rattle.fabric_sim.specs.Delivery.{with_changed};
 ghost use Rattle.fabric_sim.specs.Changes.{with_peer, cabled_at, after_plug, uncabled_at, after_cut};
 
 use crate::fabric::Fabric;
-use crate::fault::FabricFault;
+use crate::fabric_fault::FabricFault;
 use crate::peers::Peers;
 use fabric_model::NodePort;
 use node_agents::Agent;

@@ -25,7 +25,7 @@ pub enum Reason {
 
 impl From<DiscardReason> for Reason {
     ghost use Rattle.std.specs.Prelude.{◌≡◌};
-    ghost use Rattle.fabric_sim.specs.Delivery.{reason_of};
+    ghost use Rattle.fabric_sim.specs.PacketOutcome.{reason_of};
 
     ghost from_gives = { λ from reason. reason ≡ reason_of from };
 

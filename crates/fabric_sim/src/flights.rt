@@ -6,7 +6,7 @@ ghost use Rattle.fabric_sim.specs.Delivery.{after_enqueue, moved_to, without};
 ghost use Rattle.fabric_sim.specs.Changes.{after_repeat, after_lose};
 
 use crate::fabric::Fabric;
-use crate::fault::FabricFault;
+use crate::fabric_fault::FabricFault;
 use crate::flight::{Flight, Whereabouts};
 use crate::packet::Packet;
 

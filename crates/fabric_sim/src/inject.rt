@@ -3,7 +3,7 @@ ghost use Rattle.fabric_sim.specs.Changes.{addressed, after_inject};
 ghost use Rattle.fabric_sim.specs.Called.{ComesTo};
 
 use crate::fabric::Fabric;
-use crate::fault::FabricFault;
+use crate::fabric_fault::FabricFault;
 use crate::flight::Whereabouts;
 use crate::packet::Packet;
 use fabric_model::NodePort;

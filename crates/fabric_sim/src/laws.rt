@@ -10,7 +10,7 @@ pub fn simulations_are_fabrics()
     ensures { SimulationsAreFabrics }
 {}
 
-/// What a ping reports is true. If it reports a port, the packet is delivered there, over as many wires as the ping
+/// What a ping reports is true. If it reports a port, the packet is delivered there, along as many wires as the ping
 /// says. If it reports a loss at a node, the packet is lost there.
 pub fn pings_tell()
     ensures { PingsTell }
@@ -21,10 +21,10 @@ pub fn pings_find()
     ensures { PingsFind }
 {}
 
-/// A directed request for an attribute other than SMInfo goes over a path of n ports, at most 63, that has an end and
-/// is empty or begins with the sender's port. Neither the request nor its answer is lost, no cable changes, and
-/// serial numbers are left. Then the agent at the end answers delivery n + 1 of the request. Delivery n + 1 of the
-/// answer hands the answer up at the sender's port. Any other calls may come between.
+/// Suppose a directed request for an attribute other than SMInfo goes along a path of n ports, at most 63, that has
+/// an end and is empty or begins with the sender's port. Suppose also that neither the request nor its answer is
+/// lost, no cable changes, and serial numbers are left. Then the agent at the end answers delivery n + 1 of the
+/// request. Delivery n + 1 of the answer hands the answer up at the sender's port. Any other calls may come between.
 #[tactic(auto, using(crate::proofs::TripEnds::there_and_back))]
 pub fn there_and_back()
     ensures { ThereAndBack }

@@ -1,6 +1,6 @@
 //! The trap by which a switch reports that the state of a link at one of its ports has changed.
 ghost use Rattle.std.specs.Prelude.{◌≡◌};
-ghost use Rattle.fabric_sim.specs.Notices.{link_notice, link_trap};
+ghost use Rattle.fabric_sim.specs.Notice.{link_notice, link_trap};
 
 use smp_bytes::wire::{put_u8, put_u16, put_u24};
 use smp_bytes::{AttributeId, Lid, Method, Smp};

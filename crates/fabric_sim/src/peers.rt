@@ -5,7 +5,7 @@ use smp_bytes::PortNum;
 use std::alloc::{AllocError, Global};
 use std::marker::Model;
 
-/// For each port of a node, from port 0 on, the port at the other end of the cable in it.
+/// For each port of a node, starting at port 0, the port at the other end of the cable in it.
 #[derive(Drop)]
 pub(crate) struct Peers {
     others: Vec<Option<NodePort>>,

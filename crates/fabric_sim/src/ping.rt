@@ -6,24 +6,24 @@ ghost use Rattle.fabric_sim.specs.Simulation.{fabric_of, is_port};
 ghost use Rattle.fabric_sim.specs.Ping.{ping, ping_fault};
 
 use crate::fabric::Fabric;
-use crate::fault::FabricFault;
+use crate::fabric_fault::FabricFault;
 use fabric_model::{Course, NodeId, NodePort};
 use smp_bytes::Lid;
 
 /// Where a packet for a LID ends.
 #[derive(Clone, Copy, Debug, PartialEq, Eq)]
 pub enum Ping {
-    /// The packet reached this port, over this many wires.
+    /// The packet reached this port, along this many wires.
     Reached(NodePort, usize),
     /// The packet reached no port: it is lost at this node.
     Lost(NodeId),
 }
 
 impl Fabric {
-    /// Returns where a packet for `lid` ends if it is sent from the port `from` and switches forward it by their
-    /// tables. If `from` is a port of a switch, the packet begins at the switch. A packet that has taken two wires for
-    /// each switch, and two more wires, is in a loop and counts as lost. Takes time linear in the number of nodes and
-    /// in the number of wires that the packet takes. Does not allocate.
+    /// Returns where a packet for `lid` ends if it is sent from the port `from` and switches forward it according to
+    /// their tables. If `from` is a port of a switch, the packet begins at the switch. A packet that has taken two
+    /// wires for each switch, and two more wires, is in a loop and counts as lost. Takes time linear in the number of
+    /// nodes and in the number of wires that the packet takes. Does not allocate.
     ///
     /// # Errors
     ///

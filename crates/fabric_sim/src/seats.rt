@@ -3,7 +3,7 @@ ghost use Rattle.fabric_sim.specs.Simulation.{is_cable_port, is_seat_at};
 ghost use Rattle.fabric_sim.specs.Changes.{after_seat};
 
 use crate::fabric::Fabric;
-use crate::fault::FabricFault;
+use crate::fabric_fault::FabricFault;
 use fabric_model::NodePort;
 
 impl Fabric {

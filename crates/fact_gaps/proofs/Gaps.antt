@@ -9,17 +9,18 @@ use Rattle.std.specs.Cmp.{IsTotalOrder}
 use Rattle.std.specs.FinMap.{IsAntisymmetric, nat_cmp-IsAntisymmetric}
 use Rattle.std.proofs.lemmas.Cmp.{nat_cmp_total, ranked}
 use Rattle.std.proofs.lemmas.List.Kept.{AllPairs-cons}
+use Rattle.smp_bytes.specs.Ports.{node_port_cmp}
+use Rattle.smp_bytes.proofs.NodePorts.{node_port_exact, node_port_total}
 use Rattle.subnet_view.specs.declared.end_port.EndPort.{EndPort}
 use Rattle.subnet_view.proofs.Apart.{contains_map, contains-from_map}
 use Rattle.subnet_view.proofs.Members.{contains_filter, contains-from_filter}
 use Rattle.subnet_view.proofs.Taken.{all_from}
-use Rattle.fact_gaps.specs.InOrder.{each_once, port_cmp}
+use Rattle.fact_gaps.specs.InOrder.{each_once}
 use Rattle.fact_gaps.specs.NamedPorts.{named_nodes, named_ports}
 use Rattle.fact_gaps.specs.Gaps.{NodesLaw, PortsLaw, is_known_node, is_known_port, port_at, unusable_nodes}
 use Rattle.fact_gaps.proofs.Known.{known_node, known_port, node_known, port_known}
 use Rattle.fact_gaps.proofs.Named.{listed_node, listed_port, node_listed, port_listed}
 use Rattle.fact_gaps.proofs.Rising.{Rises, from_once, in_once, once_rises, pairs_rise}
-use Rattle.fact_gaps.proofs.Ties.{port_exact, port_total}
 
 -- what fails a test, of what is named
 module _ {X : Type 0} (test : X → Bool) (cmp : X → X → Ordering) (total : IsTotalOrder cmp) (exact : IsAntisymmetric cmp) (named : List X) where
@@ -67,9 +68,9 @@ nodes_law cells =
 
 -- by the names of their parts ports rise as well
 abbrev ComesFirst : EndPort → EndPort → Type 0
-ComesFirst a b = port_cmp (a.node, a.port) (b.node, b.port) ≡ Less
+ComesFirst a b = node_port_cmp (a.node, a.port) (b.node, b.port) ≡ Less
 
-named_rise : (es : List (ℕ × ℕ)) → Rises port_cmp es → AllPairs ComesFirst (map port_at es)
+named_rise : (es : List (ℕ × ℕ)) → Rises node_port_cmp es → AllPairs ComesFirst (map port_at es)
 named_rise [] rises = λ i j d less within. absurd (omega arith)
 named_rise (e ∷ es) rises =
     let later : (y : EndPort) → Contains (map port_at es) y → ComesFirst (port_at e) y =
@@ -80,18 +81,18 @@ pub ports_law : PortsLaw
 ports_law cells =
     let named = named_ports cells in
     let test = is_known_port cells in
-    let ports = each_once port_cmp (filter (λ e. not (test e)) named) in
+    let ports = each_once node_port_cmp (filter (λ e. not (test e)) named) in
     record {
-      each = λ g p here. (elim (passes_or_gap test port_cmp port_total port_exact named (g, p) (port_listed cells (g, p) here)) [
+      each = λ g p here. (elim (passes_or_gap test node_port_cmp node_port_total node_port_exact named (g, p) (port_listed cells (g, p) here)) [
         | inl passes ↦ inl (known_port cells g p passes)
         | inr gap ↦ inr (contains_map port_at ports (g, p) gap)
       ]);
       only = λ e there.
           let at = contains-from_map port_at ports e there in
           let is : at.0 ≡ (e.node, e.port) = ap (λ (x : EndPort). (x.node, x.port)) at.2 in
-          let gap = here_gap test port_cmp port_total port_exact named (e.node, e.port) (subst (λ (x : ℕ × ℕ). Contains ports x) is at.1) in (
+          let gap = here_gap test node_port_cmp node_port_total node_port_exact named (e.node, e.port) (subst (λ (x : ℕ × ℕ). Contains ports x) is at.1) in (
             listed_port cells (e.node, e.port) gap.0,
             λ known. gap.1 (port_known cells e.node e.port known),
           );
-      rises = named_rise ports (once_rises port_cmp port_total (filter (λ e. not (test e)) named));
+      rises = named_rise ports (once_rises node_port_cmp node_port_total (filter (λ e. not (test e)) named));
     }

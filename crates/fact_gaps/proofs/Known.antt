@@ -6,7 +6,7 @@ use Rattle.smp_bytes.specs.declared.node_type.NodeType.{NodeType}
 use Rattle.smp_bytes.specs.declared.node_type.NodeType.TheVariants.{ChannelAdapter, Switch, Router}
 use Rattle.smp_bytes.specs.NodeType.{is_switch}
 use Rattle.reply_facts.specs.Known.{cap_of, node_of, up_of}
-use Rattle.subnet_view.specs.EndPorts.{is_end_port}
+use Rattle.subnet_view.specs.EndPort.{is_end_port}
 use Rattle.subnet_view.specs.Reading.{Cells}
 use Rattle.subnet_view.specs.Wires.{across}
 use Rattle.subnet_view.proofs.WireLaws.{end_port_law, wire_law}

@@ -7,12 +7,13 @@ use Rattle.std.specs.declared.cmp.Ordering.TheVariants.{Less}
 use Rattle.std.specs.Ordering.{nat_cmp}
 use Rattle.smp_bytes.specs.declared.node_type.NodeType.{NodeType}
 use Rattle.smp_bytes.specs.NodeType.{is_switch}
+use Rattle.smp_bytes.specs.Ports.{node_port_cmp}
 use Rattle.reply_facts.specs.Known.{cap_of, node_of, up_of}
 use Rattle.subnet_view.specs.declared.end_port.EndPort.{EndPort}
-use Rattle.subnet_view.specs.EndPorts.{IsEndPort, IsNodeWith, is_end_port}
+use Rattle.subnet_view.specs.EndPort.{IsEndPort, IsNodeWith, is_end_port}
 use Rattle.subnet_view.specs.Reading.{Cells}
 use Rattle.subnet_view.specs.Wires.{IsWire, across}
-use Rattle.fact_gaps.specs.InOrder.{each_once, port_cmp}
+use Rattle.fact_gaps.specs.InOrder.{each_once}
 use Rattle.fact_gaps.specs.NamedPorts.{IsNamedNode, IsNamedPort, named_nodes, named_ports}
 
 -- a node is known if its type is known (`node`) and, for a switch, its table room is known (`room`)
@@ -44,7 +45,7 @@ port_at e = record { node = e.0; port = e.1 }
 -- the named ports that are not known (`is_known_port`), each once, in ascending order of node GUID and port
 abbrev pub unjoined_ports : Cells → List EndPort
 unjoined_ports cells =
-    map port_at (each_once port_cmp (filter (λ e. not (is_known_port cells e)) (named_ports cells)))
+    map port_at (each_once node_port_cmp (filter (λ e. not (is_known_port cells e)) (named_ports cells)))
 
 -- each of `guids` is the GUID of a node whose type is known and, if it is a switch, whose table room is known
 abbrev pub AreKnownNodes : Cells → List ℕ → Type 0
@@ -91,7 +92,7 @@ pub record ListsPorts (cells : Cells) (ports : List EndPort) : Type 0 where
   pub each : (g p : ℕ) → IsNamedPort cells (g, p) → IsKnownPort cells g p ⊎ Contains ports (port_at (g, p))
   pub only : (e : EndPort) → Contains ports e
       → IsNamedPort cells (e.node, e.port) × ¬ (IsKnownPort cells e.node e.port)
-  pub rises : AllPairs (λ a b. port_cmp (a.node, a.port) (b.node, b.port) ≡ Less) ports
+  pub rises : AllPairs (λ a b. node_port_cmp (a.node, a.port) (b.node, b.port) ≡ Less) ports
 
 -- `unusable_nodes` lists exactly the named nodes that are not known, each once, in ascending order of GUID
 abbrev pub NodesLaw : Type 0

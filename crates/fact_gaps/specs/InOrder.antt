@@ -1,8 +1,7 @@
--- The elements of a list in order, each once.
+-- The elements of a list in ascending order, each once.
 use Rattle.std.specs.Prelude.{ℕ, List, [], ◌∷◌}
 use Rattle.std.specs.declared.cmp.Ordering.{Ordering}
 use Rattle.std.specs.declared.cmp.Ordering.TheVariants.{Less, Equal, Greater}
-use Rattle.std.specs.Ordering.{nat_cmp, ordering_then}
 
 -- `y` ∷ `ys` with `x` inserted, by how `x` compares with `y`: before `y` if `x` is less, and not at all if `x` is
 -- equal; if `x` is greater, `y` and then `later`
@@ -11,16 +10,13 @@ put_beside Less x y ys later = x ∷ y ∷ ys
 put_beside Equal x y ys later = y ∷ ys
 put_beside Greater x y ys later = y ∷ later
 
--- the ordered list with `x` inserted in order, unless an equal element is there already
+-- the list, which must be in ascending order, with `x` inserted in this order, unless the list has an equal element
+-- already
 abbrev pub put_once : {X : Type 0} → (X → X → Ordering) → X → List X → List X
 put_once cmp x [] = x ∷ []
 put_once cmp x (y ∷ ys) = put_beside (cmp x y) x y ys (put_once cmp x ys)
 
--- the elements of a list in order by `cmp`, each once
+-- the elements of a list in ascending order according to `cmp`, each once
 abbrev pub each_once : {X : Type 0} → (X → X → Ordering) → List X → List X
 each_once cmp [] = []
 each_once cmp (x ∷ xs) = put_once cmp x (each_once cmp xs)
-
--- the order of ports: by node GUID, and then by port
-abbrev pub port_cmp : ℕ × ℕ → ℕ × ℕ → Ordering
-port_cmp a b = ordering_then (nat_cmp a.0 b.0) (nat_cmp a.1 b.1)

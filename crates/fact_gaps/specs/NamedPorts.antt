@@ -23,22 +23,22 @@ own_port ((Port g p), c) = Some (g, p)
 own_port ((Claim g p), c) = Some (g, p)
 own_port ((Cap g), c) = None
 
--- the node of a node's cell; None for a cell of another kind
+-- if the cell is of a node, this node; otherwise None
 abbrev pub node_key : Key × Cell Value → Option ℕ
 node_key ((Node g), c) = Some g
 node_key (_, c) = None
 
--- the port of a link's cell; None for a cell of another kind
+-- if the cell is of a link, the port of its key; otherwise None
 abbrev pub link_key : Key × Cell Value → Option (ℕ × ℕ)
 link_key ((Link g p), c) = Some (g, p)
 link_key (_, c) = None
 
--- the port to which a link leads, by the link's cell; None if the port is not known, or for a cell of another kind
+-- if the cell is of a link and says where the link leads, the port there; otherwise None
 abbrev pub far_port : Key × Cell Value → Option (ℕ × ℕ)
 far_port ((Link g p), c) = peer_in (value_in (Some c))
 far_port (_, c) = None
 
--- the node to which a link leads, by the link's cell; None if the node is not known, or for a cell of another kind
+-- if the cell is of a link and says where the link leads, the node there; otherwise None
 abbrev pub far_node : Key × Cell Value → Option ℕ
 far_node s = option_map (λ q. q.0) (far_port s)
 
@@ -66,6 +66,7 @@ named_nodes cells = filter_map own_node cells ++ filter_map far_node cells
 abbrev pub named_ports : Cells → List (ℕ × ℕ)
 named_ports cells = filter_map own_port cells ++ filter_map far_port cells
 
--- what the cell names by `name`; None if it names nothing, or if what it names does not pass `test`
+-- what the cell names by `name`; None if the cell names nothing by `name`, or if what the cell names does not pass
+-- `test`
 abbrev pub kept : {X : Type 0} → (X → Bool) → (Key × Cell Value → Option X) → Key × Cell Value → Option X
 kept test name s = option_and_then (λ x. if test x then Some x else None) (name s)

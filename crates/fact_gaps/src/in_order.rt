@@ -1,7 +1,8 @@
-//! Lists in order, with each element once.
+//! Lists in ascending order, with each element once.
 ghost use Rattle.std.specs.Prelude.{◌≡◌};
 ghost use Rattle.std.specs.Ordering.{nat_cmp};
-ghost use Rattle.fact_gaps.specs.InOrder.{each_once, port_cmp};
+ghost use Rattle.smp_bytes.specs.Ports.{node_port_cmp};
+ghost use Rattle.fact_gaps.specs.InOrder.{each_once};
 
 use smp_bytes::{Guid, PortNum};
 
@@ -15,7 +16,7 @@ pub(crate) fn order_guids(guids: &mut Vec<Guid>)
 
 /// Sorts `ports` by node GUID and then by port, and removes duplicates.
 pub(crate) fn order_ports(ports: &mut Vec<(Guid, PortNum)>)
-    ensures { ports.new.items ≡ each_once port_cmp ports.old.items }
+    ensures { ports.new.items ≡ each_once node_port_cmp ports.old.items }
 {
     ports.sort_unstable();
     ports.dedup();

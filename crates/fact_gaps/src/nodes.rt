@@ -79,8 +79,8 @@ fn add_far_nodes(guids: &mut Vec<Guid>, store: &Store, known: &[Guid]) -> Result
     Ok(())
 }
 
-/// Returns the node at the far end of the link that `sighting` reports, if that node is unusable. Returns `None`
-/// otherwise, also if `sighting` reports no far end. Each node in `known` must be known.
+/// Returns the node at the far end of the link that `sighting` reports. Returns `None` if `sighting` reports no far
+/// end, or if that node is not unusable. Each node in `known` must be known.
 fn unusable_far_node(store: &Store, known: &[Guid], sighting: &Sighting) -> Option<Guid>
     requires { AreKnownNodes (cells_of store.now) known.now }
     ensures { result ≡ kept (λ g. not (is_known_node (cells_of store.now) g)) far_node sighting.now }
@@ -133,7 +133,7 @@ pub(crate) fn far_port(sighting: &Sighting) -> Option<(Guid, PortNum)>
     }
 }
 
-/// Returns the port that is the value of `sighting`, or `None` if the value is disputed or is not a port.
+/// Returns the value of `sighting` if it is known and is a port, and otherwise `None`.
 fn peer_said(sighting: &Sighting) -> Option<(Guid, PortNum)>
     ensures { result ≡ peer_in (value_in (Some sighting.now.1)) }
 {

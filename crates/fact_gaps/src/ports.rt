@@ -123,8 +123,8 @@ fn unjoined_own_port(
     if_unjoined(wires, known, node, port)
 }
 
-/// Returns the port at the far end of the link that `sighting` reports, if that port is unjoined. Returns `None`
-/// otherwise, also if `sighting` reports no far end. No port in `known` may be unjoined.
+/// Returns the port at the far end of the link that `sighting` reports. Returns `None` if `sighting` reports no far
+/// end, or if that port is not unjoined. No port in `known` may be unjoined.
 fn unjoined_far_port(
     wires: &Wires,
     known: &[(Guid, PortNum)],

@@ -72,8 +72,8 @@ impl<V: Exact> Join for Cell<V> {
         }
     }
 
-    ghost use Rattle.fact_join.specs.Joins.{below_itself, below_trans, below_antisymm, equal_itself};
-    ghost use Rattle.fact_join.specs.Joins.{joined_above_first, joined_above_second, joined_least};
+    ghost use Rattle.fact_join.specs.Join.{below_itself, below_trans, below_antisymm, equal_itself};
+    ghost use Rattle.fact_join.specs.Join.{joined_above_first, joined_above_second, joined_least};
 
     ghost reflexive = { below_itself };
 

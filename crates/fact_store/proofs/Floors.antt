@@ -9,7 +9,7 @@ use Rattle.std.specs.FinMap.Entries.{below_all, is_sorted}
 use Rattle.fact_join.specs.declared.cell.Cell.{Cell}
 use Rattle.fact_join.specs.declared.cell.Cell.TheVariants.{Known, Disputed}
 use Rattle.fact_join.specs.Cell.{generation_of, IsBelow}
-use Rattle.fact_join.specs.Joins.{below_antisymm, below_itself, below-le, joined_above_first, joined_above_second, joined_least}
+use Rattle.fact_join.specs.Join.{below_antisymm, below_itself, below-le, joined_above_first, joined_above_second, joined_least}
 use Rattle.reply_facts.specs.declared.key.Key.{Key}
 use Rattle.reply_facts.specs.declared.value.Value.{Value}
 use Rattle.fact_store.specs.Floor.{dropped, entries-dropped, is_kept, kept, kept_there}

@@ -18,7 +18,7 @@ use Rattle.fact_store.specs.View.{Facts, IsNewestGeneration, at_floor, cell_for,
 use Rattle.fact_store.specs.Coded.{same_facts}
 use Rattle.reply_facts.specs.Value.{is_same_value}
 use Rattle.reply_facts.specs.Values.{same_value_exact, same_value_itself}
-use Rattle.fact_join.specs.Joins.{below-le, joined_above_first}
+use Rattle.fact_join.specs.Join.{below-le, joined_above_first}
 use Rattle.fact_store.proofs.CellOrder.{held, shown, entries-rising, contains_at}
 use Rattle.fact_store.proofs.Floors.{dropped_none, dropped_twice, kept_from_one, kept_newer, seen_kept}
 use Rattle.fact_store.proofs.MapMerges.{get-merge_maps, joined_there, merge_maps_empty, the_same}

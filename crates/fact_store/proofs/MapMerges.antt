@@ -6,7 +6,7 @@ use Rattle.std.specs.Ordering.{eq_by_cmp}
 use Rattle.std.specs.FinMap.{empty, find, get, entries, get-empty, get-from_entries, get-entries, same_map}
 use Rattle.fact_join.specs.declared.cell.Cell.{Cell}
 use Rattle.fact_join.specs.Cell.{IsBelow}
-use Rattle.fact_join.specs.Joins.{below_itself, below_antisymm, below_trans, joined_above_first, joined_above_second, joined_least}
+use Rattle.fact_join.specs.Join.{below_itself, below_antisymm, below_trans, joined_above_first, joined_above_second, joined_least}
 use Rattle.reply_facts.specs.declared.key.Key.{Key}
 use Rattle.reply_facts.specs.declared.value.Value.{Value}
 use Rattle.reply_facts.specs.Key.{key_cmp}

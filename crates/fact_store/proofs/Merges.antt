@@ -6,7 +6,7 @@ use Rattle.std.specs.FinMap.{empty, get, entries}
 use Rattle.std.specs.List.{list_all}
 use Rattle.fact_join.specs.declared.cell.Cell.{Cell}
 use Rattle.fact_join.specs.Cell.{IsBelow}
-use Rattle.fact_join.specs.Joins.{below-le}
+use Rattle.fact_join.specs.Join.{below-le}
 use Rattle.reply_facts.specs.declared.key.Key.{Key}
 use Rattle.reply_facts.specs.declared.value.Value.{Value}
 use Rattle.fact_store.specs.Coded.{same_facts}

@@ -11,7 +11,7 @@ use Rattle.std.specs.FinMap.{find, get, get-from_entries}
 use Rattle.fact_join.specs.declared.cell.Cell.{Cell}
 use Rattle.fact_join.specs.declared.cell.Cell.TheVariants.{Known, Disputed}
 use Rattle.fact_join.specs.Cell.{generation_of, IsDisputed, IsBelow}
-use Rattle.fact_join.specs.Joins.{below_trans}
+use Rattle.fact_join.specs.Join.{below_trans}
 use Rattle.reply_facts.specs.declared.key.Key.{Key}
 use Rattle.reply_facts.specs.declared.value.Value.{Value}
 use Rattle.reply_facts.specs.Key.{key_cmp}

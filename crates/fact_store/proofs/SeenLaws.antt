@@ -6,7 +6,7 @@ use Rattle.std.specs.FinMap.{get, entries, same_map}
 use Rattle.fact_join.specs.declared.cell.Cell.{Cell}
 use Rattle.fact_join.specs.declared.cell.Cell.TheVariants.{Known, Disputed}
 use Rattle.fact_join.specs.Cell.{generation_of, IsBelow}
-use Rattle.fact_join.specs.Joins.{below_itself}
+use Rattle.fact_join.specs.Join.{below_itself}
 use Rattle.reply_facts.specs.declared.key.Key.{Key}
 use Rattle.reply_facts.specs.declared.value.Value.{Value}
 use Rattle.fact_store.specs.Seen.{cells_sighted, newest_of, agreement, cell_at, seen, WasSighted, IsNewest, AllSay, IsCellIn, CellMap, IsSeen}

@@ -7,7 +7,7 @@ use Rattle.std.specs.FinMap.{get}
 use Rattle.fact_join.specs.declared.cell.Cell.{Cell}
 use Rattle.fact_join.specs.declared.cell.Cell.TheVariants.{Known, Disputed}
 use Rattle.fact_join.specs.Cell.{generation_of}
-use Rattle.fact_join.specs.Joins.{below-le}
+use Rattle.fact_join.specs.Join.{below-le}
 use Rattle.reply_facts.specs.declared.key.Key.{Key}
 use Rattle.reply_facts.specs.declared.value.Value.{Value}
 use Rattle.reply_facts.specs.Sighting.{IsSighting, is_cell_of, is_generation, is_key}

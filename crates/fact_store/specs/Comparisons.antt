@@ -1,4 +1,5 @@
--- How many keys a binary search in a store compares, and how many comparisons a walk over two stores at once makes.
+-- How many keys a binary search in a store compares, and how many comparisons a walk through two stores at once
+-- makes.
 use Rattle.std.specs.Prelude.{◌≡◌, ℕ, zero, suc, ◌+◌, ◌<◌, ◌≤◌, ◌^◌, List, [], ◌∷◌, length, slice_get, Some}
 use Rattle.std.specs.declared.cmp.Ordering.{Ordering}
 use Rattle.std.specs.declared.cmp.Ordering.TheVariants.{Less, Equal, Greater}
@@ -48,7 +49,7 @@ pub record IsBudget (n steps most : ℕ) : Type 0 where
   pub digits : HasDigits n (steps + left)
   pub full : most + 1 ≡ 2 ^ left
 
--- a walk over two lists at once: ------------------------------------------------
+-- a walk through two lists at once: ------------------------------------------------
 
 -- `less`, `equal` or `greater`, whichever belongs to the ordering
 abbrev pub by_order : Ordering → ℕ → ℕ → ℕ → ℕ
@@ -56,15 +57,15 @@ by_order Less less equal greater = less
 by_order Equal less equal greater = equal
 by_order Greater less equal greater = greater
 
--- how many comparisons a walk over two lists makes from the cell `x` of the first list on; 0 if the second list is
--- empty. The key of `x` is compared with the next key of the second list. The lesser key is passed, or both if they are
--- equal. `after` counts the comparisons after `x` is passed
+-- how many comparisons a walk through two lists makes, starting at the cell `x` of the first list; 0 if the second
+-- list is empty. The key of `x` is compared with the next key of the second list. The lesser key is passed, or both
+-- if they are equal. `after` counts the comparisons after `x` is passed
 abbrev pub compared_at : Key × Cell Value → (List (Key × Cell Value) → ℕ) → List (Key × Cell Value) → ℕ
 compared_at x after [] = 0
 compared_at x after (y ∷ t) = 1 + by_order (key_cmp x.0 y.0) (after (y ∷ t)) (after t) (compared_at x after t)
 
--- how many comparisons a walk over two lists at once makes: the next keys of both lists are compared until one list
--- ends
+-- how many comparisons a walk through two lists at once makes: the next keys of both lists are compared until one
+-- list ends
 abbrev pub compared_by_walk : List (Key × Cell Value) → List (Key × Cell Value) → ℕ
 compared_by_walk [] t = 0
 compared_by_walk (x ∷ s) t = compared_at x (compared_by_walk s) t

@@ -1,4 +1,4 @@
--- The floor of facts: the least generation that is not forgotten. Cells of lower generations are dropped.
+-- The floor of a set of facts: the least generation that is not forgotten. Cells of lower generations are dropped.
 use Rattle.std.proofs.Common.{◌≡◌, ℕ, Bool, true, false, List, [], ◌∷◌, ◌&&◌, cond, refl, sym, subst, arith}
 use Rattle.std.proofs.lemmas.Bool.{le-leb}
 use Rattle.std.specs.Prelude.{T, nat_le, max, filter, Option, None, Some, if◌then◌else◌}
@@ -16,7 +16,7 @@ use Rattle.fact_store.specs.Seen.{CellMap}
 abbrev pub is_kept : ℕ → Cell Value → Bool
 is_kept floor c = nat_le floor (max 1 (generation_of c))
 
--- the sightings whose cells are at `floor` or above it, in their order
+-- the sightings whose cells are at `floor` or above it, in the order of `sightings`
 abbrev pub kept : ℕ → List (Key × Cell Value) → List (Key × Cell Value)
 kept floor sightings = filter (λ s. is_kept floor s.1) sightings
 

@@ -7,4 +7,4 @@ pub mod Ingest
 pub mod Merge
 pub mod Seen
 pub mod View
-pub mod Walk
+pub mod Iter

@@ -20,7 +20,7 @@ CellMap = FinMap key_cmp (Cell Value)
 abbrev pub is_of : Key → Key × Cell Value → Bool
 is_of key s = eq_by_cmp key_cmp key s.0
 
--- the cells of all sightings of `key`, in their order
+-- the cells of all sightings of `key`, in the order of `sightings`
 abbrev pub cells_sighted : Key → List (Key × Cell Value) → List (Cell Value)
 cells_sighted key sightings = map (λ s. s.1) (filter (is_of key) sightings)
 

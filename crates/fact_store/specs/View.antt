@@ -9,7 +9,7 @@ use Rattle.reply_facts.specs.Sighting.{IsSighting}
 use Rattle.fact_store.specs.Floor.{dropped, dropped_has_floor, has_floor, kept}
 use Rattle.fact_store.specs.Seen.{CellMap, HaveSameMembers, IsSeen, seen}
 
--- facts: a floor, which is at least 1, and a map from keys to cells that are not below the floor
+-- a set of facts: a floor, which is at least 1, and a map from keys to cells that are not below the floor
 pub record Facts : Type 0 where
   pub floor : ℕ
   pub found : CellMap
@@ -23,12 +23,13 @@ cells_of facts = entries facts.found
 abbrev pub cell_for : Facts → Key → Option (Cell Value)
 cell_for facts key = get facts.found key
 
--- facts with the floor `floor`, or 1 if `floor` is 0. They have the cells of `found` that are not below this floor
+-- the set of facts with the floor `floor`, or 1 if `floor` is 0. It has the cells of `found` that are not below this
+-- floor
 abbrev pub at_floor : ℕ → CellMap → Facts
 at_floor floor found =
     record { floor = max 1 floor; found = dropped (max 1 floor) found; above = dropped_has_floor floor found }
 
--- `facts` with their floor raised to `floor`, if that is greater than the floor that they have. Cells below the new
+-- `facts` with the floor raised to `floor`, if `floor` is greater than the floor of `facts`. Cells below the new
 -- floor are dropped
 abbrev pub raised : Facts → ℕ → Facts
 raised facts floor = at_floor (max facts.floor floor) facts.found
@@ -66,7 +67,7 @@ pub record IsView (floor : ℕ) (sightings : List (Key × Cell Value)) (facts : 
 abbrev pub ViewLaw : Type 0
 ViewLaw = (floor : ℕ) (sightings : List (Key × Cell Value)) → IsView floor sightings (view_at floor sightings)
 
--- if two facts are both the view (`IsView`) of the same sightings at the same floor, they are equal
+-- if two sets of facts are both the view (`IsView`) of the same sightings at the same floor, they are equal
 abbrev pub ViewIsUnique : Type 0
 ViewIsUnique = (floor : ℕ) (sightings : List (Key × Cell Value)) (x y : Facts) → IsView floor sightings x
     → IsView floor sightings y → x ≡ y
@@ -76,7 +77,7 @@ abbrev pub MembersDecideView : Type 0
 MembersDecideView =
     (floor : ℕ) (s t : List (Key × Cell Value)) → HaveSameMembers s t → view_at floor s ≡ view_at floor t
 
--- facts are the view of their own cells at their floor; so the cells of a view can stand for its sightings
+-- a set of facts is the view of its own cells at its floor; so the cells of a view can stand for its sightings
 abbrev pub ViewOfItsCells : Type 0
 ViewOfItsCells = (x : Facts) → view_at x.floor (cells_of x) ≡ x
 

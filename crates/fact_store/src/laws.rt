@@ -21,7 +21,7 @@ pub fn members_decide_view()
     ensures { MembersDecideView }
 {}
 
-/// Facts are the view of their own cells at their floor. A list of their cells therefore stands for them.
+/// A set of facts is the view of its own cells at its floor. A list of these cells therefore stands for the set.
 pub fn view_of_its_cells()
     ensures { ViewOfItsCells }
 {}
@@ -36,12 +36,12 @@ pub fn view_of_both()
     ensures { ViewOfBoth }
 {}
 
-/// The merge of two sets of facts is above both, and below all facts that are above both.
+/// The merge of two sets of facts is above both, and below each set of facts that is above both.
 pub fn merge_is_least_above_both()
     ensures { MergeLaw }
 {}
 
-/// Two sets of facts have only one merge: no other facts are above both and below everything that is above both.
+/// Two sets of facts have only one merge: no other set of facts is above both and below each set that is above both.
 pub fn merge_is_unique()
     ensures { MergeIsUnique }
 {}
@@ -56,13 +56,13 @@ pub fn merge_is_associative()
     ensures { MergeIsAssociative }
 {}
 
-/// Merging facts with themselves changes nothing.
+/// Merging a set of facts with itself changes nothing.
 pub fn merge_is_idempotent()
     ensures { MergeIsIdempotent }
 {}
 
-/// However sightings are grouped for merging and whenever floors are raised, the facts are the view of all sightings at
-/// the greatest floor.
+/// However sightings are grouped for merging and whenever floors are raised, the resulting set of facts is the view
+/// of all sightings at the greatest floor.
 pub fn grouping_is_free()
     ensures { GroupingIsFree }
 {}

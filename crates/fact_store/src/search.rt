@@ -54,7 +54,8 @@ pub(crate) fn index_of(cells: &PageList<Sighting>, key: &Key, fingers: &Fingers)
 }
 
 /// Looks for `key` at the finger (the remembered slot) of its kind, and then at the finger of its GUID's hash, if its
-/// kind has such fingers. Returns `None` if neither finger gives the index of `key`.
+/// kind has such fingers. Returns `None` if neither finger gives the index of `key`. `cells` must be in the order of
+/// keys (`AreCells`).
 fn found_by_fingers(cells: &PageList<Sighting>, key: &Key, fingers: &Fingers) -> Option<Found>
     requires { AreCells cells.now.items }
     ensures { IfSome result (λ found. IsSearched key.now cells.now.items found.index) }
@@ -65,7 +66,7 @@ fn found_by_fingers(cells: &PageList<Sighting>, key: &Key, fingers: &Fingers) ->
     }
 }
 
-/// Looks for `key` at `finger` as `index_at_finger` does.
+/// Looks for `key` at `finger` as `index_at_finger` does. `cells` must be in the order of keys (`AreCells`).
 fn found_at_finger(cells: &PageList<Sighting>, key: &Key, finger: Slot) -> Option<Found>
     requires { AreCells cells.now.items }
     ensures { IfSome result (λ found. IsSearched key.now cells.now.items found.index) }
@@ -77,9 +78,10 @@ fn found_at_finger(cells: &PageList<Sighting>, key: &Key, finger: Slot) -> Optio
     })
 }
 
-/// Returns `Ok` with the index of the cell of `key` if this cell is the one at `finger` or the next one. Returns `Err`
-/// with the index after `finger` if `key` is greater than the key at `finger`, and less than the next key, if there is
-/// one. Returns `None` otherwise. Makes at most two comparisons.
+/// Returns `Ok` with the index of the cell of `key` if this cell is the one at `finger` or the next one. Returns
+/// `Err` with the index after `finger` if `key` is greater than the key at `finger`, and less than the next key, if
+/// there is one. Returns `None` otherwise. `cells` must be in the order of keys (`AreCells`). Makes at most two
+/// comparisons.
 fn index_at_finger(
     cells: &PageList<Sighting>,
     key: &Key,
@@ -102,8 +104,8 @@ fn index_at_finger(
     }
 }
 
-/// Compares the key of the cell at index `i` with `key`. Looks for the index at the slot `near` first. Returns
-/// `Greater` if no cell has the index `i`.
+/// Compares the key of the cell at index `i` with `key`. Looks for the cell on the page of `near` first. Returns
+/// `Greater` if `i` is past the last cell.
 fn order_at(cells: &PageList<Sighting>, i: usize, near: Slot, key: &Key) -> Ordering
     ensures { result ≡ option_map_or (λ s. key_cmp s.0 key.now) (slice_get cells.now.items i) Greater }
 {

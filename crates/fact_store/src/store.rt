@@ -4,11 +4,11 @@ ghost use Rattle.fact_store.specs.Comparisons.{CountsSearch, HasDigits, compared
 ghost use Rattle.fact_store.specs.View.{IsNewestGeneration, cell_for, cells_of, no_facts, raised, view};
 ghost use Rattle.fact_store.specs.View.{view_at, AreInRange};
 ghost use Rattle.fact_store.specs.Merge.{merge, IsMerge};
-ghost use Rattle.fact_store.specs.Walk.{cells_left};
+ghost use Rattle.fact_store.specs.Iter.{cells_left};
 
-use crate::cell_list::{drop_below, merge_cells, put_kept};
-use crate::cells::Cells;
+use crate::cells::{drop_below, merge_cells, put_kept};
 use crate::fingers::Fingers;
+use crate::iter::Cells;
 use crate::search::find;
 use fact_join::Cell;
 use page_list::PageList;

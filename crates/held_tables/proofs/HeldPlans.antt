@@ -14,7 +14,7 @@ use Rattle.lid_assign.specs.Lids.{Given, IsNoRoom, lids, owner_of, top_of as lid
 use Rattle.lid_assign.proofs.LidLaws.{lids_law}
 use Rattle.subnet_view.specs.declared.end_port.EndPort.{EndPort}
 use Rattle.subnet_view.specs.Routing.{Routing}
-use Rattle.lft_blocks.specs.Rules.{RuleValue}
+use Rattle.lft_blocks.specs.Rule.{RuleValue}
 use Rattle.lft_blocks.specs.Entries.{Next, attachment_of_lid, blocks, block_count}
 use Rattle.lft_blocks.specs.Plan.{SwitchTable, PlanValue, plan_of, tables_of, lid_routing}
 use Rattle.lft_blocks.specs.PlanLaws.{HasBlock, block_of}

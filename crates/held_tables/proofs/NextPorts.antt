@@ -17,9 +17,9 @@ use Rattle.spread_labels.specs.declared.label.Mark.{Mark}
 use Rattle.spread_labels.specs.Labels.{candidates_by, marks}
 use Rattle.spread_routes.specs.Adapters.{adapters_of}
 use Rattle.spread_routes.specs.Rule.{Spreading, by_positions, position, taken}
-use Rattle.lft_blocks.specs.Rules.{RuleValue, routing_by, spread_in, up_and_down}
+use Rattle.lft_blocks.specs.Rule.{RuleValue, routing_by, spread_in, up_and_down}
 use Rattle.spread_routes.specs.Spread.{grading_of, keys_by, number_there, spread_by}
-use Rattle.spread_routes.specs.SwitchOrders.{OrderValue}
+use Rattle.spread_routes.specs.SwitchOrder.{OrderValue}
 use Rattle.lft_blocks.proofs.RulesRoute.{rules_are_routings}
 use Rattle.lid_assign.specs.Lids.{lids}
 use Rattle.lft_blocks.specs.LidNumbers.{lid_numbers}

@@ -45,7 +45,7 @@ use Rattle.lft_blocks.specs.Plan.{tables_of, plan_of, lid_routing}
 use Rattle.port_graph.specs.declared.edge.Edge.{Edge}
 use Rattle.subnet_view.specs.Graph.{graph_of, edges_at}
 use Rattle.subnet_view.specs.GraphLaws.{IsSwitch}
-use Rattle.lft_blocks.specs.Rules.{RuleValue}
+use Rattle.lft_blocks.specs.Rule.{RuleValue}
 use Rattle.subnet_view.proofs.Graphs.{edge_is_wire}
 use Rattle.subnet_view.proofs.GraphSwitches.{graph_guids, switches_rise}
 use Rattle.lft_blocks.specs.Entries.{attachment_of, attachment_of_lid, port_to, entry, block, block_count}

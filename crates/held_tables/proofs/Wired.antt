@@ -4,7 +4,7 @@ use Rattle.std.specs.Prelude.{slice_index_or}
 use Rattle.std.proofs.lemmas.List.{append-nil, length-take, take_all, take_more}
 use Rattle.held_tables.specs.declared.far_end.Far.{Far}
 use Rattle.held_tables.specs.declared.far_end.Far.TheVariants.{Nothing, Switch, Port}
-use Rattle.held_tables.specs.Rows.{padded, wired_more}
+use Rattle.held_tables.specs.FarEnds.{padded, wired_more}
 
 -- a port after the last one has no wire
 blank_at : (n k : ℕ) → slice_index_or (replicate n Nothing) k Nothing ≡ Nothing

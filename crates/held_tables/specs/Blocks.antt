@@ -10,8 +10,8 @@ pub record AreBlank (count : ℕ) (rows : List (List ℕ)) : Type 0 where
   pub as_many : length rows ≡ count
   pub entry : (index i : ℕ) → slice_index_or (slice_index_or rows index []) i 255 ≡ 255
 
--- `rows` has a row for each held switch, in order. The row has the entries of the switch's block with the number
--- `number`, and 255 for an entry that is not held
+-- `rows` has a row for each held switch, in the order of the held switches. The row has the entries of the switch's
+-- block with the number `number`, and 255 for an entry that is not held
 pub record AreBlocks (held : HeldPlan) (number : ℕ) (rows : List (List ℕ)) : Type 0 where
   pub as_many : length rows ≡ length held.switches
   pub entry : (index i : ℕ) → index < length rows → slice_index_or (slice_index_or rows index []) i 255

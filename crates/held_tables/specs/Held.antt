@@ -15,7 +15,7 @@ pub record HeldPlan : Type 0 where
 abbrev pub nothing_held : HeldPlan
 nothing_held = record { lids = []; switches = []; blocks = [] }
 
--- the 2^`lmc` LIDs of an end port, from its first LID on
+-- the 2^`lmc` consecutive LIDs of an end port, given by the first of them
 pub record LidRange : Type 0 where
   pub first : HeldLid
   pub lmc : ℕ

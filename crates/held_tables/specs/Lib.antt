@@ -1,6 +1,6 @@
 pub mod Chains
 pub mod Owners
-pub mod Rows
+pub mod FarEnds
 pub mod Tables
 pub mod Blocks
 pub mod Held

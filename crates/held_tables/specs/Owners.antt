@@ -15,7 +15,7 @@ owner_among [] = Nobody
 owner_among (e ∷ []) = Sole e
 owner_among (e ∷ x ∷ es) = Several
 
--- the only end port that holds a LID; None if no end port holds it, or several do
+-- if exactly one end port holds a LID, this end port; otherwise None
 abbrev pub sole_among : Owner → Option EndPort
 sole_among Nobody = None
 sole_among (Sole e) = Some e

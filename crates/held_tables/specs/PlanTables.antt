@@ -10,13 +10,13 @@ use Rattle.held_tables.specs.declared.held.HeldSwitch.{HeldSwitch}
 use Rattle.held_tables.specs.declared.held.HeldBlock.{HeldBlock}
 use Rattle.held_tables.specs.Held.{HeldPlan, LidRange, lids_of, nothing_held}
 use Rattle.fact_store.specs.View.{Facts, cells_of}
-use Rattle.lft_blocks.specs.Rules.{RuleValue}
+use Rattle.lft_blocks.specs.Rule.{RuleValue}
 
--- the range of the LIDs of `port`, from `lid` on, under its LMC
+-- the range of the LIDs of `port`, the first of which is `lid`, under the port's LMC
 abbrev pub range_from : Given → ℕ → EndPort → LidRange
 range_from given lid port = record { first = record { lid = lid; port = port }; lmc = lmc_of given port }
 
--- the LIDs of the end port whose first LID is `lid`; None if no end port owns `lid`
+-- if an end port owns `lid`, the range of its LIDs, the first of which is `lid`; otherwise None
 abbrev pub owned_range : Given → ℕ → Option LidRange
 owned_range given lid = option_map (range_from given lid) (owner_of given lid)
 

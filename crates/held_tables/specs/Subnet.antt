@@ -1,7 +1,7 @@
 -- What is kept of a subnet, and what it is made of.
 use Rattle.std.specs.Prelude.{◌≡◌, ℕ, Bool, List, Option, length, map}
 use Rattle.subnet_view.specs.declared.end_port.EndPort.{EndPort}
-use Rattle.subnet_view.specs.EndPorts.{end_ports}
+use Rattle.subnet_view.specs.EndPort.{end_ports}
 use Rattle.subnet_view.specs.Reading.{Cells, switches}
 use Rattle.held_tables.specs.Switches.{all_begin, first_switch, sender_of, wired_of}
 use Rattle.held_tables.specs.declared.senders.Sender.{Sender}

@@ -13,7 +13,7 @@ use Rattle.held_tables.specs.declared.far_end.Far.TheVariants.{Nothing, Switch, 
 use Rattle.held_tables.specs.declared.senders.Sender.{Sender}
 use Rattle.held_tables.specs.declared.wired_switch.WiredSwitch.{WiredSwitch}
 
--- the index of `guid` in `guids`; None if it is not there
+-- the index of `guid` in `guids`; None if `guids` does not have it
 abbrev pub index_in : List ℕ → ℕ → Option ℕ
 index_in guids guid = position (λ g. g == guid) guids
 
@@ -44,12 +44,12 @@ far_by cells n =
     option_map_or (λ g. slice_index_or (row_of cells g) (n % 256) Nothing) (slice_get (switches cells) (n / 256))
     Nothing
 
--- an end port as a sender: the index of its node among the usable switches, if the node is one, and the far end of
--- the wire in the port
+-- the end port `e` as a sender: with the index of its node among the usable switches, or None if it is not one, and
+-- the far end of the wire in the port, or `Nothing` if there is no wire
 abbrev pub sender_of : Cells → EndPort → Sender
 sender_of cells e = record { port = e; switch = index_in (switches cells) e.node; far = far_of cells e.node e.port }
 
--- the index of the usable switch to which a wire leads; None if it does not lead to a usable switch
+-- if a wire leads to a usable switch, the index of this switch; otherwise None
 abbrev pub switch_over : Far → Option ℕ
 switch_over Nothing = None
 switch_over (Switch index) = Some index
@@ -61,7 +61,7 @@ abbrev pub first_by : Option ℕ → Far → Option ℕ
 first_by (Some index) far = Some index
 first_by None far = switch_over far
 
--- the index of the first switch that the packets of `source` reach; None if they reach no switch
+-- the index of the first switch that the packets of `source` reach; None if these packets reach no switch
 abbrev pub first_switch : Sender → Option ℕ
 first_switch source = first_by source.switch source.far
 

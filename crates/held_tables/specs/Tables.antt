@@ -1,4 +1,4 @@
--- What the held tables say: who holds a LID, and by which port a switch forwards a packet.
+-- What the held tables say: who holds a LID, and through which port a switch forwards a packet.
 use Rattle.std.specs.Prelude.{ℕ, ◌/◌, ◌%◌, ◌==◌, ◌&&◌, ◌||◌, Bool, not, List, [], ◌∷◌, Option, map, filter, option_and_then, nat_lt, slice_get, slice_index_or, reverse, if◌then◌else◌}
 use Rattle.std.specs.Option.{option_map_or}
 use Rattle.std.specs.List.{find, list_any, position}
@@ -78,7 +78,7 @@ entry_of held g lid = entry_at held (index_of held g) lid
 abbrev pub counted : ℕ → ℕ → ℕ → ℕ
 counted lid top entry = if lid == 0 || nat_lt top lid then 255 else entry
 
--- the effective entry of switch `g` for `lid` by the held tables: 255 for LID 0, for a LID above the top of `g`, or if
--- no entry is held
+-- the effective entry of switch `g` for `lid` under the held tables: 255 for LID 0, for a LID above the top of `g`,
+-- or if no entry is held
 abbrev pub entry_for : HeldPlan → ℕ → ℕ → ℕ
 entry_for held lid g = counted lid (top_of held g) (entry_of held g lid)

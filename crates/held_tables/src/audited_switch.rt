@@ -24,7 +24,8 @@ pub struct AuditedSwitch {
     pub ports: u8,
 }
 
-/// Returns `switches` in their order, each with its index and its top in `held`.
+/// Returns each of `switches`, in the order of `switches`, with its index and its top in `held`. The index is `None`,
+/// and the top is 0, if `held` does not have the switch.
 pub(crate) fn nodes(
     alloc: Global,
     switches: &[WiredSwitch],

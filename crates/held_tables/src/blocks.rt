@@ -8,10 +8,10 @@ use crate::held::{Held, HeldBlock};
 use smp_bytes::NO_ENTRY;
 use std::alloc::{AllocError, Global};
 
-/// Returns a row of 64 entries for each held switch, in order. The row has the entries of the last block of the
-/// switch with the number `number`, and 255 for an entry that is not held. `chains` must be the chains of the held
-/// blocks' numbers. Takes time linear in the number of held switches, plus the number of held blocks with the number
-/// `number`.
+/// Returns a row of 64 entries for each held switch, in the order of the held switches. The row has the entries of
+/// the last block of the switch with the number `number`, and 255 for an entry that is not held. `chains` must be the
+/// chains of the held blocks' numbers. Takes time linear in the number of held switches, plus the number of held
+/// blocks with the number `number`.
 pub fn block_rows(
     alloc: Global,
     held: &Held,

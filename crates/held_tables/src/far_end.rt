@@ -48,7 +48,7 @@ pub(crate) fn far_of(wires: &Wires, guids: &[Guid], node: Guid, port: PortNum) -
     }
 }
 
-/// Returns the index of `guid` in `guids`, or `None` if `guid` is not there. `guids` must be in ascending order,
+/// Returns the index of `guid` in `guids`, or `None` if `guids` does not have it. `guids` must be in ascending order,
 /// without repetitions. Does a binary search.
 pub(crate) fn index(guids: &[Guid], guid: Guid) -> Option<usize>
     requires { IsStrictlyIncreasing guids.now }
@@ -57,7 +57,7 @@ pub(crate) fn index(guids: &[Guid], guid: Guid) -> Option<usize>
     guids.binary_search(&guid).ok()
 }
 
-/// Returns the index of the usable switch at the far end `far` of a wire, or `None` if `far` is not a usable switch.
+/// Returns the index of the switch if `far`, the far end of a wire, is a usable switch, and otherwise `None`.
 pub(crate) fn switch_over(far: Far) -> Option<usize>
     ensures { result ≡ switch_over far }
 {

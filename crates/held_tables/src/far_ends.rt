@@ -2,7 +2,7 @@ ghost use Rattle.std.specs.Prelude.{◌≡◌, ◌<◌, ◌≤◌, ◌-◌, ◌^
 ghost use Rattle.fact_store.specs.View.{cells_of};
 ghost use Rattle.subnet_view.specs.Reading.{switches};
 ghost use Rattle.held_tables.specs.Switches.{row_of, switch_over};
-ghost use Rattle.held_tables.specs.Rows.{padded, wired_more};
+ghost use Rattle.held_tables.specs.FarEnds.{padded, wired_more};
 
 use crate::far_end::{Far, far_within};
 use smp_bytes::{Guid, PortNum};
@@ -20,7 +20,7 @@ pub struct FarEnds {
 impl Model for FarEnds {
     ghost use Rattle.std.specs.Prelude.{List};
     ghost use Rattle.held_tables.specs.declared.far_end.Far.{Far};
-    ghost use Rattle.held_tables.specs.Rows.{padded};
+    ghost use Rattle.held_tables.specs.FarEnds.{padded};
 
     ghost Value = { List Far };
 

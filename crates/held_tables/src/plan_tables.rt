@@ -22,8 +22,8 @@ pub(crate) fn owned_lids(alloc: Global, map: &LidMap) -> Result<Vec<HeldLid>, Al
     Ok(lids)
 }
 
-/// Appends to `lids` as many LIDs, from `lid` on, as the end port that owns `lid` has, each with this end port.
-/// Appends none if no end port owns `lid`.
+/// If an end port owns `lid`, appends to `lids` as many consecutive LIDs as this end port has, the first of which is
+/// `lid`, each with this end port. Otherwise appends none.
 fn push_owned(lids: &mut Vec<HeldLid>, map: &LidMap, lid: Lid) -> Result<(), AllocError>
     ensures { OnOk result (lids.new.items
         ≡ lids.old.items ++ option_map_or lids_of (owned_range map.now lid) []) }
@@ -50,7 +50,7 @@ pub(crate) fn with_top(
     Ok(switches)
 }
 
-/// Returns the blocks of all `tables`, in order. The switch of the first table has index 0.
+/// Returns the blocks of all `tables`, in the order of `tables`. The switch of the first table has index 0.
 pub(crate) fn blocks_of(alloc: Global, tables: &[Table]) -> Result<Vec<HeldBlock>, AllocError>
     ensures { IfOk result (λ blocks. blocks.items ≡ blocks_of 0 tables.now) }
 {

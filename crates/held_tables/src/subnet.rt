@@ -1,6 +1,6 @@
 ghost use Rattle.std.specs.Prelude.{◌≡◌, IfOk, length, map, slice_get};
 ghost use Rattle.fact_store.specs.View.{cells_of};
-ghost use Rattle.subnet_view.specs.EndPorts.{end_ports};
+ghost use Rattle.subnet_view.specs.EndPort.{end_ports};
 ghost use Rattle.subnet_view.specs.Reading.{switches};
 ghost use Rattle.held_tables.specs.Switches.{all_begin, far_by, first_switch, node_of, sender_of};
 
@@ -23,11 +23,12 @@ pub struct Subnet<'s> {
     guids: Vec<Guid>,
     /// The usable switches, in ascending order of GUID.
     switches: Vec<WiredSwitch>,
-    /// The end ports, in their order.
+    /// The end ports, in ascending order of port GUID, then node GUID, then port.
     ports: Vec<EndPort>,
-    /// The end ports as senders, in their order.
+    /// The end ports as senders, in the order of `ports`.
     sources: Vec<Sender>,
-    /// For each sender, the index of the first switch that its packets reach, or `None` if they reach no switch.
+    /// For each sender, the index of the first switch that the sender's packets reach, or `None` if these packets
+    /// reach no switch.
     firsts: Vec<Option<usize>>,
     /// Whether the packets of each sender reach a switch.
     begin: bool,
@@ -92,22 +93,22 @@ impl<'s> Subnet<'s> {
         &self.guids
     }
 
-    /// Returns the end ports, in their order.
+    /// Returns the end ports, in ascending order of port GUID, then node GUID, then port.
     pub fn end_ports(&self) -> &[EndPort]
         ensures { result.now ≡ end_ports (cells_of self.now) }
     {
         &self.ports
     }
 
-    /// Returns the end ports as senders, in their order.
+    /// Returns the end ports as senders, in the order of `end_ports`.
     pub fn sources(&self) -> &[Sender]
         ensures { result.now ≡ map (sender_of (cells_of self.now)) (end_ports (cells_of self.now)) }
     {
         &self.sources
     }
 
-    /// Returns, for each sender in order, the index of the first switch that its packets reach, or `None` if they
-    /// reach no switch.
+    /// Returns, for each sender, in the order of the senders, the index of the first switch that the sender's packets
+    /// reach, or `None` if these packets reach no switch.
     pub fn firsts(&self) -> &[Option<usize>]
         ensures { result.now
             ≡ map first_switch (map (sender_of (cells_of self.now)) (end_ports (cells_of self.now))) }

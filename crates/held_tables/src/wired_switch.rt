@@ -19,8 +19,8 @@ pub struct WiredSwitch {
     pub ports: u8,
 }
 
-/// Returns the switches with the GUIDs `guids`, in order, each with the far ends of its wires and its port count.
-/// `guids` must list the GUIDs of the usable switches in ascending order.
+/// Returns the switches with the GUIDs `guids`, in the order of `guids`, each with the far ends of the switch's wires
+/// and the switch's port count. `guids` must list the GUIDs of the usable switches in ascending order.
 pub(crate) fn wired_switches(
     alloc: Global,
     wires: &Wires,

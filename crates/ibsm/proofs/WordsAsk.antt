@@ -5,7 +5,7 @@ use Rattle.std.specs.Prelude.{option_and_then, option_map}
 use Rattle.clap.specs.declared.parser.matches.ArgMatches.{ArgMatches}
 use Rattle.cli_arguments.specs.WellFormed.{IsWellFormed}
 use Rattle.cli_task.proofs.WellFormed.{well_formed_asks}
-use Rattle.cli_task.specs.Tasks.{task_asked}
+use Rattle.cli_task.specs.Task.{task_asked}
 use Rattle.cli_task.specs.InputNames.{names_asked}
 use Rattle.cli_task.specs.declared.task.Task.{Task}
 

@@ -1,24 +1,24 @@
--- How a task over files ends: what was done, or its exit status and the line on standard error that gives the reason.
+-- How a task on files ends: what was done, or its exit status and the line on standard error that gives the reason.
 use Rattle.std.specs.Prelude.{◌≡◌, ◌⊎◌, ◌≤◌, ◌+◌, Bool, true, false, List, [], ℕ, Option, Some, None, Result, map, slice_get}
 use Rattle.std.specs.Borrow.{Bor}
 use Rattle.byte_io.specs.Source.{SourceState}
 use Rattle.clap.specs.declared.parser.matches.ArgMatches.{ArgMatches}
 use Rattle.sm_cli.specs.Asked.{rule_for, texts_for}
 use Rattle.sm_cli.specs.ExitStatus.{status_of}
-use Rattle.sm_cli.specs.FaultText.{fault_text, program_line}
+use Rattle.sm_cli.specs.FaultLine.{fault_text, program_line}
 use Rattle.sm_cli.specs.Run.{HasAnswered, IsFaultOf}
 use Rattle.sm_cli.specs.declared.exit_status.ExitStatus.{ExitStatus}
 use Rattle.sm_cli.specs.declared.exit_status.ExitStatus.TheVariants.{Done, Failed}
 use Rattle.sm_cli.specs.declared.fault.Fault.{Fault}
 use Rattle.sm_cli.specs.declared.fault.Fault.TheVariants.{Open, File, Text, NoRoom, Write, Memory}
-use Rattle.audit_report.specs.RunAudit.{HasAudited, IsAuditFault}
-use Rattle.lane_report.specs.RunLaneAudit.{HasAuditedByLane, IsLaneAuditFault}
-use Rattle.next_run.specs.RunNext.{HasStepped, IsStepFault, texts_before}
+use Rattle.audit_report.specs.AuditRun.{HasAudited, IsAuditFault}
+use Rattle.lane_report.specs.LaneRun.{HasAuditedByLane, IsLaneAuditFault}
+use Rattle.next_run.specs.NextRun.{HasStepped, IsStepFault, texts_before}
 use Rattle.order_run.specs.OrderRun.{HasPrintedOrder, IsOrderFault}
 use Rattle.record_file.specs.declared.file_fault.FileFault.TheVariants.{Read}
 use Rattle.schedule_run.specs.Run.{HasRun, IsRunFault}
 use Rattle.serve_task.specs.RunServe.{HasServedLines, IsServeFault}
-use Rattle.cli_task.specs.Tasks.{task_asked}
+use Rattle.cli_task.specs.Task.{task_asked}
 use Rattle.cli_task.specs.InputNames.{names_asked}
 use Rattle.ibsm.specs.declared.opener.OpenFault.{OpenFault}
 use Rattle.cli_task.specs.declared.task.Task.{Task}
@@ -38,8 +38,8 @@ HasEnoughNames (Next asked) count = texts_before asked + 1 ≤ count
 HasEnoughNames (Run lmc rule) count = count ≡ texts_for rule + 2
 HasEnoughNames (Serve asked) count = count ≡ texts_for asked.rule + 1
 
--- the task was done with open inputs; `prints` holds of what it prints, and `says` of what it writes to standard error;
--- `passed` says whether what it judges passes, and is true if it judges nothing
+-- the task was done with open inputs. Its output is printed, as `prints` says, and a step (`Next`) writes to standard
+-- error, as `says` says. `passed` says whether what the task judges passes, and is true if the task judges nothing
 abbrev pub Does : {S : Type 0} → (S → SourceState) → Task → List S → List S → (List ℕ → Type 0)
     → (List ℕ → Type 0) → Bool → Type 0
 Does state (Answer request) olds news prints says passed =
@@ -57,7 +57,7 @@ Does state (Run lmc rule) olds news prints says passed =
 Does state (Serve asked) olds news prints says passed =
     (passed ≡ true) × HasServedLines state asked olds news prints
 
--- standard error is as it was before the task; nothing is said for a step (`Next`), which may write to standard error
+-- unless the task is a step (`Next`), which may write to standard error, standard error is as it was before the task
 abbrev pub StaysSilent : {E : Type 0} → Task → E → E → Type 0
 StaysSilent (Next asked) errors errors' = Unit {0}
 StaysSilent task errors errors' = errors' ≡ errors
@@ -94,8 +94,9 @@ IsDone status = (passed : Bool) × (status ≡ status_after passed)
 
 -- faults ----------------------------------------------------------------------------------------
 
--- a task over open inputs ends early with `fault`. If memory ran out, `prints` holds of what the task would have
--- printed. If no more lines could be read, `whole` holds of what was printed
+-- a task on open inputs ends early with `fault`. If memory ran out in a run or while a manager was served, `prints`
+-- says how much of the output is printed. If no more lines could be read, the answers to the lines that were read are
+-- printed, as `whole` says
 abbrev pub IsFaultOver : {S : Type 0} → (S → SourceState) → Task → List S → List S
     → (List ℕ → Type 0) → (List ℕ → Type 0) → Bool → Fault → Type 0
 IsFaultOver state (Answer request) olds news prints whole output_failed fault =
@@ -113,7 +114,7 @@ IsFaultOver state (Run lmc rule) olds news prints whole output_failed fault =
 IsFaultOver state (Serve asked) olds news prints whole output_failed fault =
     IsServeFault state asked olds news prints whole output_failed fault
 
--- the files `names` were opened, and the task over them ends with `fault`
+-- the files `names` were opened, and the task on these files ends with `fault`
 pub record FailsOverFiles {S : Type 0} (answers : List ℕ → Result S OpenFault → Type 0) (state : S → SourceState)
     (task : Task) (names : List (Bor (List ℕ))) (prints whole : List ℕ → Type 0) (output_failed : Bool)
     (fault : Fault) : Type 0 where
@@ -122,7 +123,7 @@ pub record FailsOverFiles {S : Type 0} (answers : List ℕ → Result S OpenFaul
   pub opened : AreOpened answers names olds
   pub fails : IsFaultOver state task olds news prints whole output_failed fault
 
--- a task ends with `fault`: a file does not open, or the task over the files ends early
+-- a task ends with `fault`: a file does not open, or the task on the files ends early
 abbrev pub IsTaskFault : {S : Type 0} → (List ℕ → Result S OpenFault → Type 0) → (S → SourceState) → Task
     → List (Bor (List ℕ)) → (List ℕ → Type 0) → (List ℕ → Type 0) → Bool → Fault → Type 0
 IsTaskFault answers state task names prints whole output_failed fault =
@@ -146,7 +147,7 @@ abbrev pub name_at : Option (Bor (List ℕ)) → List ℕ
 name_at None = []
 name_at (Some name) = name.now
 
--- the name of the file that a fault concerns; empty if the fault concerns no file
+-- if a fault concerns one of the files `names`, the name of that file; otherwise empty
 abbrev pub name_of : List (Bor (List ℕ)) → Fault → List ℕ
 name_of names (Open input) = name_at (slice_get names input)
 name_of names (File input fault) = name_at (slice_get names input)
@@ -155,12 +156,12 @@ name_of names (NoRoom why) = []
 name_of names Write = []
 name_of names Memory = []
 
--- the line that the program writes for a fault of a run over the files `names`
+-- the line that the program writes for a fault of a run on the files `names`
 abbrev pub fault_line : List (Bor (List ℕ)) → Fault → List ℕ
 fault_line names fault = program_line (fault_text (name_of names fault) fault)
 
--- a task over the files `names` has a fault: it ends with the fault's status, and `says` holds of the fault's line. The
--- output is unchanged (`stays`), unless a write failed or a part was already printed
+-- a task on the files `names` has a fault: the task ends with the fault's status, and the fault's line is written, as
+-- `says` says. The output is unchanged (`stays`), unless a write failed or a part was already printed
 pub record SaysWhy (task : Task) (names : List (Bor (List ℕ))) (IsFault : Fault → Type 0) (stays : Type 0)
     (status : ExitStatus) (says : List ℕ → Type 0) : Type 0 where
   pub fault : Fault
@@ -169,9 +170,9 @@ pub record SaysWhy (task : Task) (names : List (Bor (List ℕ))) (IsFault : Faul
   pub ends : status ≡ status_of fault
   pub said : says (fault_line names fault)
 
--- the words ask for a task and name its inputs, and the task over these has a fault: it ends with the fault's status,
--- and `says` holds of the fault's line. The output is unchanged (`stays`), unless a write failed or a part was already
--- printed
+-- the words ask for a task and name its inputs, and the task on these inputs has a fault: the task ends with the
+-- fault's status, and the fault's line is written, as `says` says. The output is unchanged (`stays`), unless a write
+-- failed or a part was already printed
 pub record SaysWhyOfWords {S : Type 0} (answers : List ℕ → Result S OpenFault → Type 0) (state : S → SourceState)
     (matches : ArgMatches) (prints whole : List ℕ → Type 0) (output_failed : Bool) (stays : Type 0)
     (status : ExitStatus) (says : List ℕ → Type 0) : Type 0 where

@@ -1,4 +1,5 @@
--- Opening files by their names, in order. An opener is described by its answers to names.
+-- Opening files, given by their names, one after the other. An opener is described by the answers that it gives to
+-- names.
 use Rattle.std.specs.Prelude.{◌≡◌, ◌⊎◌, ◌<◌, ℕ, List, [], ◌∷◌, ◌++◌, Some, Result, Ok, Err, length, slice_get}
 use Rattle.std.specs.Borrow.{Bor}
 use Rattle.sm_cli.specs.declared.fault.Fault.{Fault}
@@ -6,13 +7,13 @@ use Rattle.sm_cli.specs.declared.fault.Fault.TheVariants as faults
 use Rattle.ibsm.specs.declared.opener.OpenFault.{OpenFault}
 use Rattle.ibsm.specs.declared.opener.OpenFault.TheVariants.{Missing, Memory}
 
--- if a file was opened, `new` is `old` with it appended; if not, `new` is `old`
+-- if a file was opened, `new` is `old` with this file appended; if not, `new` is `old`
 abbrev pub OpensBehind : {S : Type 0} → (Result S OpenFault → Type 0) → Result (Unit {0}) OpenFault → List S → List S
     → Type 0
 OpensBehind {S} answers (Ok u) old new = (file : S) × answers (Ok file) × (new ≡ old ++ file ∷ [])
 OpensBehind answers (Err fault) old new = answers (Err fault) × (new ≡ old)
 
--- `files` were opened by `names`, one for each name, in their order
+-- `files` were opened, one for each of `names`, in the order of `names`
 pub record AreOpened {S : Type 0} (answers : List ℕ → Result S OpenFault
     → Type 0) (names : List (Bor (List ℕ))) (files : List S) : Type 0 where
   pub one_each : length files ≡ length names
@@ -20,7 +21,7 @@ pub record AreOpened {S : Type 0} (answers : List ℕ → Result S OpenFault
       ≡ Some file
       → answers name.now (Ok file)
 
--- a name that was tried is not missing: its file was opened, or memory ran out for it
+-- a name that was tried is not missing: its file was opened, or memory ran out when the name was tried
 abbrev pub IsThere : {S : Type 0} → (Result S OpenFault → Type 0) → Type 0
 IsThere {S} answers = ((file : S) × answers (Ok file)) ⊎ answers (Err Memory)
 

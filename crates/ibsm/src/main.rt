@@ -4,6 +4,7 @@
 mod opener;
 mod perform;
 mod run;
+mod usage_errors;
 
 use std::process::ExitCode;
 

@@ -1,9 +1,9 @@
-//! A task over files that are given by their names.
+//! A task on files that are given by their names.
 ghost use Rattle.std.specs.Prelude.{◌≡◌, ◌⊎◌, Bool, length, IfOk, IfErr, OnOk, OnErr, IsTrue, true};
 ghost use Rattle.std.specs.Io.KnownBytes.{Appends};
 ghost use Rattle.sm_cli.specs.ExitStatus.{status_of};
 ghost use Rattle.schedule_lines.specs.Prints.{PrintsSome};
-ghost use Rattle.next_run.specs.RunNext.{IsSaid};
+ghost use Rattle.next_run.specs.NextRun.{IsSaid};
 ghost use Rattle.ibsm.specs.Ending.{Does, HasEnoughNames, IsDone, IsFaultOver, IsTaskFault, KeepsOutput};
 ghost use Rattle.ibsm.specs.Ending.{Performs, SaysWhy, StaysSilent};
 ghost use Rattle.ibsm.specs.Ending.{fault_line, name_of, status_after};
@@ -22,9 +22,9 @@ use sm_cli::{ExitStatus, Fault, run_files, write_fault};
 use std::alloc::Global;
 use std::io::Write;
 
-/// Performs `task` over the files `names`, the inputs of `task` in the order in which they are read. There must be
-/// enough names for the task; a run and serving a manager take no further names. All files are opened before the first
-/// one is read. If the task cannot be done, writes the reason to `errors`.
+/// Performs `task` on the files `names`, the inputs of `task` in the order in which they are read. There must be
+/// enough names for the task; a run and serving a manager take no further names. All files are opened before the
+/// first one is read. If the task cannot be done, writes the reason to `errors`.
 pub(crate) fn perform_or_explain<R, O, E>(
     rt: &R,
     task: Task,
@@ -68,8 +68,9 @@ fn status_after(passed: bool) -> ExitStatus
     }
 }
 
-/// Opens the files `names` and performs `task` over them. There must be enough names for the task; a run and serving a
-/// manager take no further names. Returns whether what `task` judges passes. A task that judges nothing passes.
+/// Opens the files `names` and performs `task` on these files. There must be enough names for the task; a run and
+/// serving a manager take no further names. Returns whether what `task` judges passes. A task that judges nothing
+/// passes.
 fn perform<R, O, E>(
     rt: &R,
     task: Task,
@@ -102,8 +103,8 @@ where
     }
 }
 
-/// Performs `task` over `inputs`, which are open. There must be enough inputs for the task; a run and serving a
-/// manager take no further inputs. Returns whether what `task` judges passes. A task that judges nothing passes.
+/// Performs `task` on `inputs`, which are open. There must be enough inputs for the task; a run and serving a manager
+/// take no further inputs. Returns whether what `task` judges passes. A task that judges nothing passes.
 fn do_task<S: Source, W: Sink, E: Sink>(
     alloc: Global,
     task: Task,
@@ -154,8 +155,8 @@ pub(crate) fn say<E: Write>(errors: &mut ToWrite<E>, names: &[&str], fault: &Fau
     fault.status()
 }
 
-/// Opens the files `names` in their order. Returns `Open` with the index of the first file that cannot be opened. If
-/// each file can be opened, but memory was refused for one of them, returns `Memory`.
+/// Opens the files `names`, in the order of `names`. Returns `Open` with the index of the first file that cannot be
+/// opened. If each file can be opened, but memory was refused for one of them, returns `Memory`.
 fn open_all<R>(rt: &R, names: &[&str]) -> Result<Vec<R::Opened>, Fault>
 where
     R: Opener + AllocGlobal,

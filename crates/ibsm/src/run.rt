@@ -2,22 +2,21 @@
 ghost use Rattle.std.specs.Prelude.{◌≡◌, ◌≢◌, ◌⊎◌, Bool, IfOk, IsTrue};
 ghost use Rattle.std.specs.Io.KnownBytes.{Appends};
 ghost use Rattle.cli_arguments.specs.WellFormed.{IsWellFormed};
-ghost use Rattle.next_run.specs.RunNext.{IsSaid};
+ghost use Rattle.next_run.specs.NextRun.{IsSaid};
 ghost use Rattle.schedule_lines.specs.Prints.{PrintsSome};
 ghost use Rattle.ibsm.specs.Ending.{IsDone, PerformsWords, SaysWhyOfWords, status_after};
 
 use crate::opener::Opener;
 use crate::perform::{perform_or_explain, say};
+use crate::usage_errors::{explain, words};
 use byte_io::{Sink, ToWrite};
-use clap::error::ErrorKind;
-use clap::{ArgMatches, Error};
+use clap::ArgMatches;
 use cli_arguments::matches_of;
 use cli_task::{names_of, task_of};
 use sm_cli::{ExitStatus, Fault};
 use std::alloc::AllocError;
 use std::io::{BufWriter, Write};
 use std::rt::Env;
-use std::{env, io};
 
 /// Performs what the command line asks for. If that cannot be done, writes the reason to `errors`, or prints it to
 /// standard error if the command line itself is wrong.
@@ -48,19 +47,6 @@ where
     match matches_of(rt.alloc(), words.as_slice())? {
         Ok(matches) => dispatch(rt, &matches, &mut ToWrite::new(writer), errors),
         Err(error) => explain(rt, &error, errors),
-    }
-}
-
-/// Returns the words of the command line. If a word is not UTF-8, prints that to standard error and returns `None`.
-/// Returns an error if memory was refused.
-fn words<R: Env + Eprint + AllocGlobal>(rt: &R) -> Result<Option<Vec<String>>, AllocError> {
-    match env::args(rt) {
-        Ok(words) => Ok(Some(words.collect(rt.alloc())?)),
-        Err(error) if error.kind() == io::ErrorKind::OutOfMemory => Err(AllocError),
-        Err(_) => {
-            let _ = rt.eprintln("error: an argument is not UTF-8");
-            Ok(None)
-        }
     }
 }
 
@@ -97,24 +83,4 @@ where
     let task = task_of(matches).unwrap();
     let names = names_of(rt.alloc(), matches, &task)?.unwrap();
     Ok(perform_or_explain(rt, task, &names, output, errors))
-}
-
-/// Prints help or the version to standard output, or the fault of the command line to standard error. If help or the
-/// version cannot be printed, writes that to `errors`. Returns an error if `error` is a lack of memory.
-pub(crate) fn explain<R: Print + Eprint, E: Write>(
-    rt: &R,
-    error: &Error,
-    errors: &mut ToWrite<E>,
-) -> Result<ExitStatus, AllocError> {
-    if error.kind() == ErrorKind::OutOfMemory {
-        return Err(AllocError);
-    }
-    let printed = error.print(rt);
-    if error.use_stderr() {
-        return Ok(ExitStatus::Usage);
-    }
-    if printed.is_err() {
-        return Ok(say(errors, &[], &Fault::Write));
-    }
-    Ok(ExitStatus::Done)
 }

@@ -5,7 +5,7 @@ use Rattle.port_graph.specs.declared.edge.Edge.{Edge}
 use Rattle.fact_store.specs.View.{cells_of}
 use Rattle.held_tables.specs.Held.{HeldPlan}
 use Rattle.packet_walks.specs.Edges.{edges_of}
-use Rattle.audit_channels.specs.Columns.{TakesAcross, number_of}
+use Rattle.audit_channels.specs.Column.{TakesAcross, number_of}
 use Rattle.lane_channels.specs.LaneNetwork.{SeenByLane}
 use Rattle.lane_channels.specs.LaneLaws.{AllCarried, NeverBothByLane, OneLaneSuffices}
 use Rattle.lane_channels.specs.Stops.{HasEdge, guid_at, lane_between, lane_by, port_across}

@@ -15,12 +15,12 @@ use Rattle.audit_channels.specs.ChannelOrders.{Follows}
 use Rattle.audit_channels.proofs.Waiting.{blank, column_long}
 use Rattle.lanes_file.specs.Lanes.{LanesSaid}
 use Rattle.lane_channels.specs.AnyTables.{AreWaitsByAny, IsDroppedByAny, IsSomeDropByAny, WaitsByAny, columns_for}
-use Rattle.lane_channels.specs.declared.stop.Dropped.{Dropped}
+use Rattle.lane_channels.specs.declared.dropped.Dropped.{Dropped}
 use Rattle.lane_channels.specs.LaneNetwork.{SeenByLane}
 use Rattle.lane_channels.specs.Senders.{IsNothing, SentFor}
 use Rattle.lane_channels.specs.Stops.{Columns, ComesAfter, HasEdge, edge_by}
-use Rattle.lane_channels.specs.Visits.{AreWithin}
-use Rattle.lane_channels.specs.Walks.{AreFollowed, Beginnings, IsDone, IsDroppedOne, IsMarked, IsWhole, OneTakes, Walked}
+use Rattle.lane_channels.specs.Visit.{AreWithin}
+use Rattle.lane_channels.specs.Walk.{AreFollowed, Beginnings, IsDone, IsDroppedOne, IsMarked, IsWhole, OneTakes, Walked}
 use Rattle.lane_channels.proofs.Visits.{index_within, no_column}
 
 module _ (said : LanesSaid) (cells : Cells) (columns : Columns) (lid : ℕ) (these : Beginnings) (old new : Walked) (within : AreWithin cells columns)

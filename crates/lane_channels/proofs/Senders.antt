@@ -5,7 +5,7 @@ use Rattle.std.proofs.lemmas.Bool.{cases_lt}
 use Rattle.std.proofs.lemmas.Option.{same_Some}
 use Rattle.fact_store.specs.View.{cells_of}
 use Rattle.subnet_view.specs.Reading.{Cells}
-use Rattle.subnet_view.specs.EndPorts.{end_ports}
+use Rattle.subnet_view.specs.EndPort.{end_ports}
 use Rattle.subnet_view.specs.declared.end_port.EndPort.{EndPort}
 use Rattle.held_tables.specs.Switches.{sender_of}
 use Rattle.held_tables.specs.Tables.{owners_of}
@@ -15,7 +15,7 @@ use Rattle.lane_channels.specs.LaneNetwork.{SeenByLane}
 use Rattle.lane_channels.specs.Levels.{HasLevel, lids_held}
 use Rattle.lane_channels.specs.Senders.{AnswersOf, AnswersTo, SentFor, SentFrom}
 use Rattle.lane_channels.specs.Stops.{Columns, first_stop}
-use Rattle.lane_channels.specs.Walks.{AreFollowed, BeginsIf, Walked}
+use Rattle.lane_channels.specs.Walk.{AreFollowed, BeginsIf, Walked}
 use Rattle.lane_channels.proofs.Walks.{followed_as, followed_then, none_followed}
 
 -- an index in a list is below its length

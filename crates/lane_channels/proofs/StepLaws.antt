@@ -5,7 +5,7 @@ use Rattle.port_graph.specs.declared.edge.Edge.{Edge}
 use Rattle.fact_store.specs.View.{cells_of}
 use Rattle.subnet_view.specs.Reading.{Cells}
 use Rattle.packet_walks.specs.Edges.{edges_of}
-use Rattle.audit_channels.specs.Columns.{TakesAcross, number_of}
+use Rattle.audit_channels.specs.Column.{TakesAcross, number_of}
 use Rattle.next_tables.specs.Mixtures.{TakesInStep}
 use Rattle.lanes_file.specs.Lanes.{LanesSaid}
 use Rattle.lane_channels.specs.AnyTables.{WaitsByAny}

@@ -10,12 +10,12 @@ use Rattle.smp_bytes.proofs.Members.{contains_none}
 use Rattle.subnet_view.specs.Reading.{Cells, switches}
 use Rattle.audit_channels.specs.ChannelOrders.{Follows}
 use Rattle.lanes_file.specs.Lanes.{LanesSaid}
-use Rattle.lane_channels.specs.declared.stop.Dropped.{Dropped}
+use Rattle.lane_channels.specs.declared.dropped.Dropped.{Dropped}
 use Rattle.lane_channels.specs.Stops.{Columns, HasEdge, IsNextStop}
 use Rattle.lane_channels.specs.LaneTurns.{DropsBefore, TakesByLane}
-use Rattle.lane_channels.specs.Visits.{DropsAlong, GoesAlong, IsVisit, IsVisitIfNew, TakesAlong, Walking}
-use Rattle.lane_channels.specs.Walks.{AreFollowed, Beginnings, Begins, BeginsIf, IsDone, IsDroppedOne, IsMarked, IsWhole, OneTakes, Reaches, Walked, is_done}
-use Rattle.lane_channels.specs.Walks.{mark_number}
+use Rattle.lane_channels.specs.Visit.{DropsAlong, GoesAlong, IsVisit, IsVisitIfNew, TakesAlong, Walking}
+use Rattle.lane_channels.specs.Walk.{AreFollowed, Beginnings, Begins, BeginsIf, IsDone, IsDroppedOne, IsMarked, IsWhole, OneTakes, Reaches, Walked, is_done}
+use Rattle.lane_channels.specs.Walk.{mark_number}
 
 -- a stop is taken from those that are left
 pub record IsTaken (stops : List ℕ) (stop : ℕ) (rest : List ℕ) : Type 0 where

@@ -4,7 +4,7 @@ use Rattle.fact_store.specs.View.{cells_of}
 use Rattle.audit_channels.specs.Waiting.{RiseOnWays}
 use Rattle.held_tables.specs.Held.{HeldPlan}
 use Rattle.lanes_file.specs.Carried.{CarriesAll}
-use Rattle.lane_channels.specs.declared.stop.Dropped.{Dropped}
+use Rattle.lane_channels.specs.declared.dropped.Dropped.{Dropped}
 use Rattle.lane_channels.specs.LaneNetwork.{SeenByLane}
 use Rattle.lane_channels.specs.AnyTables.{IsDroppedByAny}
 use Rattle.lane_channels.specs.Waiting.{RiseByLane, WaitInCycle}
@@ -15,28 +15,28 @@ use Rattle.fabric_model.specs.Forwarding.{Hop}
 use Rattle.packet_walks.specs.Fabrics.{IsSeenIn}
 use Rattle.lane_channels.specs.Fabrics.{LaneMaps, HoldLanes, IsLaneChannel, IsCarried, TravelsAt}
 
--- if numbers of channels on one lane rise by the held tables, channels by lane also have numbers that rise, whatever
--- the lanes and the service levels are
+-- if numbers of channels on one lane rise under the held tables, channels by lane also have numbers that rise,
+-- whatever the lanes and the service levels are
 abbrev pub OneLaneSuffices : Type 0
 OneLaneSuffices =
     (s : SeenByLane) (answers : Bool) (numbers : List ℕ) → RiseOnWays (cells_of s.seen.facts) s.seen.held numbers
     → RiseByLane s answers
 
--- if numbers of channels by lane rise by the held tables, no channels by lane wait in a credit loop
+-- if numbers of channels by lane rise under the held tables, no channels by lane wait in a credit loop
 abbrev pub NeverBothByLane : Type 0
 NeverBothByLane = (s : SeenByLane) (answers : Bool) (cycle : List ℕ) → RiseByLane s answers → ¬ (WaitInCycle s answers cycle)
 
 -- if all packets that have a service level have a lane below 15 according to the text, no packet is dropped for want
--- of a lane, by any of several tables
+-- of a lane, under any of several tables
 abbrev pub AllCarried : Type 0
 AllCarried =
     (s : SeenByLane) (others : List HeldPlan) (answers : Bool) → CarriesAll s.said → (dropped : Dropped)
     → ¬ (IsDroppedByAny s others answers dropped)
 
--- of two channels by lane that a packet takes one right after the other, without being dropped, the second has the
--- greater number. An end port that is joined to the end port `origin` sends the packet, at a level that it has.
--- Premises: numbers rise by facts, tables and lanes; the facts describe all that is joined to `origin`; and the end
--- ports and switches there hold the tables and the lanes
+-- suppose the facts describe all that is joined to the end port `origin`, the end ports and switches there hold the
+-- tables and the lanes, and numbers rise according to facts, tables and lanes. Then of two channels by lane that a
+-- packet takes one right after the other, without being dropped, the second has the greater number. One of these end
+-- ports sends the packet, at a level that the packet has
 abbrev pub LaneChannelsRise : Type 0
 LaneChannelsRise =
     (s : SeenByLane) (answers : Bool) (f : Fabric) (origin : NodePort) (vl : LaneMaps) → IsEndPort f origin

@@ -4,7 +4,7 @@ use Rattle.std.specs.declared.alloc.Global.{Global}
 use Rattle.std.specs.Coded.{Coded, code_by, coded×}
 use Rattle.std.specs.List.{range_with_len}
 use Rattle.subnet_view.specs.Reading.{Cells, switches}
-use Rattle.subnet_view.specs.EndPorts.{end_ports}
+use Rattle.subnet_view.specs.EndPort.{end_ports}
 use Rattle.packet_walks.specs.Network.{Seen, seen_code}
 use Rattle.lanes_file.specs.contracts.lanes.Lanes as lanes
 use Rattle.lanes_file.specs.Lanes.{LanesSaid}

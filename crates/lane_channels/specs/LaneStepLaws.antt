@@ -27,17 +27,17 @@ NeverBothByLaneInStep =
     (s : SeenByLane) (next : HeldPlan) (answers : Bool) (cycle : List ℕ) → RiseByAny s (next ∷ []) answers
     → ¬ (WaitInCycleByAny s (next ∷ []) answers cycle)
 
--- if channels by lane have numbers that rise in a step, they also have numbers that rise by the tables held before the
--- step
+-- if channels by lane have numbers that rise in a step, they also have numbers that rise under the tables held before
+-- the step
 abbrev pub HeldRiseInStep : Type 0
 HeldRiseInStep =
     (s : SeenByLane) (next : HeldPlan) (answers : Bool) → RiseByAny s (next ∷ []) answers → RiseByLane s answers
 
--- in a step, of two channels by lane that a packet takes one right after the other, without being dropped, the second
--- has the greater number. An end port that is joined to the end port `origin` sends the packet, at a level that it
--- has. Premises: numbers rise by the tables of `s` and by those of `next_held`; the facts describe all that is joined
--- to `origin`; and this part holds the lanes, and tables that for the packet's LID are a mixture of the tables of `s`
--- and of `next_held`
+-- suppose the facts describe all that is joined to the end port `origin`, and numbers rise under the tables of `s`
+-- and `next_held`. Let this part hold the lanes, and tables that for a packet's LID are a mixture of the tables of
+-- `s` and of `next_held`. Then of two channels by lane that the packet takes one right after the other, without being
+-- dropped, the second has the greater number. An end port of the part sends the packet, at a level that the packet
+-- has
 abbrev pub StepLaneChannelsRise : Type 0
 StepLaneChannelsRise =
     (s : SeenByLane) (next_held : HeldPlan) (answers : Bool) (f : Fabric) (origin : NodePort) (vl : LaneMaps)

@@ -6,11 +6,11 @@ use Rattle.held_tables.specs.Held.{HeldPlan}
 use Rattle.held_tables.specs.Tables.{is_same_end, lines_of, owners_of}
 use Rattle.lanes_file.specs.Lanes.{LanesSaid, level_of}
 
--- the LIDs that end port `e` holds by `lines`
+-- the LIDs that end port `e` holds according to `lines`
 abbrev pub lids_on : List HeldLid → EndPort → List ℕ
 lids_on lines e = map (λ x. x.lid) (filter (λ x. is_same_end x.port e) lines)
 
--- the LIDs that end port `e` holds by the held tables
+-- the LIDs that end port `e` holds under the held tables
 abbrev pub lids_held : HeldPlan → EndPort → List ℕ
 lids_held held e = lids_on (lines_of held) e
 

@@ -8,6 +8,6 @@ pub mod LaneTurns
 pub mod Levels
 pub mod Senders
 pub mod Stops
-pub mod Visits
+pub mod Visit
 pub mod Waiting
-pub mod Walks
+pub mod Walk

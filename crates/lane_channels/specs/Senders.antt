@@ -1,14 +1,14 @@
 -- The packets that end ports send for a LID, by level and by where they begin.
 use Rattle.std.specs.Prelude.{◌≡◌, ◌<◌, ℕ, Bool, List, [], Option, None, Some, map, replicate, slice_get, true}
 use Rattle.fact_store.specs.View.{cells_of}
-use Rattle.subnet_view.specs.EndPorts.{end_ports}
+use Rattle.subnet_view.specs.EndPort.{end_ports}
 use Rattle.subnet_view.specs.declared.end_port.EndPort.{EndPort}
 use Rattle.lanes_file.specs.Lanes.{LanesSaid, level_of}
 use Rattle.lane_channels.specs.declared.held_by.Asked.{Asked}
 use Rattle.lane_channels.specs.LaneNetwork.{SeenByLane, lists_of}
 use Rattle.lane_channels.specs.Levels.{HasLevel, IsAsked, lids_held}
 use Rattle.lane_channels.specs.Stops.{first_stop}
-use Rattle.lane_channels.specs.Walks.{Walked}
+use Rattle.lane_channels.specs.Walk.{Walked}
 
 -- `begin` is `first`, and packets of `level` that begin there answer packets that `asker` sends for one of the first
 -- `count` of `lids`

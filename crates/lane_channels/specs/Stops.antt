@@ -26,16 +26,17 @@ stop_by None (Switch index) port = Some (stop_at index port)
 stop_by None Nothing port = None
 stop_by None (Port e) port = None
 
--- the stop at which the packets of `source` first reach a usable switch, if `port` is the port at the far end of its
--- wire; None if they reach none
+-- the stop at which the packets of `source` first reach a usable switch, where `port` is the port at the far end of
+-- the wire of `source`; None if these packets reach no usable switch
 abbrev pub stop_from : Sender → ℕ → Option ℕ
 stop_from source port = stop_by source.switch source.far port
 
--- the stop at which the packets of end port `e` first reach a usable switch; None if they reach none
+-- the stop at which the packets of end port `e` first reach a usable switch; None if these packets reach no usable
+-- switch
 abbrev pub first_stop : Cells → EndPort → Option ℕ
 first_stop cells e = stop_from (sender_of cells e) (far_port cells e.node e.port)
 
--- the GUID of the usable switch at `index`; 0 if there is none
+-- the GUID of the usable switch at `index`; 0 if there is no such switch
 abbrev pub guid_at : Cells → ℕ → ℕ
 guid_at cells index = slice_index_or (switches cells) index 0
 
@@ -55,7 +56,7 @@ lane_if_carried lane = if nat_lt lane 15 then Some lane else None
 abbrev pub lane_number : ℕ → ℕ → ℕ → ℕ
 lane_number index out lane = 16 * (256 * index + out) + lane
 
--- the port at the far end of the wire in port `out` of the switch at `index`; 0 if there is none
+-- the port at the far end of the wire in port `out` of the switch at `index`; 0 if there is no wire
 abbrev pub port_across : Cells → ℕ → ℕ → ℕ
 port_across cells index out = far_port_by cells (256 * index + out)
 
@@ -70,11 +71,11 @@ carried said cells level stop edge =
 abbrev pub Columns : Type 0
 Columns = List (List (Option Edge))
 
--- the edge of the switch at `index` by the column at `nth`; None if the switch has none there
+-- the edge of the switch at `index` in the column at `nth`; None if the switch has none there
 abbrev pub edge_by : Columns → ℕ → ℕ → Option Edge
 edge_by columns index nth = slice_index_or (slice_index_or columns nth []) index None
 
--- the switch at `index` has the edge by some column
+-- the switch at `index` has the edge in some column
 abbrev pub HasEdge : Columns → ℕ → Edge → Type 0
 HasEdge columns index edge = (nth : ℕ) × (edge_by columns index nth ≡ Some edge)
 

@@ -1,7 +1,7 @@
 //! The LIDs that each end port holds. An end port answers packets that others send for its LIDs.
 ghost use Rattle.std.specs.Prelude.{◌≡◌, IfOk, map};
 ghost use Rattle.fact_store.specs.View.{cells_of};
-ghost use Rattle.subnet_view.specs.EndPorts.{end_ports};
+ghost use Rattle.subnet_view.specs.EndPort.{end_ports};
 ghost use Rattle.lane_channels.specs.LaneNetwork.{lists_of};
 ghost use Rattle.lane_channels.specs.Levels.{lids_held, lids_on};
 ghost use Rattle.lane_channels.specs.Senders.{HasAsked};
@@ -22,8 +22,8 @@ pub(crate) struct Asked {
     pub(crate) held_by: Vec<Vec<Lid>>,
 }
 
-/// Returns the LIDs that each sender holds if `answers` is true, otherwise no LIDs. If `answers` is true, walks over
-/// the held LIDs once for each end port.
+/// Returns the LIDs that each sender holds if `answers` is true, otherwise no LIDs. If `answers` is true, goes
+/// through the held LIDs once for each end port.
 pub(crate) fn asked_of(
     alloc: Global,
     by_lane: &LaneNetwork,
@@ -42,7 +42,7 @@ pub(crate) fn asked_of(
     Ok(Asked { answers, held_by })
 }
 
-/// Returns the LIDs that each end port holds, in the order of the end ports. Walks over the held LIDs once for each
+/// Returns the LIDs that each end port holds, in the order of the end ports. Goes through the held LIDs once for each
 /// end port.
 fn held_by(alloc: Global, network: &Network) -> Result<Vec<Vec<Lid>>, AllocError>
     ensures { IfOk result (λ held_by. lists_of held_by.items

@@ -1,10 +1,11 @@
-ghost use Rattle.std.specs.Prelude.{◌≡◌, ◌<◌, ◌+◌, ◌*◌, ◌%◌, ◌^◌, IfOk, map, slice_index_or};
+ghost use Rattle.std.specs.Prelude.{◌≡◌, ◌<◌, ◌+◌, ◌*◌, ◌^◌, IfOk, map, slice_index_or};
 ghost use Rattle.fact_store.specs.View.{cells_of};
-ghost use Rattle.subnet_view.specs.EndPorts.{end_ports};
-ghost use Rattle.lane_channels.specs.Stops.{first_stop, guid_at, lane_between, lane_if_carried, lane_number};
+ghost use Rattle.subnet_view.specs.EndPort.{end_ports};
+ghost use Rattle.lane_channels.specs.Stops.{first_stop, guid_at, lane_between, lane_if_carried};
 ghost use Rattle.lane_channels.specs.Stops.{port_across};
 
-use crate::far_ports::{far_ports, first_stops};
+use crate::far_ports::far_ports;
+use crate::stop::first_stops;
 use lanes_file::Lanes;
 use packet_walks::Network;
 use smp_bytes::{Guid, PortNum};
@@ -18,7 +19,8 @@ pub struct LaneNetwork<'a> {
     lanes: &'a Lanes,
     /// For each port of each usable switch, the port at the far end of the wire there; 0 if there is no wire.
     far_ports: Vec<PortNum>,
-    /// For each sender, the stop at which its packets first reach a usable switch; `None` if they reach none.
+    /// For each sender, the stop at which the sender's packets first reach a usable switch; `None` if they reach no
+    /// usable switch.
     firsts: Vec<Option<usize>>,
 }
 
@@ -67,8 +69,8 @@ impl<'a> LaneNetwork<'a> {
         self.lanes
     }
 
-    /// Returns, for each end port in order, the stop at which its packets first reach a usable switch, or `None` if
-    /// they reach none.
+    /// Returns, for each end port, in the order of the end ports, the stop at which the port's packets first reach a
+    /// usable switch, or `None` if they reach no usable switch.
     pub fn firsts(&self) -> &[Option<usize>]
         ensures { result.now
             ≡ map (first_stop (cells_of self.now.seen.facts)) (end_ports (cells_of self.now.seen.facts)) }
@@ -77,7 +79,7 @@ impl<'a> LaneNetwork<'a> {
     }
 
     /// Returns the lane of packets of `level` that come in at the switch at `index` by port `into` and leave it by
-    /// port `out`, or `None` if they are dropped there. Does a binary search among the maps of lanes.
+    /// port `out`, or `None` if these packets are dropped there. Does a binary search among the maps of lanes.
     pub(crate) fn lane(&self, level: u8, index: usize, into: PortNum, out: PortNum) -> Option<u8>
         ensures { result
             ≡ lane_if_carried (lane_between self.now.said (cells_of self.now.seen.facts) level index into out) }
@@ -87,8 +89,8 @@ impl<'a> LaneNetwork<'a> {
         if lane < DROPPED { Some(lane) } else { None }
     }
 
-    /// Returns the port at the far end of the wire in port `out` of the switch at `index`, or 0 if there is none. The
-    /// numbers of all channels of the switch must fit in 64 bits. Takes constant time.
+    /// Returns the port at the far end of the wire in port `out` of the switch at `index`, or 0 if there is no wire.
+    /// The numbers of all channels of the switch must fit in 64 bits. Takes constant time.
     pub(crate) fn port_across(&self, index: usize, out: PortNum) -> PortNum
         requires { 256 * index + 256 < 2 ^ 64 + 1 }
         ensures { result ≡ port_across (cells_of self.now.seen.facts) index out }
@@ -101,14 +103,7 @@ impl<'a> LaneNetwork<'a> {
 /// The least lane on which packets are dropped.
 const DROPPED: u8 = 15;
 
-/// Returns the port of `stop`, at which packets come in.
-pub(crate) fn port_of(stop: usize) -> PortNum
-    ensures { result ≡ stop % 256 }
-{
-    PortNum::new((stop % 256) as u8)
-}
-
-/// Returns the GUID of the usable switch at `index`, or 0 if there is none.
+/// Returns the GUID of the usable switch at `index`, or 0 if there is no such switch.
 fn switch_at(network: &Network, index: usize) -> Guid
     ensures { result ≡ guid_at (cells_of network.now.facts) index }
 {
@@ -120,15 +115,4 @@ fn far_port_at(far_ports: &[PortNum], number: usize) -> PortNum
     ensures { result ≡ slice_index_or far_ports.now number 0 }
 {
     far_ports.get(number).copied().unwrap_or(PortNum::new(0))
-}
-
-/// Returns the number of the channel by port `out` of the switch at `index`, on `lane`. `lane` must be below 15, and
-/// the numbers of all channels by lane of the switch must fit in 64 bits.
-pub(crate) fn lane_number(index: usize, out: PortNum, lane: u8) -> usize
-    requires within { lane < 15 }
-    requires room { 4096 * index + 4096 < 2 ^ 64 + 1 }
-    ensures is { result ≡ lane_number index out lane }
-    ensures within { result < 4096 * index + 4096 }
-{
-    16 * (256 * index + usize::from(out.number())) + usize::from(lane)
 }

@@ -4,15 +4,15 @@ ghost use Rattle.lane_channels.specs.LaneLaws.{LaneChannelsRise};
 ghost use Rattle.lane_channels.specs.LaneLaws.{AllCarried, NeverBothByLane, OneLaneSuffices};
 ghost use Rattle.lane_channels.specs.LaneStepLaws.{HeldRiseInStep, NeverBothByLaneInStep, OneLaneSufficesInStep};
 
-/// If numbers of channels on one lane rise by the held tables, then channels by lane also have numbers that rise,
+/// If numbers of channels on one lane rise under the held tables, then channels by lane also have numbers that rise,
 /// whatever the lanes and service levels are.
 #[tactic(auto, using(crate::proofs::LaneLaws::one_lane_suffices))]
 pub fn one_lane_suffices()
     ensures law { OneLaneSuffices }
 {}
 
-/// If channels by lane have numbers that rise by the held tables, then no channels by lane wait for each other in a
-/// credit loop.
+/// If channels by lane have numbers that rise under the held tables, then no channels by lane wait for each other in
+/// a credit loop.
 #[tactic(auto, using(crate::proofs::LaneLaws::never_both_by_lane))]
 pub fn never_both_by_lane()
     ensures law { NeverBothByLane }
@@ -26,9 +26,9 @@ pub fn all_carried()
 {}
 
 /// A packet that an end port of a part sends, for any LID at a service level that it has, takes channels by lane with
-/// rising numbers, wire after wire, as long as it is not dropped, if three conditions hold: numbers of channels by
-/// lane rise by facts, tables and lanes; the facts describe the part; and the part's end ports and switches hold the
-/// tables and the lanes. The part is all that is joined to some end port. The packet's level is its own or, with
+/// rising numbers, wire after wire, as long as it is not dropped, if three conditions hold: numbers of channels by lane
+/// rise according to facts, tables and lanes; the facts describe the part; and the part's end ports and switches hold
+/// the tables and the lanes. The part is all that is joined to some end port. The packet's level is its own or, with
 /// answers, that of a packet that it answers.
 pub fn lane_channels_rise()
     ensures law { LaneChannelsRise }
@@ -56,7 +56,7 @@ pub fn never_both_by_lane_in_step()
     ensures law { NeverBothByLaneInStep }
 {}
 
-/// If channels by lane have numbers that rise in a step, then they also have numbers that rise by the held tables.
+/// If channels by lane have numbers that rise in a step, then they also have numbers that rise under the held tables.
 #[tactic(auto, using(crate::proofs::StepLaws::held_rise_in_step))]
 pub fn held_rise_in_step()
     ensures law { HeldRiseInStep }

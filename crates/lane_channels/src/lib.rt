@@ -2,6 +2,7 @@
 //! switches map service levels to virtual lanes.
 #![tactic(auto)]
 
+mod dropped;
 mod far_ports;
 mod held_by;
 mod lane_network;
@@ -14,8 +15,8 @@ mod waits_by_lane;
 mod walk;
 mod walk_state;
 
+pub use dropped::Dropped;
 pub use lane_network::LaneNetwork;
 pub use loops_by_lane::{LaneOrder, lane_order};
 pub use step_by_lane::step_lane_order;
-pub use stop::Dropped;
 pub use waits_by_lane::{LaneWaits, lane_waits};

@@ -1,8 +1,8 @@
 ghost use Rattle.std.specs.Prelude.{◌≡◌, IfOk};
 ghost use Rattle.lane_channels.specs.Waiting.{IsLaneCycle, IsSomeDrop, NoneShorter, cycle_in};
 
+use crate::dropped::Dropped;
 use crate::lane_network::LaneNetwork;
-use crate::stop::Dropped;
 use crate::waits_by_lane::lane_waits;
 use audit_channels::{ChannelOrder, order_channels};
 use std::alloc::{AllocError, Global};

@@ -3,7 +3,7 @@ ghost use Rattle.std.specs.Prelude.{◌≡◌, [], ◌∷◌, IfOk};
 ghost use Rattle.fact_store.specs.View.{cells_of};
 ghost use Rattle.packet_walks.specs.Edges.{edges_of};
 ghost use Rattle.lane_channels.specs.AnyTables.{AreWaitsByAny, IsCycleByAny, IsSomeDropByAny, NoneShorterByAny};
-ghost use Rattle.lane_channels.specs.Visits.{columns_in};
+ghost use Rattle.lane_channels.specs.Visit.{columns_in};
 
 use crate::held_by::asked_of;
 use crate::lane_network::LaneNetwork;
@@ -18,9 +18,9 @@ use std::alloc::{AllocError, Global};
 
 /// Returns a shortest credit loop of channels by lane in the step to the tables of `next`, if there is one, and a
 /// packet that is dropped there for want of a lane, if there is one. In the step, each switch forwards packets for a
-/// LID by its entry in the held tables or by its entry in the tables of `next`. LIDs and service levels stay as they
-/// are. `next` must have the facts of `by_lane`. If `answers` is true, packets that answer other packets also have the
-/// levels of those packets. Takes the time that `step_lane_waits` and `order_channels` take.
+/// LID according to its entry in the held tables or its entry in the tables of `next`. LIDs and service levels stay
+/// as they are. `next` must have the facts of `by_lane`. If `answers` is true, packets that answer other packets also
+/// have the levels of those packets. Takes the time that `step_lane_waits` and `order_channels` take.
 pub fn step_lane_order(
     alloc: Global,
     by_lane: &LaneNetwork,
@@ -40,10 +40,11 @@ pub fn step_lane_order(
     Ok(LaneOrder { cycle, dropped })
 }
 
-/// Follows the packets that each end port sends for each LID, at their service level. At each switch, follows them
-/// both by the switch's entry in the held tables and by its entry in the tables of `next`. `next` must have the facts
-/// of `by_lane`. If `answers` is true, packets that answer other packets also have the levels of those packets. Takes
-/// the time that `lane_waits` takes for both tables together, up to a constant factor.
+/// Follows the packets that each end port sends for each LID, at the packets' service level. At each switch, follows
+/// the packets both according to the switch's entry in the held tables and according to its entry in the tables of
+/// `next`. `next` must have the facts of `by_lane`. If `answers` is true, packets that answer other packets also have
+/// the levels of those packets. Takes the time that `lane_waits` takes for both tables together, up to a constant
+/// factor.
 fn step_lane_waits(
     alloc: Global,
     by_lane: &LaneNetwork,
@@ -75,8 +76,8 @@ fn step_lane_waits(
     })
 }
 
-/// Returns two columns under the LID of `held`: the edges by the held tables for this LID, and the edges by the next
-/// tables for the LID of `next`.
+/// Returns two columns under the LID of `held`: the edges under the held tables for this LID, and the edges under the
+/// next tables for the LID of `next`.
 fn two_columns(alloc: Global, held: &LidCursor, next: &LidCursor) -> Result<LidColumns, AllocError>
     ensures lid { IfOk result (λ columns. columns.lid ≡ held.now.lid) }
     ensures columns { IfOk result (λ columns. columns_in columns

@@ -5,16 +5,16 @@ ghost use Rattle.fact_store.specs.View.{cells_of};
 ghost use Rattle.held_tables.specs.Tables.{owners_of};
 ghost use Rattle.lane_channels.specs.LaneNetwork.{lists_of};
 ghost use Rattle.lane_channels.specs.Senders.{AnswersOf, AnswersTo, HasAsked, IsNothing, SentFor, SentFrom};
-ghost use Rattle.lane_channels.specs.Visits.{AreWithin, columns_in, walked};
+ghost use Rattle.lane_channels.specs.Visit.{AreWithin, columns_in, walked};
 ghost use Rattle.lane_channels.specs.Waiting.{AreLaneWaits, IsSomeDrop};
-ghost use Rattle.lane_channels.specs.Walks.{AreFollowed, BeginsIf};
+ghost use Rattle.lane_channels.specs.Walk.{AreFollowed, BeginsIf};
 ghost use Rattle.lanes_file.specs.Lanes.{level_of};
-ghost use Rattle.subnet_view.specs.EndPorts.{end_ports};
+ghost use Rattle.subnet_view.specs.EndPort.{end_ports};
 ghost use Rattle.subnet_view.specs.Reading.{switches};
 
+use crate::dropped::Dropped;
 use crate::held_by::{Asked, asked_of};
 use crate::lane_network::LaneNetwork;
-use crate::stop::Dropped;
 use crate::walk::walk;
 use crate::walk_state::{LidColumns, Walks};
 use audit_channels::Waits;
@@ -176,9 +176,9 @@ fn lids_at(held_by: &[Vec<Lid>], index: usize) -> &[Lid]
     &held_by[index]
 }
 
-/// Follows a packet of `level` from the stop `first` on. Follows none if `level` or `first` is `None`. The level must
-/// be below 16, and the LID of `columns` must not be 0. `walks` must have 4096 channels and 4096 marks for each usable
-/// switch. There must be fewer than 2^52 usable switches, and at most as many edges in each column.
+/// Follows a packet of `level`, starting at the stop `first`. Follows none if `level` or `first` is `None`. The level
+/// must be below 16, and the LID of `columns` must not be 0. `walks` must have 4096 channels and 4096 marks for each
+/// usable switch. There must be fewer than 2^52 usable switches, and at most as many edges in each column.
 fn walk_at_level(
     by_lane: &LaneNetwork,
     columns: &LidColumns,
@@ -201,9 +201,10 @@ fn walk_at_level(
     }
 }
 
-/// Follows, from the stop `first` on, the answers to packets that each of `owners` sends for each of `lids`. Follows
-/// none if `first` is `None`. The LID of `columns` must not be 0. `walks` must have 4096 channels and 4096 marks for
-/// each usable switch. There must be fewer than 2^52 usable switches, and at most as many edges in each column.
+/// Follows, starting at the stop `first`, the answers to packets that each of `owners` sends for each of `lids`.
+/// Follows none if `first` is `None`. The LID of `columns` must not be 0. `walks` must have 4096 channels and 4096
+/// marks for each usable switch. There must be fewer than 2^52 usable switches, and at most as many edges in each
+/// column.
 fn follow_answers(
     by_lane: &LaneNetwork,
     columns: &LidColumns,
@@ -237,8 +238,8 @@ fn level_from(lanes: &Lanes, port: &EndPort, lid: Lid) -> Option<u8>
     lanes.level(port.node, port.port, lid)
 }
 
-/// Follows, from the stop `first` on, the answers to packets that `asker` sends for each of `lids`. Follows none if
-/// `first` is `None`. The LID of `columns` must not be 0. `walks` must have 4096 channels and 4096 marks for each
+/// Follows, starting at the stop `first`, the answers to packets that `asker` sends for each of `lids`. Follows none
+/// if `first` is `None`. The LID of `columns` must not be 0. `walks` must have 4096 channels and 4096 marks for each
 /// usable switch. There must be fewer than 2^52 usable switches, and at most as many edges in each column.
 fn follow_answers_to(
     by_lane: &LaneNetwork,

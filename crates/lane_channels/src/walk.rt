@@ -1,20 +1,20 @@
-//! Packets followed from stop to stop, over all mixtures of several tables.
+//! Packets followed from stop to stop, under all mixtures of several tables.
 ghost use Rattle.std.specs.Prelude.{◌≡◌, ◌<◌, ◌≤◌, ◌*◌, ◌^◌, OnOk, length};
 ghost use Rattle.std.specs.Option.{option_to_list};
 ghost use Rattle.fact_store.specs.View.{cells_of};
 ghost use Rattle.subnet_view.specs.Reading.{switches};
-ghost use Rattle.lane_channels.specs.Visits.{AreWithin, columns_in, walked};
-ghost use Rattle.lane_channels.specs.Walks.{AreFollowed, Begins};
+ghost use Rattle.lane_channels.specs.Visit.{AreWithin, columns_in, walked};
+ghost use Rattle.lane_channels.specs.Walk.{AreFollowed, Begins};
 
 use crate::lane_network::LaneNetwork;
 use crate::visit::visit_if_new;
 use crate::walk_state::{LidColumns, Walks};
 use std::alloc::AllocError;
 
-/// Follows a packet of `level` from the stop `first` on, at each stop along the edge of each column. Follows none if
-/// `first` is `None`. `level` must be below 16, and the LID of `columns` must not be 0. `walks` must have 4096
-/// channels and 4096 marks for each usable switch. There must be fewer than 2^52 usable switches, and at most as many
-/// edges in each column.
+/// Follows a packet of `level`, starting at the stop `first`, at each stop along the edge of each column. Follows
+/// none if `first` is `None`. `level` must be below 16, and the LID of `columns` must not be 0. `walks` must have
+/// 4096 channels and 4096 marks for each usable switch. There must be fewer than 2^52 usable switches, and at most as
+/// many edges in each column.
 pub(crate) fn walk(
     by_lane: &LaneNetwork,
     columns: &LidColumns,

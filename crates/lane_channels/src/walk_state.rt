@@ -1,9 +1,9 @@
 //! What is known while packets for one LID are followed from stop to stop.
 ghost use Rattle.std.specs.Prelude.{◌≡◌, MatchOption, Some};
 ghost use Rattle.lane_channels.specs.Stops.{edge_by};
-ghost use Rattle.lane_channels.specs.Visits.{IsNoOther, columns_in};
+ghost use Rattle.lane_channels.specs.Visit.{IsNoOther, columns_in};
 
-use crate::stop::Dropped;
+use crate::dropped::Dropped;
 use audit_channels::{Waits, edge_of};
 use port_graph::Edge;
 use smp_bytes::Lid;
@@ -31,7 +31,7 @@ pub(crate) struct LidColumns {
 }
 
 impl LidColumns {
-    /// Returns the edge of the switch at `index` by the column at `nth`. Returns `None` if there is none, or if `nth`
+    /// Returns the edge of the switch at `index` in the column at `nth`. Returns `None` if there is none, or if `nth`
     /// is not 0 and the first column has this edge. Takes constant time.
     pub(crate) fn other_edge(&self, index: usize, nth: usize) -> Option<Edge>
         ensures { MatchOption result (IsNoOther (columns_in self.now) index nth)
@@ -45,7 +45,7 @@ impl LidColumns {
         if edge == first { None } else { edge }
     }
 
-    /// Returns the edge of the switch at `index` by the column at `nth`, or `None` if there is none. Takes constant
+    /// Returns the edge of the switch at `index` in the column at `nth`, or `None` if there is none. Takes constant
     /// time.
     fn edge(&self, index: usize, nth: usize) -> Option<Edge>
         ensures { result ≡ edge_by (columns_in self.now) index nth }

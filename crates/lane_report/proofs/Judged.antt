@@ -3,12 +3,12 @@ use Rattle.std.proofs.Common.{◌≡◌, ℕ, List, [], ◌∷◌, Option, None,
 use Rattle.fact_store.specs.View.{cells_of}
 use Rattle.audit_counts.specs.FirstFew.{Listed}
 use Rattle.audit_report.specs.Passing.{CanRise, DeliversWithin}
-use Rattle.lane_channels.specs.declared.stop.Dropped.{Dropped}
+use Rattle.lane_channels.specs.declared.dropped.Dropped.{Dropped}
 use Rattle.lane_channels.specs.LaneNetwork.{SeenByLane}
 use Rattle.lane_channels.specs.Waiting.{IsDroppedByLane, IsLaneCycle, IsSomeDrop, RiseByLane}
 use Rattle.lane_channels.proofs.LaneLaws.{never_both_by_lane, one_lane_suffices}
 use Rattle.lane_report.specs.declared.levels_missing.PacketPair.{PacketPair}
-use Rattle.lane_report.specs.RunLaneAudit.{IsFoundByLane, IsSoundByLane, PassesByLane}
+use Rattle.lane_report.specs.LaneRun.{IsFoundByLane, IsSoundByLane, PassesByLane}
 use Rattle.lane_report.specs.LevelsMissing.{missing_levels}
 
 none_of : {X : Type 0} (xs : List X) → length xs ≡ 0 → xs ≡ []

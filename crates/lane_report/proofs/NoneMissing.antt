@@ -3,14 +3,14 @@ use Rattle.std.proofs.Common.{◌≡◌, ◌∙◌, ◌++◌, ◌&&◌, ℕ, Boo
 use Rattle.std.specs.Prelude.{◌/◌, ◌%◌, filter, find, is_some, map, nat_lt, slice_index}
 use Rattle.std.specs.List.{flat_map}
 use Rattle.std.proofs.Math.Seq.{take-nil}
-use Rattle.subnet_view.specs.EndPorts.{end_ports}
+use Rattle.subnet_view.specs.EndPort.{end_ports}
 use Rattle.subnet_view.specs.Reading.{Cells}
 use Rattle.held_tables.specs.declared.held.HeldLid.{HeldLid}
 use Rattle.held_tables.specs.Held.{HeldPlan}
 use Rattle.held_tables.specs.Tables.{is_owner, is_same_end, lines_of}
 use Rattle.audit_counts.specs.declared.site.Site.{Site}
 use Rattle.audit_counts.specs.FirstFew.{Listed, all_listed}
-use Rattle.audit_counts.specs.Sites.{are_adapters, are_joined, site_of}
+use Rattle.audit_counts.specs.Site.{are_adapters, are_joined, site_of}
 use Rattle.lanes_file.specs.Carried.{has_level_for_all}
 use Rattle.lanes_file.specs.Lanes.{LanesSaid, is_block, level_by, level_of}
 use Rattle.lanes_file.specs.declared.lanes.LevelBlock.{LevelBlock}

@@ -7,7 +7,7 @@ use Rattle.smp_bytes.proofs.Members.{list_all_at}
 use Rattle.held_tables.specs.declared.held.HeldLid.{HeldLid}
 use Rattle.held_tables.specs.Tables.{is_same_end}
 use Rattle.audit_counts.specs.declared.site.Site.{Site}
-use Rattle.audit_counts.specs.Sites.{are_adapters, are_joined}
+use Rattle.audit_counts.specs.Site.{are_adapters, are_joined}
 use Rattle.lanes_file.specs.Lanes.{LanesSaid, level_by}
 use Rattle.lanes_file.specs.declared.lanes.LevelBlock.{LevelBlock}
 use Rattle.lane_report.specs.declared.level_row.RowSender.{RowSender}

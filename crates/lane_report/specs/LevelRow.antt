@@ -1,5 +1,5 @@
--- The end ports whose packets may lack a service level, for 64 LIDs at a time. An audit by lane looks at these instead
--- of all end ports.
+-- The end ports whose packets may lack a service level, for 64 LIDs at a time: those of a block, the first of which
+-- is 64 times the block's number. An audit by lane looks at these instead of all end ports.
 use Rattle.std.specs.Prelude.{ℕ, ◌%◌, ◌≡◌, Bool, false, not, List, filter, find, map, Option, None, Some, nat_lt}
 use Rattle.std.specs.Prelude.{slice_index}
 use Rattle.std.specs.List.{list_all, range_with_len}
@@ -11,8 +11,8 @@ use Rattle.lane_report.specs.declared.level_row.RowSender.{RowSender}
 use Rattle.lane_report.specs.declared.levels_missing.PacketPair.{PacketPair}
 use Rattle.lane_report.specs.LevelsMissing.{lacks, pair_of}
 
--- the block of levels of packets from the end port of `site` to the LIDs from 64 times `number` on; None if the text
--- has no such block
+-- the block of levels of packets from the end port of `site` to the LIDs of the block `number`; None if the text has
+-- no such block
 abbrev pub block_of : LanesSaid → ℕ → Site → Option LevelBlock
 block_of said number site = find (is_block site.port.node site.port.port number) said.levels
 
@@ -25,15 +25,15 @@ abbrev pub is_full : Option LevelBlock → Bool
 is_full None = false
 is_full (Some block) = gives_each block
 
--- the end port of `site` with its levels for the LIDs from 64 times `number` on
+-- the end port of `site` with its levels for the LIDs of the block `number`
 abbrev pub sender_at : LanesSaid → ℕ → Site → RowSender
 sender_at said number site = record { site = site; block = block_of said number site }
 
--- the end ports of `sites` whose packets may lack a level for one of the LIDs from 64 times `number` on
+-- the end ports of `sites` whose packets may lack a level for one of the LIDs of the block `number`
 abbrev pub row_of : LanesSaid → List Site → ℕ → List RowSender
 row_of said sites number = filter (λ sender. not (is_full sender.block)) (map (sender_at said number) sites)
 
--- `senders` is the row of `sites` for the LIDs from 64 times `number` on
+-- `senders` is the row of `sites` for the LIDs of the block `number`
 abbrev pub IsRow : LanesSaid → List Site → ℕ → List RowSender → Type 0
 IsRow said sites number senders = senders ≡ row_of said sites number
 

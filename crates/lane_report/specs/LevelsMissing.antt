@@ -3,12 +3,12 @@ use Rattle.std.specs.Prelude.{ℕ, ◌&&◌, Bool, not, List, [], filter, map, O
 use Rattle.std.specs.Prelude.{if◌then◌else◌}
 use Rattle.std.specs.List.{flat_map}
 use Rattle.subnet_view.specs.Reading.{Cells}
-use Rattle.subnet_view.specs.EndPorts.{end_ports}
+use Rattle.subnet_view.specs.EndPort.{end_ports}
 use Rattle.held_tables.specs.declared.held.HeldLid.{HeldLid}
 use Rattle.held_tables.specs.Held.{HeldPlan}
 use Rattle.held_tables.specs.Tables.{is_owner, is_same_end, lines_of}
 use Rattle.audit_counts.specs.declared.site.Site.{Site}
-use Rattle.audit_counts.specs.Sites.{are_adapters, are_joined, site_of}
+use Rattle.audit_counts.specs.Site.{are_adapters, are_joined, site_of}
 use Rattle.lanes_file.specs.Lanes.{LanesSaid, level_of}
 use Rattle.lane_report.specs.declared.levels_missing.PacketPair.{PacketPair}
 

@@ -3,11 +3,12 @@ ghost use Rattle.std.specs.Prelude.{◌↔◌, IsTrue};
 ghost use Rattle.fact_store.specs.View.{cells_of};
 ghost use Rattle.lft_blocks.specs.WritesPart.{WritesPart};
 ghost use Rattle.lane_report.specs.LaneText.{lanes_text};
-ghost use Rattle.lane_report.specs.RunLaneAudit.{IsSoundByLane};
+ghost use Rattle.lane_report.specs.LaneRun.{IsSoundByLane};
 
-use crate::lane_text::{write_dropped, write_lane_cycle, write_missing};
+use crate::lane_text::{write_dropped, write_missing};
 use crate::levels_missing::PacketPair;
 use audit_counts::FirstFew;
+use audit_report::{ChannelKind, write_cycle};
 use byte_io::{Sink, WriteFault};
 use lane_channels::LaneOrder;
 use packet_walks::Network;
@@ -39,6 +40,6 @@ impl LaneFindings {
     {
         write_missing(sink, &self.missing)?;
         write_dropped(sink, network, self.order.dropped)?;
-        write_lane_cycle(sink, network, &self.order.cycle)
+        write_cycle(sink, network, ChannelKind::ByLane, &self.order.cycle)
     }
 }

@@ -3,10 +3,10 @@ ghost use Rattle.std.specs.Prelude.{◌≡◌, ◌≤◌, ◌⊎◌, ◌++◌, E
 ghost use Rattle.std.specs.Io.KnownBytes.{Appends};
 ghost use Rattle.fact_store.specs.View.{cells_of};
 ghost use Rattle.audit_report.specs.AuditText.{findings_text};
-ghost use Rattle.audit_report.specs.RunAudit.{IsAnswerFault};
+ghost use Rattle.audit_report.specs.AuditRun.{IsAnswerFault};
 ghost use Rattle.lane_report.specs.LaneText.{lanes_text};
-ghost use Rattle.lane_report.specs.RunLaneAudit.{HasAuditedByLane, IsAuditedByLane, IsFoundByLane, IsLaneAuditFault};
-ghost use Rattle.lane_report.specs.RunLaneAudit.{IsLaneAnswer, seen_of};
+ghost use Rattle.lane_report.specs.LaneRun.{HasAuditedByLane, IsAuditedByLane, IsFoundByLane, IsLaneAuditFault};
+ghost use Rattle.lane_report.specs.LaneRun.{IsLaneAnswer, seen_of};
 ghost use Rattle.lane_channels.specs.Waiting.{IsLaneCycle, IsSomeDrop, NoneShorter};
 ghost use Rattle.byte_io.specs.Writes.{Writes};
 ghost use Rattle.sm_cli.specs.InputLanes.{AreLanesAndFiles, AreNoLanesAndFiles};
@@ -31,10 +31,10 @@ pub struct LaneAuditAsked {
     pub answers: bool,
 }
 
-/// Reads the lanes from the first input, the tables from the second and then the files in order. Writes what these
-/// tables do with the packets of the subnet that the files describe together, with credit loops by lane, and flushes.
-/// Returns whether the tables pass by lane and no channel has a load over `asked.audit.max_load`. There must be at
-/// least two inputs.
+/// Reads the lanes from the first input, the tables from the second, and then the files from the other inputs, one
+/// after the other. Writes what these tables do with the packets of the subnet that the files describe together, with
+/// credit loops by lane, and flushes. Returns whether the tables pass by lane and, if there is an
+/// `asked.audit.max_load`, no channel has a greater load. There must be at least two inputs.
 ///
 /// # Errors
 ///
@@ -86,8 +86,9 @@ fn parts(told: LanesAndFiles) -> (Lanes, TablesAndFacts)
     (lanes, read)
 }
 
-/// Writes the audit by `lanes` of the tables and the subnet that `read` has, and flushes. Returns whether the tables
-/// pass by lane and no channel has a load over `asked.audit.max_load`.
+/// Writes the audit, by `lanes`, of the tables `read.held` in the subnet of `read.store`, and flushes. Returns
+/// whether the tables pass by lane and, if there is an `asked.audit.max_load`, no channel has a greater load. If the
+/// fault is not `Write`, nothing was written.
 fn answer<W: Sink>(
     alloc: Global,
     sink: &mut W,
@@ -160,8 +161,9 @@ fn order_by_lane(
     Ok(lane_order(alloc, &by_lane, answers)?)
 }
 
-/// Writes what an audit found, and flushes. Returns whether the tables pass by lane and no channel has a load over
-/// `asked.audit.max_load`. `found` must be the findings by `lanes` and `asked.answers` in the network of `audit`.
+/// Writes what `audit` and `found` found, and flushes. Returns whether the tables pass by lane and, if there is an
+/// `asked.audit.max_load`, no channel has a greater load. If the fault is not `Write`, nothing was written. `found`
+/// must be the findings according to `lanes` and `asked.answers` in the network of `audit`.
 fn tell<W: Sink>(
     sink: &mut W,
     asked: &LaneAuditAsked,

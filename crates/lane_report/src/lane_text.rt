@@ -1,12 +1,11 @@
 //! What an audit finds by lane, as text.
-ghost use Rattle.std.specs.Prelude.{◌≡◌, OnOk, slice_index_or};
+ghost use Rattle.std.specs.Prelude.{◌≡◌};
 ghost use Rattle.std.specs.List.{flat_map};
 ghost use Rattle.fact_store.specs.View.{cells_of};
 ghost use Rattle.byte_io.specs.Writes.{Writes};
 ghost use Rattle.lft_blocks.specs.WritesPart.{WritesPart};
 ghost use Rattle.lane_channels.specs.Stops.{guid_at};
-ghost use Rattle.lane_report.specs.LaneText.{channel_text, channels_text, cycle_line, drop_line, dropped_text};
-ghost use Rattle.lane_report.specs.LaneText.{missing_text, pair_line};
+ghost use Rattle.lane_report.specs.LaneText.{drop_line, dropped_text, missing_text, pair_line};
 
 use crate::levels_missing::PacketPair;
 use audit_counts::FirstFew;
@@ -14,7 +13,7 @@ use audit_report::write_more;
 use byte_io::{Sink, WriteFault, write_guid, write_number, write_port};
 use lane_channels::Dropped;
 use packet_walks::Network;
-use smp_bytes::{Guid, PortNum};
+use smp_bytes::Guid;
 
 /// Writes the first packets without a service level, and how many more there are.
 pub(crate) fn write_missing<W: Sink>(
@@ -80,63 +79,6 @@ fn write_drop<W: Sink>(sink: &mut W, network: &Network, dropped: Dropped) -> Res
     sink.write(b" level ")?;
     write_number(sink, u64::from(dropped.level))?;
     sink.write(b"\n")
-}
-
-/// Writes the line of the credit loop `cycle` by lane, or that there is none if `cycle` is empty.
-pub(crate) fn write_lane_cycle<W: Sink>(
-    sink: &mut W,
-    network: &Network,
-    cycle: &[usize],
-) -> Result<(), WriteFault>
-    ensures { WritesPart W.written W.has_failed result sink.old sink.new
-        (cycle_line (cells_of network.now.facts) cycle.now) }
-{
-    sink.write(b"credit loop")?;
-    write_channels(sink, network, cycle)?;
-    sink.write(b"\n")
-}
-
-/// Writes the channels of the credit loop `cycle`, or that there is none if `cycle` is empty.
-fn write_channels<W: Sink>(
-    sink: &mut W,
-    network: &Network,
-    cycle: &[usize],
-) -> Result<(), WriteFault>
-    ensures { WritesPart W.written W.has_failed result sink.old sink.new
-        (channels_text (cells_of network.now.facts) cycle.now) }
-{
-    if cycle.is_empty() {
-        return sink.write(b" none");
-    }
-    sink.write(b" by lane")?;
-    write_each_channel(sink, network, cycle)
-}
-
-/// Writes each of `channels`, with a space before it.
-fn write_each_channel<W: Sink>(
-    sink: &mut W,
-    network: &Network,
-    channels: &[usize],
-) -> Result<(), WriteFault>
-    ensures { WritesPart W.written W.has_failed result sink.old sink.new
-        (flat_map (channel_text (cells_of network.now.facts)) channels.now) }
-{
-    for channel in channels {
-        write_channel(sink, network, *channel)?;
-    }
-    Ok(())
-}
-
-/// Writes a space, and the switch, the outgoing port and the lane of `channel`.
-fn write_channel<W: Sink>(sink: &mut W, network: &Network, channel: usize) -> Result<(), WriteFault>
-    ensures { Writes W.written W.has_failed result sink.old sink.new
-        (channel_text (cells_of network.now.facts) channel) }
-{
-    sink.write(b" ")?;
-    let port = PortNum::new((channel / 16 % 256) as u8);
-    write_port(sink, switch_at(network, channel / 4096), port)?;
-    sink.write(b" vl ")?;
-    write_number(sink, channel as u64 % 16)
 }
 
 /// Returns the GUID of the usable switch at `index`, or GUID 0 if no usable switch has this index.

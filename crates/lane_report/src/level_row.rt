@@ -20,14 +20,14 @@ pub(crate) struct RowSender {
 /// The end ports whose packets may lack a service level for one of 64 LIDs in a row.
 #[derive(Drop)]
 pub(crate) struct LevelRow {
-    /// The number of the block of LIDs: the 64 LIDs from 64 times this number on.
+    /// The number of the block of LIDs: 64 consecutive LIDs, the first of which is 64 times this number.
     pub number: u16,
-    /// The end ports that have no block with a level for each of these LIDs, in order.
+    /// The end ports that have no block with a level for each of these LIDs, in the order of the sites.
     pub senders: Vec<RowSender>,
 }
 
 impl LevelRow {
-    /// Returns the row of `sites` for the 64 LIDs from 64 times `number` on. Does a binary search in `lanes` for each
+    /// Returns the row of `sites` for the 64 LIDs of the block `number`. Does a binary search in `lanes` for each
     /// site.
     pub(crate) fn of(
         alloc: Global,
@@ -42,8 +42,8 @@ impl LevelRow {
         Ok(LevelRow { number, senders })
     }
 
-    /// Returns the row of `sites` for the 64 LIDs from 64 times `number` on. `self` must be a row of `sites` by
-    /// `lanes`. Takes constant time if `self` has this number already.
+    /// Returns the row of `sites` for the 64 LIDs of the block `number`. `self` must be a row of `sites` by `lanes`.
+    /// Takes constant time if `self` has this number already.
     pub(crate) fn turned_to(
         self,
         alloc: Global,

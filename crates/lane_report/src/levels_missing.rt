@@ -1,9 +1,9 @@
 //! Packets without a service level.
 ghost use Rattle.std.specs.Prelude.{◌≡◌, ◌++◌, ℕ, IfOk, List, OnOk, map};
 ghost use Rattle.fact_store.specs.View.{cells_of};
-ghost use Rattle.subnet_view.specs.EndPorts.{end_ports};
+ghost use Rattle.subnet_view.specs.EndPort.{end_ports};
 ghost use Rattle.audit_counts.specs.FirstFew.{all_listed};
-ghost use Rattle.audit_counts.specs.Sites.{site_of};
+ghost use Rattle.audit_counts.specs.Site.{site_of};
 ghost use Rattle.lane_report.specs.declared.levels_missing.PacketPair.{PacketPair as Pair};
 ghost use Rattle.lane_report.specs.LevelRow.{missing_in_row, sender_lacks};
 ghost use Rattle.lane_report.specs.LevelsMissing.{missing_levels};
@@ -48,7 +48,8 @@ pub fn pairs_without_level(
 }
 
 /// Counts the packets without a service level that adapter ports send to the LIDs of other adapter ports of their
-/// components. Keeps the first `most` packets. `sites` must have the site of each end port, in order.
+/// components. Keeps the first `most` packets. `sites` must have the site of each end port, in the order of the end
+/// ports.
 fn pairs_at_sites(
     alloc: Global,
     most: usize,

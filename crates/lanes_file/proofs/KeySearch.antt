@@ -15,19 +15,18 @@ use Rattle.std.proofs.lemmas.Bool.{cases_lt}
 use Rattle.std.proofs.lemmas.Cmp.{nat_cmp_total, on_total, then_total}
 use Rattle.std.proofs.lemmas.List.Sorted.{searchable_from_sorted}
 use Rattle.std.proofs.lemmas.Map.Lookups.{exact_pairs}
+use Rattle.smp_bytes.proofs.NodePorts.{node_port_exact, node_port_total}
 use Rattle.lanes_file.specs.Keys.{Key, key_cmp, map_key, block_key}
 use Rattle.lanes_file.specs.Lanes.{is_block, is_map}
 use Rattle.lanes_file.specs.declared.lanes.LaneMap.{LaneMap}
 use Rattle.lanes_file.specs.declared.lanes.LevelBlock.{LevelBlock}
 
 pub key_total : IsTotalOrder key_cmp
-key_total =
-    then_total (then_total (on_total (λ (k : Key). k.0.0) nat_cmp_total) (on_total (λ (k : Key). k.0.1) nat_cmp_total))
-    (on_total (λ (k : Key). k.1) nat_cmp_total)
+key_total = then_total (on_total (λ (k : Key). k.0) node_port_total) (on_total (λ (k : Key). k.1) nat_cmp_total)
 
 -- keys that tie are the same
 same_key : (a b : Key) → key_cmp a b ≡ Equal → a ≡ b
-same_key = exact_pairs _ _ (exact_pairs _ _ nat_cmp-IsAntisymmetric nat_cmp-IsAntisymmetric) nat_cmp-IsAntisymmetric
+same_key = exact_pairs _ _ node_port_exact nat_cmp-IsAntisymmetric
 
 and_assoc : (a b c : Bool) → (a && b && c) ≡ ((a && b) && c)
 and_assoc true b c = refl

@@ -9,14 +9,14 @@ use Rattle.std.specs.declared.cmp.Ordering.{Ordering}
 use Rattle.std.specs.declared.cmp.Ordering.TheVariants.{Less, Equal, Greater}
 use Rattle.std.proofs.lemmas.Bool.{cond_both, leb-true, ltb-false}
 use Rattle.std.proofs.lemmas.List.{map-append}
-use Rattle.text_words.specs.Number.{number_of}
+use Rattle.text_words.specs.Numbers.{number_of}
 use Rattle.text_words.specs.Text.{lines, words}
 use Rattle.lanes_file.specs.declared.lanes.LaneMap.{LaneMap}
 use Rattle.lanes_file.specs.declared.lanes.LevelBlock.{LevelBlock}
 use Rattle.lanes_file.specs.declared.lanes_item.LanesItem.{LanesItem}
 use Rattle.lanes_file.specs.declared.lanes_item.LanesItem.TheVariants as item
-use Rattle.lanes_file.specs.declared.line.LanesLine.{LanesLine}
-use Rattle.lanes_file.specs.declared.line.LanesLine.TheVariants as line
+use Rattle.lanes_file.specs.declared.lanes_line.LanesLine.{LanesLine}
+use Rattle.lanes_file.specs.declared.lanes_line.LanesLine.TheVariants as line
 use Rattle.lanes_file.specs.declared.lines_before.LinesBefore.{LinesBefore}
 use Rattle.lanes_file.specs.Keys.{Key, key_cmp, is_after, map_key, block_key}
 use Rattle.lanes_file.specs.Lanes.{LanesSaid, nothing_said}
@@ -26,7 +26,7 @@ use Rattle.lanes_file.specs.LanesTextFault.{LanesLineFault}
 use Rattle.lanes_file.specs.WellFormed.{AreLanes, HasLanes, IsWellFormed}
 use Rattle.lanes_file.specs.Reading.{block_after, block_with, is_no_lane, is_no_level, item_of, items_from, lanes_said, lanes_with, level_with, lines_after}
 use Rattle.lanes_file.specs.Reading.{map_after, map_with, start, then_or}
-use Rattle.text_words.specs.Number.{at_most, small_of}
+use Rattle.text_words.specs.Numbers.{at_most, small_of}
 use Rattle.text_words.specs.Text.{only_word}
 use Rattle.lanes_file.proofs.KeySearch.{key_total}
 

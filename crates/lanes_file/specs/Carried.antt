@@ -13,22 +13,23 @@ has_lane level lanes = nat_lt (slice_index_or lanes level 15) 15
 abbrev pub map_has_lane : ℕ → LaneMap → Bool
 map_has_lane level map = has_lane level map.lanes
 
--- packets of service level `level` have a lane below 15 by each of `maps` and, if they have no map, by `lanes`
+-- each of `maps` gives packets of service level `level` a lane below 15, and so does `lanes`, for packets that have
+-- no map
 abbrev pub carries : List ℕ → List LaneMap → ℕ → Bool
 carries lanes maps level = has_lane level lanes && list_all (map_has_lane level) maps
 
--- each service level that any packets have has a lane below 15 by each of `maps` and, for packets that have no map, by
--- `lanes`. `own` is the level of packets that get none from a block
+-- each of `maps` gives a lane below 15 to each service level that any packets have, and so does `lanes`, for packets
+-- that have no map. `own` is the level of packets that get none from a block
 abbrev pub each_is_carried : List ℕ → List LaneMap → Option ℕ → List LevelBlock → Bool
 each_is_carried lanes maps own blocks =
     list_all (λ level. carries lanes maps level || not (gives own blocks level)) (range_with_len 0 16)
 
--- each service level that `said` gives to any packets has a lane below 15 by each map of `said` and, for packets that
--- have no map, by its lanes
+-- each map of `said` gives a lane below 15 to each service level that `said` gives to any packets, and so do the
+-- lanes of `said`, for packets that have no map
 abbrev pub carries_all : LanesSaid → Bool
 carries_all said = each_is_carried said.lanes said.maps said.level said.levels
 
--- by `said`, each packet that has a service level has a lane below 15 in each switch, between any two ports
+-- according to `said`, each packet that has a service level has a lane below 15 in each switch, between any two ports
 abbrev pub CarriesAll : LanesSaid → Type 0
 CarriesAll said =
     (node port lid level : ℕ) → level_of said node port lid ≡ Some level

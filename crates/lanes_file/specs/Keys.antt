@@ -3,6 +3,7 @@
 use Rattle.std.specs.Prelude.{ℕ, Bool, true, Option, None, Some}
 use Rattle.std.specs.declared.cmp.Ordering.{Ordering}
 use Rattle.std.specs.Ordering.{is_lt, nat_cmp, ordering_then}
+use Rattle.smp_bytes.specs.Ports.{node_port_cmp}
 use Rattle.lanes_file.specs.declared.lanes.LaneMap.{LaneMap}
 use Rattle.lanes_file.specs.declared.lanes.LevelBlock.{LevelBlock}
 
@@ -12,7 +13,7 @@ Key = (ℕ × ℕ) × ℕ
 
 -- the order of keys: by the GUID, then by the first number, then by the second
 abbrev pub key_cmp : Key → Key → Ordering
-key_cmp a b = ordering_then (ordering_then (nat_cmp a.0.0 b.0.0) (nat_cmp a.0.1 b.0.1)) (nat_cmp a.1 b.1)
+key_cmp a b = ordering_then (node_port_cmp a.0 b.0) (nat_cmp a.1 b.1)
 
 -- `key` is greater than `last`, the key before it; true if there is no key before it, so that `last` is None
 abbrev pub is_after : Option Key → Key → Bool

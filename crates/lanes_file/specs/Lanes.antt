@@ -46,7 +46,7 @@ lanes_between said node into out = lanes_by said.lanes (find (is_map node into o
 abbrev pub lane_of : LanesSaid → ℕ → ℕ → ℕ → ℕ → ℕ
 lane_of said node into out level = slice_index_or (lanes_between said node into out) level 15
 
--- `block` has the levels of packets from `port` of `node` to the LIDs from 64 times `number` on
+-- `block` has the levels of packets from `port` of `node` to the 64 LIDs that start at 64 times `number`
 abbrev pub is_block : ℕ → ℕ → ℕ → LevelBlock → Bool
 is_block node port number block = block.node == node && block.port == port && block.number == number
 

@@ -2,12 +2,12 @@
 use Rattle.std.specs.Prelude.{ℕ, List, [], ◌∷◌, Option, None, Some, option_map, option_and_then, codes, if◌then◌else◌}
 use Rattle.std.specs.Str.{bytes_eq}
 use Rattle.text_words.specs.Text.{words}
-use Rattle.lanes_file.specs.declared.line.LanesLine.{LanesLine}
-use Rattle.lanes_file.specs.declared.line.LanesLine.TheVariants.{Empty, Lanes, Map, Level, Block}
-use Rattle.lanes_file.specs.declared.line.MapLine.{MapLine}
-use Rattle.lanes_file.specs.declared.line.LevelsLine.{LevelsLine}
-use Rattle.text_words.specs.NodePort.{port_of}
-use Rattle.text_words.specs.Number.{bare_guid_of, bytes_of, small_of}
+use Rattle.lanes_file.specs.declared.lanes_line.LanesLine.{LanesLine}
+use Rattle.lanes_file.specs.declared.lanes_line.LanesLine.TheVariants.{Empty, Lanes, Map, Level, Block}
+use Rattle.lanes_file.specs.declared.lanes_line.MapLine.{MapLine}
+use Rattle.lanes_file.specs.declared.lanes_line.LevelsLine.{LevelsLine}
+use Rattle.text_words.specs.NodePorts.{port_of}
+use Rattle.text_words.specs.Numbers.{bare_guid_of, bytes_of, small_of}
 use Rattle.text_words.specs.Text.{only_word}
 
 -- the 16 bytes of a `lanes` line, given the words after its first word; None if these are not a single word that spells

@@ -1,9 +1,9 @@
 -- The faults of a text of lanes.
 use Rattle.std.specs.Prelude.{ℕ, List, codes}
-use Rattle.text_words.specs.declared.fault.LineFault.{LineFault}
-use Rattle.text_words.specs.declared.fault.LinesFault.{LinesFault}
-use Rattle.lanes_file.specs.declared.fault.LanesTextError.{LanesTextError}
-use Rattle.lanes_file.specs.declared.fault.LanesTextError.TheVariants.{Syntax, Port, Block, Lane, Level, Repeated}
+use Rattle.text_words.specs.declared.lines_fault.LineFault.{LineFault}
+use Rattle.text_words.specs.declared.lines_fault.LinesFault.{LinesFault}
+use Rattle.lanes_file.specs.declared.lanes_text_fault.LanesTextError.{LanesTextError}
+use Rattle.lanes_file.specs.declared.lanes_text_fault.LanesTextError.TheVariants.{Syntax, Port, Block, Lane, Level, Repeated}
 
 -- a fault of a line of a text of lanes, with the number of the line
 abbrev pub LanesLineFault : Type 0

@@ -1,16 +1,16 @@
--- What a text of lanes says: what its lines say in order, up to its first fault.
+-- What a text of lanes says: what its lines say, one after another, up to its first fault.
 use Rattle.std.specs.Prelude.{ℕ, ◌+◌, ◌==◌, ◌&&◌, not, Bool, true, false, List, [], ◌∷◌, Option, None, Some, Result, Ok, Err, nat_lt, if◌then◌else◌}
 use Rattle.std.specs.List.{list_any}
 use Rattle.text_words.specs.Text.{lines}
-use Rattle.lanes_file.specs.declared.fault.LanesTextError.{LanesTextError}
-use Rattle.lanes_file.specs.declared.fault.LanesTextError.TheVariants as wrong
+use Rattle.lanes_file.specs.declared.lanes_text_fault.LanesTextError.{LanesTextError}
+use Rattle.lanes_file.specs.declared.lanes_text_fault.LanesTextError.TheVariants as wrong
 use Rattle.lanes_file.specs.LanesTextFault.{LanesLineFault}
 use Rattle.lanes_file.specs.declared.lanes.LaneMap.{LaneMap}
 use Rattle.lanes_file.specs.declared.lanes.LevelBlock.{LevelBlock}
 use Rattle.lanes_file.specs.declared.lanes_item.LanesItem.{LanesItem}
 use Rattle.lanes_file.specs.declared.lanes_item.LanesItem.TheVariants.{Nothing, Lanes, Map, Level, Block}
-use Rattle.lanes_file.specs.declared.line.LanesLine.{LanesLine}
-use Rattle.lanes_file.specs.declared.line.LanesLine.TheVariants as line
+use Rattle.lanes_file.specs.declared.lanes_line.LanesLine.{LanesLine}
+use Rattle.lanes_file.specs.declared.lanes_line.LanesLine.TheVariants as line
 use Rattle.lanes_file.specs.declared.lines_before.LinesBefore.{LinesBefore}
 use Rattle.lanes_file.specs.Keys.{Key, is_after, map_key, block_key}
 use Rattle.lanes_file.specs.Lanes.{LanesSaid, nothing_said}
@@ -90,8 +90,8 @@ block_with number last node (Some port) None levels = fault_at number wrong.Bloc
 block_with number last node (Some port) (Some block) levels =
     block_after number last (record { node = node; port = port; number = block; levels = levels })
 
--- what the line with the number `number` says, after the lines before it. A fault if the grammar does not have such a
--- line, for which None is given, or if the line may not follow the lines before it
+-- what the line with the number `number` says, after the lines before it. A fault if the line is None, since the
+-- grammar has no such line, or if the line may not follow the lines before it
 abbrev pub item_of : ℕ → LinesBefore → Option LanesLine → Result LanesItem LanesLineFault
 item_of number before None = fault_at number wrong.Syntax
 item_of number before (Some line.Empty) = Ok Nothing
@@ -112,7 +112,7 @@ first_fault_from number before (l ∷ later) =
     then_or (item_of number before (line_of l))
     (λ item. first_fault_from (number + 1) (lines_after before item) later) Some
 
--- what each line before the first fault says, in order
+-- what each line before the first fault says, from the first line to the last
 abbrev pub items_from : ℕ → LinesBefore → List (List ℕ) → List LanesItem
 items_from number before [] = []
 items_from number before (l ∷ later) =

@@ -1,6 +1,6 @@
 -- The result of reading a text of lanes: what the text says, its first fault, or a lack of memory.
 use Rattle.std.specs.Prelude.{◌≡◌, List, ℕ, None, Some, Result, Ok, Err}
-use Rattle.text_words.specs.declared.fault.LinesFault.TheVariants.{Line, Memory}
+use Rattle.text_words.specs.declared.lines_fault.LinesFault.TheVariants.{Line, Memory}
 use Rattle.lanes_file.specs.LanesTextFault.{LanesTextFault}
 use Rattle.lanes_file.specs.Lanes.{LanesSaid}
 use Rattle.lanes_file.specs.Reading.{first_fault, lanes_said}

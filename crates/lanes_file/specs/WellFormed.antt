@@ -1,5 +1,5 @@
--- What is true of everything that a text of lanes can say. Lanes and the level of a `level` line are up to 15. The maps
--- and the blocks are in ascending order of their keys.
+-- What a text of lanes can say. Lanes and the level of a `level` line are up to 15. The maps and the blocks are in
+-- ascending order of their keys.
 use Rattle.std.specs.Prelude.{ℕ, ◌<◌, List, map, IfSome}
 use Rattle.std.specs.List.{AllByRecursion}
 use Rattle.std.specs.List.Sorted.{IsStrictlySortedBy}

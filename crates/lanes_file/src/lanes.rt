@@ -18,7 +18,7 @@ const NO_LANE: u8 = 15;
 /// The first number above all service levels.
 const LEVEL_END: u8 = 16;
 
-/// The lanes of packets that go from one port of a switch to another.
+/// A row of a switch's SL-to-VL map: the lanes of packets that go from one port of the switch to another.
 #[derive(Clone, Copy, Debug, PartialEq, Eq)]
 pub struct LaneMap {
     pub node: Guid,
@@ -36,7 +36,8 @@ pub struct LevelBlock {
     pub node: Guid,
     /// The number of the end port, up to 254.
     pub port: PortNum,
-    /// The number of the block, up to 767. The block has the levels of the 64 LIDs from 64 times this number on.
+    /// The number of the block, up to 767. The block has the levels of the 64 LIDs that start at 64 times this
+    /// number.
     pub number: u16,
     /// The service level for each of the LIDs, up to 15, or 255 if the block gives the LID no level.
     pub levels: [u8; 64],
@@ -63,8 +64,8 @@ impl Model for Lanes {
 }
 
 impl Lanes {
-    /// Returns what the lines of a text say. Lanes and levels must be in range, and maps and blocks must be in
-    /// ascending order.
+    /// Returns what the lines of a text say. Lanes and the level of a `level` line must be up to 15, and maps and
+    /// blocks must be in ascending order of their keys (`IsWellFormed`).
     pub(crate) fn of(said: LanesBuilder) -> Self
         requires { IsWellFormed said }
         ensures { result ≡ said }
@@ -119,8 +120,8 @@ impl Lanes {
         }
     }
 
-    /// Returns the levels of packets from `port` of `node` to the 64 LIDs from 64 times `number` on, or `None` if the
-    /// text has no such block. Does a binary search among the blocks.
+    /// Returns the levels of packets from `port` of `node` to the 64 LIDs that start at 64 times `number`, or `None`
+    /// if the text has no such block. Does a binary search among the blocks.
     pub fn block(&self, node: Guid, port: PortNum, number: u16) -> Option<&LevelBlock>
         ensures { option_copied result ≡ find (is_block node port number) self.now.levels }
     {

@@ -37,7 +37,7 @@ impl LanesBuilder {
         }
     }
 
-    /// Returns what the lines read so far say, together with a further line that says `item`.
+    /// Returns what is said after one more line, which says `item`. Returns an error if memory runs out.
     pub(crate) fn with(self, item: LanesItem) -> Result<Self, AllocError>
         ensures { IfOk result (λ said. said ≡ said_with self item) }
     {

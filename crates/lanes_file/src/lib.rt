@@ -1,14 +1,14 @@
 //! The text of lanes: the virtual lane of packets in each switch, and the service levels of end ports.
 #![tactic(auto)]
 
-mod fault;
 mod lanes;
 mod lanes_builder;
 mod lanes_item;
-mod line;
+mod lanes_line;
+mod lanes_text_fault;
 mod lines_before;
-mod text;
+mod reading;
 
-pub use fault::{LanesLineFault, LanesTextError, LanesTextFault};
 pub use lanes::{LaneMap, Lanes, LevelBlock};
-pub use text::parse;
+pub use lanes_text_fault::{LanesLineFault, LanesTextError, LanesTextFault};
+pub use reading::parse;

@@ -5,10 +5,10 @@ ghost use Rattle.lanes_file.specs.LanesLine.{line_of};
 ghost use Rattle.lanes_file.specs.Reading.{block_after, block_with, is_no_lane, is_no_level, item_of, lanes_with};
 ghost use Rattle.lanes_file.specs.Reading.{level_with, lines_after, map_after, map_with, start};
 
-use crate::fault::{LanesLineFault, LanesTextError};
 use crate::lanes::{LaneMap, LevelBlock};
 use crate::lanes_item::LanesItem;
-use crate::line::{LanesLine, LevelsLine, MapLine, read_line};
+use crate::lanes_line::{LanesLine, LevelsLine, MapLine, read_line};
+use crate::lanes_text_fault::{LanesLineFault, LanesTextError};
 use smp_bytes::{Guid, PortNum};
 
 /// The greatest lane, and the greatest service level.
@@ -17,7 +17,7 @@ const MAX_LANE: u8 = 15;
 /// The byte in a block for a LID to which the block gives no service level.
 const NO_LEVEL: u8 = 0xFF;
 
-/// What must be known of the lines read so far to check the next line.
+/// What the check of a line needs to know about the lines before it.
 #[derive(Clone, Copy)]
 pub(crate) struct LinesBefore {
     /// Whether there is a `lanes` line.
@@ -137,8 +137,8 @@ fn map_item(
 }
 
 /// Returns what an `sl2vl` line says, or what is wrong with it. `number` is the number of the line, and `map` is its
-/// map. Its lanes must be up to 15, and the map must come after `last`, which has the node and the ports of the last
-/// `sl2vl` line before it, if there is one.
+/// map. The fault is `Lane` if a lane is above 15. Otherwise it is `Repeated` if the map does not come after `last`,
+/// which has the node and the ports of the last `sl2vl` line before this one, if there is one.
 fn map_after(
     number: usize,
     last: Option<((Guid, PortNum), PortNum)>,
@@ -212,9 +212,10 @@ fn block_item(
     )
 }
 
-/// Returns what a `levels` line says, or what is wrong with it. `number` is the number of the line, and `block` is its
-/// block. Its levels must be in range, and the block must come after `last`, which has the node, the port and the
-/// number of the last `levels` line before it, if there is one.
+/// Returns what a `levels` line says, or what is wrong with it. `number` is the number of the line, and `block` is
+/// its block. The fault is `Level` if a level is above 15 and is not `ff`. Otherwise it is `Repeated` if the block
+/// does not come after `last`, which has the node, the port and the number of the last `levels` line before this one,
+/// if there is one.
 fn block_after(
     number: usize,
     last: Option<((Guid, PortNum), u16)>,

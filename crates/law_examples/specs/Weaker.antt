@@ -22,8 +22,8 @@ up_before = (key.Port 16 1, Known 1 (Up true))
 abbrev pub down_now : Key × Cell Value
 down_now = (key.Port 16 2, Known 3 (Up false))
 
--- a fact that one store forgot is not brought back by another store that has this fact, whether the floor is raised
--- before or after the merge
+-- merged facts with floor 2 have `down_now` and not `up_before`, whether the floor was raised after the merge or, in
+-- one of the two stores, before it; in the latter case, the other store still had `up_before`
 abbrev pub FloorsStayInGroupings : Type 0
 FloorsStayInGroupings =
     (cells_of (merged (of_two (of_raised (of_sightings (up_before ∷ [])) 2) (of_sightings (up_before ∷ down_now ∷ []))))

@@ -19,7 +19,7 @@ use Rattle.updown_routes.specs.Ports.{next_port_at}
 use Rattle.updown_routes.specs.Updown.{updown}
 use Rattle.lft_blocks.specs.declared.attachment.Attachment.{Attachment}
 use Rattle.lft_blocks.specs.Entries.{Next, port_to, entry, blocks}
-use Rattle.lft_blocks.specs.Attachments.{meant, IsIndexed, AreIndexed, AreWithin, row_of, entry_in, block_in, table_in}
+use Rattle.lft_blocks.specs.Attachment.{meant, IsIndexed, AreIndexed, AreWithin, row_of, entry_in, block_in, table_in}
 use Rattle.lft_blocks.specs.Plan.{SwitchTable, tables_of, AreTables}
 
 module _ (graph : List SwitchEdges) (guids : List ℕ) (theirs : guids ≡ guids_of graph) (rising : IsStrictlyIncreasing guids) where

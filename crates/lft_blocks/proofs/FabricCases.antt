@@ -21,7 +21,7 @@ use Rattle.reply_facts.specs.Key.{key_cmp}
 use Rattle.reply_facts.specs.Known.{value_in, guid_in, peer_in, count_in, cap_of}
 use Rattle.fact_store.specs.View.{Facts, cells_of}
 use Rattle.subnet_view.specs.Reading.{Cells}
-use Rattle.subnet_view.specs.EndPorts.{IsEndPort}
+use Rattle.subnet_view.specs.EndPort.{IsEndPort}
 use Rattle.subnet_view.specs.Wires.{across, IsWire}
 use Rattle.subnet_view.specs.FabricAgreement.{Part, IsEndPortIn, HasEndPort, HasWire, TellsEndPort, AgreesOn}
 use Rattle.subnet_view.proofs.Members.{contains_cases, contains_none}
@@ -30,7 +30,7 @@ use Rattle.subnet_view.proofs.WireLaws.{wire_law}
 use Rattle.lid_assign.specs.Lids.{lids, range_of, top_of}
 use Rattle.subnet_view.specs.Graph.{graph_of}
 use Rattle.updown_routes.specs.Updown.{updown}
-use Rattle.lft_blocks.specs.Rules.{up_and_down}
+use Rattle.lft_blocks.specs.Rule.{up_and_down}
 use Rattle.lft_blocks.specs.Plan.{plan_of, block_at}
 use Rattle.lft_blocks.specs.PlanLaws.{HasBlock, block_of}
 use Rattle.lft_blocks.specs.InForce.{HoldsBlock, HoldsPlan}

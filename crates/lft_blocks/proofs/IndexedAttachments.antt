@@ -10,7 +10,7 @@ use Rattle.lid_assign.proofs.Owners.{given-from_owner}
 use Rattle.lid_assign.proofs.Tops.{at_most_top}
 use Rattle.lft_blocks.specs.declared.attachment.Attachment.{Attachment}
 use Rattle.lft_blocks.specs.Entries.{attachment_of, attachment_of_lid, block_count}
-use Rattle.lft_blocks.specs.Attachments.{IsIndexed, AreIndexed}
+use Rattle.lft_blocks.specs.Attachment.{IsIndexed, AreIndexed}
 
 -- no LID behind the last block has an owner
 owner_past : (given : Given) (lid : ℕ) → 64 * block_count (top_of given) ≤ lid → owner_of given lid ≡ None

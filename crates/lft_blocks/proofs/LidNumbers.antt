@@ -13,9 +13,9 @@ use Rattle.spread_labels.proofs.ByPositions.{position_at}
 use Rattle.subnet_view.specs.SwitchEdges.{SwitchEdges}
 use Rattle.subnet_view.specs.Routing.{FollowsRule, IsRouting, Routing}
 use Rattle.lft_blocks.specs.declared.attachment.Attachment.{Attachment}
-use Rattle.lft_blocks.specs.Attachments.{AreWithin, meant}
+use Rattle.lft_blocks.specs.Attachment.{AreWithin, meant}
 use Rattle.lft_blocks.specs.LidNumbers.{Numbering, indexed_number, indexed_numbers, number_at, number_of, numbered}
-use Rattle.lft_blocks.specs.TableRows.{attachment_by_index}
+use Rattle.lft_blocks.specs.TableRow.{attachment_by_index}
 
 -- the position of a switch by its GUID is its index
 pub position_is : (guids : List ℕ) → IsStrictlyIncreasing guids → (i : ℕ) → i < length guids → position_of guids (slice_index guids i) ≡ i

@@ -11,7 +11,7 @@ use Rattle.fabric_model.proofs.FabricWalks.{same_port, type_at, adapter_vertex}
 use Rattle.subnet_view.specs.declared.end_port.EndPort.{EndPort}
 use Rattle.reply_facts.specs.Known.{cap_of}
 use Rattle.subnet_view.specs.Reading.{Cells, is_switch_node, is_usable}
-use Rattle.subnet_view.specs.EndPorts.{HasEndPorts, end_ports}
+use Rattle.subnet_view.specs.EndPort.{HasEndPorts, end_ports}
 use Rattle.subnet_view.specs.Wires.{across, attached}
 use Rattle.subnet_view.specs.FabricAgreement.{IsEndPortIn, HasEndPort, AgreesOn}
 use Rattle.subnet_view.proofs.Apart.{contains_map}

@@ -21,7 +21,7 @@ use Rattle.subnet_view.specs.Graph.{graph_of}
 use Rattle.subnet_view.specs.Components.{in_one_component}
 use Rattle.subnet_view.specs.Routing.{Routing, IsRouting, stops, Leads}
 use Rattle.subnet_view.proofs.Components.{component_itself}
-use Rattle.lft_blocks.specs.Rules.{RuleValue, routing_by}
+use Rattle.lft_blocks.specs.Rule.{RuleValue, routing_by}
 use Rattle.lft_blocks.proofs.RulesRoute.{lids_are_routed}
 use Rattle.lft_blocks.proofs.Unnumbered.{all_arrive_by_rule}
 use Rattle.lft_blocks.specs.LidNumbers.{lid_numbers}

@@ -2,9 +2,9 @@
 use Rattle.std.proofs.Common.{◌≡◌, ℕ, sym, ap, ◌∙◌, length}
 use Rattle.std.proofs.lemmas.Bool.{cond-true}
 use Rattle.std.specs.Prelude.{None, Some}
-use Rattle.subnet_view.specs.EndPorts.{end_ports}
+use Rattle.subnet_view.specs.EndPort.{end_ports}
 use Rattle.subnet_view.specs.Reading.{Cells}
-use Rattle.lid_assign.specs.declared.fault.NoRoom.{NoRoom as Room}
+use Rattle.lid_assign.specs.declared.lid_fault.NoRoom.{NoRoom as Room}
 use Rattle.lid_assign.specs.LidFault.{lid_fault, no_room}
 use Rattle.lid_assign.specs.Lids.{IsNoRoom, is_no_room}
 use Rattle.lid_assign.specs.Claims.{room}

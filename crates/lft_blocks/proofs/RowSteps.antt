@@ -17,9 +17,9 @@ use Rattle.subnet_view.specs.Graph.{guids_of}
 use Rattle.spread_routes.specs.Exits.{with_entries}
 use Rattle.lft_blocks.specs.declared.attachment.Attachment.{Attachment}
 use Rattle.lft_blocks.specs.Entries.{Next, port_to, entry, blocks}
-use Rattle.lft_blocks.specs.Attachments.{meant, AreWithin, AreIndexed}
+use Rattle.lft_blocks.specs.Attachment.{meant, AreWithin, AreIndexed}
 use Rattle.lft_blocks.specs.Plan.{SwitchTable, tables_of}
-use Rattle.lft_blocks.specs.TableRows.{AreLidsAt, AreRows, IsRow, block_of_row, blocks_of_row, entry_before, entry_by, attachment_port, is_attachment_at, lids_at, lids_before, attachment_by_index, table_of_row}
+use Rattle.lft_blocks.specs.TableRow.{AreLidsAt, AreRows, IsRow, block_of_row, blocks_of_row, entry_before, entry_by, attachment_port, is_attachment_at, lids_at, lids_before, attachment_by_index, table_of_row}
 use Rattle.lft_blocks.proofs.AttachmentTables.{same_test}
 
 -- what is written of LIDs whose ports are those of a function ----------------------------------

@@ -7,7 +7,7 @@ use Rattle.subnet_view.specs.Routing.{IsRouting}
 use Rattle.subnet_view.proofs.Graphs.{graph_law}
 use Rattle.updown_routes.proofs.Routed.{updown_is_routing}
 use Rattle.spread_routes.specs.Adapters.{adapters_of}
-use Rattle.lft_blocks.specs.Rules.{RuleValue, RulesAreRoutings, RulesStay, routing_by, spread_in, up_and_down}
+use Rattle.lft_blocks.specs.Rule.{RuleValue, RulesAreRoutings, RulesStay, routing_by, spread_in, up_and_down}
 use Rattle.spread_routes.specs.Spread.{spread_by}
 use Rattle.spread_routes.proofs.OrderLaws.{orders_stand}
 use Rattle.spread_routes.proofs.Whole.{spread_by_is_routing}

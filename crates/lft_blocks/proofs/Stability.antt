@@ -12,7 +12,7 @@ use Rattle.lid_assign.proofs.Staying.{same_but_claims, lids_settle}
 use Rattle.subnet_view.specs.Graph.{edge_at, graph_of, guids_of}
 use Rattle.spread_routes.specs.Adapters.{adapters_at, adapters_of, has_adapter_at}
 use Rattle.lft_blocks.specs.LidNumbers.{lid_numbers, number_of, numbered, numbering_by}
-use Rattle.lft_blocks.specs.Rules.{RuleValue}
+use Rattle.lft_blocks.specs.Rule.{RuleValue}
 use Rattle.lft_blocks.proofs.RulesRoute.{rules_stay}
 use Rattle.lft_blocks.specs.Entries.{attachment_of, block_count}
 use Rattle.lft_blocks.specs.Plan.{tables_of, plan_of}

@@ -19,7 +19,7 @@ use Rattle.subnet_view.specs.FabricAgreement.{Part, WholeFabric, IsEndPortIn, Ha
 use Rattle.lid_assign.specs.Lids.{IsNoRoom, lids, owner_of}
 use Rattle.subnet_view.specs.Graph.{graph_of}
 use Rattle.updown_routes.specs.Updown.{updown}
-use Rattle.lft_blocks.specs.Rules.{up_and_down}
+use Rattle.lft_blocks.specs.Rule.{up_and_down}
 use Rattle.lft_blocks.specs.Entries.{attachment_of, port_to}
 use Rattle.lft_blocks.specs.Plan.{plan_of}
 use Rattle.lft_blocks.specs.Arrival.{Arrives}

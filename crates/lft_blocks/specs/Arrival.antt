@@ -16,7 +16,7 @@ use Rattle.subnet_view.specs.FabricAgreement.{Part, WholeFabric, HasEndPort}
 use Rattle.lid_assign.specs.Lids.{IsNoRoom, owner_of}
 use Rattle.subnet_view.specs.Graph.{graph_of}
 use Rattle.subnet_view.specs.Routing.{Routing, IsRouting}
-use Rattle.lft_blocks.specs.Rules.{RuleValue, routing_by}
+use Rattle.lft_blocks.specs.Rule.{RuleValue, routing_by}
 use Rattle.lft_blocks.specs.Plan.{PlanValue, plan_by, plan_of}
 use Rattle.lft_blocks.specs.InForce.{IsInForce, IsInForceWithin}
 
@@ -28,15 +28,15 @@ guid_at f p = option_map_or (λ node. node.guid) (slice_get f.nodes p.node) 0
 abbrev pub is_between_switches : Fabric → Hop → Bool
 is_between_switches f h = is_switch_at f h.out.node && is_switch_at f h.into.node
 
--- the hops over wires between switches
+-- the hops along wires between switches
 abbrev pub switch_hops : Fabric → List Hop → List Hop
 switch_hops f hops = filter (is_between_switches f) hops
 
--- the GUIDs of the switches that a packet from `source` passes over `hops`, in order
+-- the GUIDs of the switches that a packet from `source` passes along `hops`, from the first to the last
 abbrev pub switches_met : Fabric → NodePort → List Hop → List ℕ
 switches_met f source hops = map (guid_at f) (filter (λ p. is_switch_at f p.node) (source ∷ map (λ h. h.into) hops))
 
--- the numbers of the channels between switches that a packet takes over `hops`, in order
+-- the numbers of the channels between switches that a packet takes along `hops`, from the first to the last
 abbrev pub channels_taken : Routing → Fabric → List Hop → List ℕ
 channels_taken rule f hops = map (λ h. rule.channel (guid_at f h.out) (guid_at f h.into)) (switch_hops f hops)
 
@@ -58,7 +58,7 @@ pub record IsRoutedWay (rule : Routing) (f : Fabric) (source : NodePort) (hops :
   pub adapter_wires : count_by (λ h. not (is_between_switches f h)) hops ≤ 2
   pub channels_rise : IsStrictlyIncreasing (channels_taken rule f hops)
 
--- a packet for `lid` from `source` is delivered at `owner`, which is a port of the part, over a way of `rule`
+-- a packet for `lid` from `source` is delivered at `owner`, which is a port of the part, along a way of `rule`
 pub record ArrivesBy (rule : Routing) (part : Part) (f : Fabric) (lid : ℕ) (source : NodePort) (owner : EndPort) : Type
     0 where
   pub target : NodePort
@@ -68,13 +68,13 @@ pub record ArrivesBy (rule : Routing) (part : Part) (f : Fabric) (lid : ℕ) (so
   pub delivered : IsDelivered f lid source hops target
   pub way : IsRoutedWay rule f source hops
 
--- a packet for `lid` from `source` is delivered at `owner`, which is a port of the part, over a way of a rule that can
--- be asked for
+-- a packet for `lid` from `source` is delivered at `owner`, which is a port of the part, along a way of a rule that
+-- can be asked for
 abbrev pub Arrives : RuleValue → Part → Cells → Fabric → ℕ → NodePort → EndPort → Type 0
 Arrives rule part cells f lid source owner = ArrivesBy (routing_by rule cells) part f lid source owner
 
--- if the plan is in force in a part, packets arrive there: a packet from each end port of the part, for each LID of the
--- plan, is delivered at the LID's owner, over a way of `rule`. The part is what an end port is joined to
+-- if the plan is in force in a part, packets arrive there: a packet from each end port of the part, for each LID of
+-- the plan, is delivered at the LID's owner, along a way of `rule`. The part is what an end port is joined to
 abbrev pub EveryPacketArrivesBy : Routing → Cells → PlanValue → Type 0
 EveryPacketArrivesBy rule cells plan =
     (f : Fabric) (origin : NodePort) → IsEndPort f origin → IsInForce (IsJoinedTo f origin) cells plan f
@@ -82,16 +82,16 @@ EveryPacketArrivesBy rule cells plan =
     → (lid : ℕ) (owner : EndPort) → owner_of plan.given lid ≡ Some owner
     → ArrivesBy rule (IsJoinedTo f origin) f lid source owner
 
--- if the plan, by any rule of routing, of facts with room for their LIDs is in force in a part, every packet arrives
--- there (`EveryPacketArrivesBy`)
+-- suppose a set of facts has room for its LIDs. If its plan under any rule of routing is in force in a part, every
+-- packet arrives there (`EveryPacketArrivesBy`)
 abbrev pub PacketsArriveByEachRouting : Type 0
 PacketsArriveByEachRouting = (lmc : ℕ) (facts : Facts) (rule : Routing) → IsRouting (graph_of (cells_of facts)) rule
     → ¬ (IsNoRoom lmc (cells_of facts))
     → EveryPacketArrivesBy rule (cells_of facts) (plan_by rule lmc (cells_of facts))
 
--- a packet from each end port of a part, for each LID of the plan that an end port of the part owns, arrives, whatever
--- else the facts contain. The facts have room for their LIDs and describe the part, which is what an end port is joined
--- to. The part holds the plan
+-- suppose a set of facts has room for its LIDs and describes the part that an end port is joined to, and this part
+-- holds the plan of the facts under a rule of routing. Then a packet from each end port of the part, for each LID of
+-- the plan that an end port of the part owns, arrives, whatever else the facts contain
 abbrev pub PacketsArriveWhereCovered : Type 0
 PacketsArriveWhereCovered =
     (lmc : ℕ) (facts : Facts) (rule : Routing) → IsRouting (graph_of (cells_of facts)) rule
@@ -103,8 +103,8 @@ PacketsArriveWhereCovered =
     → HasEndPort (IsJoinedTo f origin) f owner.node owner.port
     → ArrivesBy rule (IsJoinedTo f origin) f lid source owner
 
--- if the plan is in force in a part, every packet arrives there (`EveryPacketArrivesBy`), by a rule that can be asked
--- for
+-- if the plan is in force in a part, every packet arrives there (`EveryPacketArrivesBy`), under a rule that can be
+-- asked for
 abbrev pub EveryPacketArrives : RuleValue → Cells → PlanValue → Type 0
 EveryPacketArrives rule cells plan = EveryPacketArrivesBy (routing_by rule cells) cells plan
 
@@ -116,7 +116,8 @@ EveryPacketArrivesIfConnected rule cells plan = (f : Fabric) → IsConnected f �
     → (lid : ℕ) (owner : EndPort) → owner_of plan.given lid ≡ Some owner
     → Arrives rule WholeFabric cells f lid source owner
 
--- if facts have room for their LIDs and their plan is in force in the whole of a connected fabric, every packet arrives
+-- if a set of facts has room for its LIDs, and its plan is in force in the whole of a connected fabric, every packet
+-- arrives
 abbrev pub PacketsArriveIfConnected : Type 0
 PacketsArriveIfConnected = (rule : RuleValue) (lmc : ℕ) (facts : Facts) → ¬ (IsNoRoom lmc (cells_of facts))
     → EveryPacketArrivesIfConnected rule (cells_of facts) (plan_of rule lmc (cells_of facts))

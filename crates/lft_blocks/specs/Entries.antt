@@ -31,7 +31,7 @@ port_to next lid s attachment = if attachment.0 == s then attachment.1 else unwr
 abbrev pub entry : (ℕ → Option (ℕ × ℕ)) → Next → ℕ → ℕ → ℕ
 entry attachments next s lid = option_map_or (port_to next lid s) (attachments lid) 255
 
--- the entries of switch `s` for the 64 LIDs from 64 `b` on
+-- the entries of switch `s` for the 64 LIDs that start at 64 `b`
 abbrev pub block : (ℕ → Option (ℕ × ℕ)) → Next → ℕ → ℕ → List ℕ
 block attachments next s b = map (λ i. entry attachments next s (64 * b + i)) (range_with_len 0 64)
 

@@ -8,7 +8,7 @@ use Rattle.subnet_view.specs.FabricAgreement.{Part, IsEndPortIn, AgreesOn, Cover
 use Rattle.lid_assign.specs.Lids.{range_of, top_of}
 use Rattle.lft_blocks.specs.Plan.{PlanValue, block_at}
 
--- the table of the node at index `node` has the entries of `block` from the LID 64 `b` on
+-- the table of the node at index `node` has the entries of `block` for the 64 LIDs that start at 64 `b`
 abbrev pub HoldsBlock : Fabric → ℕ → ℕ → List ℕ → Type 0
 HoldsBlock f node b block = (i : ℕ) → i < 64 → slice_get block i ≡ Some (f.entry node (64 * b + i))
 

@@ -1,5 +1,5 @@
 pub mod Arrival
-pub mod Attachments
+pub mod Attachment
 pub mod Entries
 pub mod InForce
 pub mod LidNumbers
@@ -7,6 +7,6 @@ pub mod Plan
 pub mod PlanLaws
 pub mod PlanText
 pub mod Planning
-pub mod Rules
-pub mod TableRows
+pub mod Rule
+pub mod TableRow
 pub mod WritesPart

@@ -3,7 +3,7 @@
 use Rattle.std.specs.Prelude.{ℕ, ◌+◌, ◌*◌, ◌%◌, ◌^◌, List, Option, None, map, length, slice_index, slice_index_or}
 use Rattle.std.specs.List.{range_with_len}
 use Rattle.std.specs.Option.{option_map_or}
-use Rattle.spread_labels.specs.Levels.{greatest}
+use Rattle.spread_labels.specs.Level.{greatest}
 use Rattle.spread_labels.specs.Orders.{position_of}
 use Rattle.subnet_view.specs.Graph.{graph_of, guids_of}
 use Rattle.subnet_view.specs.Reading.{Cells}

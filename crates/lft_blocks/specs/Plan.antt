@@ -5,16 +5,17 @@ use Rattle.std.specs.List.Sorted.{IsStrictlyIncreasing}
 use Rattle.subnet_view.specs.Reading.{Cells, switches}
 use Rattle.lid_assign.specs.Lids.{Given, lids, top_of}
 use Rattle.subnet_view.specs.Routing.{Routing}
-use Rattle.lft_blocks.specs.Rules.{RuleValue, routing_by}
+use Rattle.lft_blocks.specs.Rule.{RuleValue, routing_by}
 use Rattle.lft_blocks.specs.LidNumbers.{lid_numbers, numbered}
 use Rattle.lft_blocks.specs.Entries.{Next, attachment_of_lid, block_count, blocks}
 
--- the table of a switch: its GUID, and its blocks from block 0 on
+-- the table of a switch: its GUID, and its blocks, starting at block 0
 pub record SwitchTable : Type 0 where
   pub guid : ℕ
   pub blocks : List (List ℕ)
 
--- a plan: the LIDs of the end ports in their order, and the tables of the usable switches in ascending order of GUID
+-- a plan: the end ports in the order of `end_ports`, each with its LID, and the tables of the usable switches in
+-- ascending order of GUID
 pub record PlanValue : Type 0 where
   pub given : Given
   pub tables : List SwitchTable
@@ -23,12 +24,12 @@ pub record PlanValue : Type 0 where
 abbrev pub tables_of : (ℕ → Option (ℕ × ℕ)) → Next → ℕ → List ℕ → List SwitchTable
 tables_of attachments next count guids = map (λ s. record { guid = s; blocks = blocks attachments next count s }) guids
 
--- the tables of the plan of a view by a rule of routing, if end ports have the LIDs `given`
+-- the tables of the plan of a view under a rule of routing, if end ports have the LIDs `given`
 abbrev pub tables_by : Routing → Cells → Given → List SwitchTable
 tables_by rule cells given =
     tables_of (attachment_of_lid cells given) rule.next (block_count (top_of given)) (switches cells)
 
--- the plan of a view by a rule of routing, under the LMC `lmc`
+-- the plan of a view under a rule of routing and the LMC `lmc`
 abbrev pub plan_by : Routing → ℕ → Cells → PlanValue
 plan_by rule lmc cells =
     let given = lids lmc cells in
@@ -38,12 +39,12 @@ plan_by rule lmc cells =
           tables_of (attachment_of_lid cells given) rule.next (block_count (top_of given)) (switches cells);
     }
 
--- the routing of LIDs by a rule that can be asked for: packets for a LID take the routes that the rule has for the
+-- the routing of LIDs under a rule that can be asked for: packets for a LID take the routes that the rule has for the
 -- LID's number
 abbrev pub lid_routing : RuleValue → ℕ → Cells → Given → Routing
 lid_routing rule lmc cells given = numbered (lid_numbers lmc cells given) (routing_by rule cells)
 
--- the plan of a view by a rule that can be asked for, under the LMC `lmc`
+-- the plan of a view under a rule that can be asked for and the LMC `lmc`
 abbrev pub plan_of : RuleValue → ℕ → Cells → PlanValue
 plan_of rule lmc cells = plan_by (lid_routing rule lmc cells (lids lmc cells)) lmc cells
 

@@ -32,7 +32,7 @@ switch_line top guid = codes "switch " ++ guid_text guid ++ codes " top " ++ dec
 abbrev pub block_line : ℕ × List ℕ → List ℕ
 block_line x = codes "block " ++ decimal x.0 ++ codes " " ++ encode_lower x.1 ++ codes "\n"
 
--- the lines of blocks, numbered from 0 on
+-- the lines of blocks, numbered from 0
 abbrev pub blocks_text : List (List ℕ) → List ℕ
 blocks_text blocks = flat_map block_line (enumerate_from 0 blocks)
 

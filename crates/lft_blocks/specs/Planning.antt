@@ -1,8 +1,8 @@
 -- How a manager plans: under which LMC and by which rule of routing.
 use Rattle.std.specs.Prelude.{◌≡◌, ℕ, Bool, true, false, List, Option, None, Some, refl}
 use Rattle.std.specs.Coded.{Coded, code_by, coded×, coded_bool, coded_ℕ, coded_list, coded_option}
-use Rattle.lft_blocks.specs.Rules.{RuleValue, spread_in, up_and_down}
-use Rattle.spread_routes.specs.SwitchOrders.{OrderValue, as_named, balanced_as, from_roots, least_loaded}
+use Rattle.lft_blocks.specs.Rule.{RuleValue, spread_in, up_and_down}
+use Rattle.spread_routes.specs.SwitchOrder.{OrderValue, as_named, balanced_as, from_roots, least_loaded}
 
 -- the LMC of adapter ports, and the rule of routing
 pub record Planning : Type 0 where

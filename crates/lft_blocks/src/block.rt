@@ -1,7 +1,7 @@
 ghost use Rattle.std.specs.Prelude.{◌≡◌, ◌≤◌, ◌<◌, length, map, IfOk};
 ghost use Rattle.std.specs.List.{range_with_len};
 ghost use Rattle.lft_blocks.specs.Entries.{block_count};
-ghost use Rattle.lft_blocks.specs.Attachments.{AreWithin, entry_in, block_in};
+ghost use Rattle.lft_blocks.specs.Attachment.{AreWithin, entry_in, block_in};
 
 use crate::attachment::Attachment;
 use smp_bytes::{Lid, NO_ENTRY};

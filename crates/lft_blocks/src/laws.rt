@@ -3,10 +3,10 @@ ghost use Rattle.lft_blocks.specs.Arrival.{PacketsArriveByEachRouting, PacketsAr
 ghost use Rattle.lft_blocks.specs.Arrival.{PacketsArriveWhereCovered};
 ghost use Rattle.lft_blocks.specs.PlanLaws.{PlansStay, LidsStayInPlans, BlocksHoldEntries, BlocksAreOfSwitches};
 ghost use Rattle.lft_blocks.specs.PlanLaws.{OrdersHold};
-ghost use Rattle.lft_blocks.specs.Rules.{RulesAreRoutings, RulesStay};
+ghost use Rattle.lft_blocks.specs.Rule.{RulesAreRoutings, RulesStay};
 
-/// If the facts of a view with room for its LIDs change only in claims, and each end port claims the LID that it has in
-/// their plan, there is still room and the plan stays.
+/// If a view with room for its LIDs changes only in claims, and each end port then claims the LID that it has in the
+/// plan of the view, there is still room and the plan stays.
 pub fn plans_stay()
     ensures { PlansStay }
 {}
@@ -30,17 +30,17 @@ pub fn blocks_are_of_switches()
     ensures { BlocksAreOfSwitches }
 {}
 
-/// If the plan of a view with room for its LIDs, by a rule of routing, is in force in the part around an end port,
-/// packets arrive. A packet from each end port of the part, for each LID of the plan, is delivered at the end port that
-/// owns the LID. The packet takes as many wires between switches as the rule's cost, passes no switch twice, and takes
-/// channels of rising numbers. The rule may be any that keeps `IsRouting`.
+/// If the plan of a view with room for its LIDs, under a rule of routing, is in force in the part around an end port,
+/// packets arrive. A packet from each end port of the part, for each LID of the plan, is delivered at the end port
+/// that owns the LID. The packet takes as many wires between switches as the rule's cost, passes no switch twice, and
+/// takes channels of rising numbers. The rule may be any that satisfies `IsRouting`.
 pub fn packets_arrive_by_each_routing()
     ensures { PacketsArriveByEachRouting }
 {}
 
-/// Suppose a view with room for its LIDs describes the part around an end port, and the part holds the view's plan by a
-/// rule of routing. Then a packet from each end port of the part, for each LID of the plan whose owner is an end port
-/// of the part, is delivered at the owner. The view may describe more, such as nodes that are gone.
+/// Suppose a view with room for its LIDs describes the part around an end port, and the part holds the view's plan
+/// under a rule of routing. Then a packet from each end port of the part, for each LID of the plan whose owner is an
+/// end port of the part, is delivered at the owner. The view may describe more, such as nodes that are gone.
 pub fn packets_arrive_where_covered()
     ensures { PacketsArriveWhereCovered }
 {}

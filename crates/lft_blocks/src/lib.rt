@@ -5,7 +5,7 @@
 mod attachment;
 mod block;
 pub mod laws;
-mod numbers;
+mod lid_numbers;
 mod order;
 mod plan;
 mod plan_text;

@@ -1,8 +1,8 @@
 //! The order of the usable switches of a view.
 ghost use Rattle.std.specs.Prelude.{◌≡◌, IfOk};
 ghost use Rattle.fact_store.specs.View.{cells_of};
-ghost use Rattle.spread_routes.specs.SwitchOrders.{order_value_of};
-ghost use Rattle.lft_blocks.specs.Rules.{order_of};
+ghost use Rattle.spread_routes.specs.SwitchOrder.{order_value_of};
+ghost use Rattle.lft_blocks.specs.Rule.{order_of};
 
 use fact_store::{Refused, Store};
 use smp_bytes::Guid;

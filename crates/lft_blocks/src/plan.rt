@@ -9,11 +9,11 @@ ghost use Rattle.subnet_view.specs.Graph.{guids_of};
 ghost use Rattle.subnet_view.specs.Reading.{switches};
 ghost use Rattle.updown_routes.specs.Updown.{updown};
 ghost use Rattle.lft_blocks.specs.Entries.{block_count};
-ghost use Rattle.lft_blocks.specs.Rules.{routing_by, rule_of, spread_in, up_and_down, value_of};
-ghost use Rattle.spread_routes.specs.SwitchOrders.{order_value_of};
+ghost use Rattle.lft_blocks.specs.Rule.{routing_by, rule_of, spread_in, up_and_down, value_of};
+ghost use Rattle.spread_routes.specs.SwitchOrder.{order_value_of};
 ghost use Rattle.lft_blocks.specs.Arrival.{EveryPacketArrivesBy};
-ghost use Rattle.lft_blocks.specs.Attachments.{AreWithin};
-ghost use Rattle.lft_blocks.specs.TableRows.{attachment_by_index};
+ghost use Rattle.lft_blocks.specs.Attachment.{AreWithin};
+ghost use Rattle.lft_blocks.specs.TableRow.{attachment_by_index};
 ghost use Rattle.lft_blocks.specs.Plan.{tables_of, tables_by, plan_of, lid_routing, block_at, switches_of};
 
 use crate::Rule;
@@ -53,8 +53,8 @@ impl Model for Plan {
 }
 
 impl Plan {
-    /// Plans the view in `store` by `rule`, with 2^`lmc` LIDs for each adapter port. If the plan is in force in a part,
-    /// every packet arrives there. The plan takes 64 bytes for each block of each switch.
+    /// Plans the view in `store` under `rule`, with 2^`lmc` LIDs for each adapter port. If the plan is in force in a
+    /// part, every packet arrives there. The plan takes 64 bytes for each block of each switch.
     ///
     /// # Errors
     ///
@@ -116,7 +116,7 @@ impl Plan {
     }
 }
 
-/// Returns the usable switches, in ascending order of GUID, and the table of each by `rule`.
+/// Returns the usable switches, in ascending order of GUID, and the table of each under `rule`.
 fn tables_of(
     alloc: Global,
     wires: &Wires,
@@ -135,7 +135,8 @@ fn tables_of(
     }
 }
 
-/// Returns the usable switches, in ascending order of GUID, and the table of each by the rule that spreads by `order`.
+/// Returns the usable switches, in ascending order of GUID, and the table of each under the rule that spreads by
+/// `order`.
 fn by_spread(
     alloc: Global,
     wires: &Wires,
@@ -155,7 +156,7 @@ fn by_spread(
     Ok((graph.into_switches(), tables))
 }
 
-/// Returns the usable switches, in ascending order of GUID, and the table of each by up/down routing.
+/// Returns the usable switches, in ascending order of GUID, and the table of each under up/down routing.
 fn by_updown(
     alloc: Global,
     wires: &Wires,
@@ -172,9 +173,9 @@ fn by_updown(
     Ok((graph.into_switches(), tables))
 }
 
-/// Returns the table of each switch of `graph`, with `count` blocks, by routes that go up and then down. The GUIDs of
-/// the switches of `graph` must be in strictly ascending order. The attachments must be at these switches. `count` must
-/// be at most 1024.
+/// Returns the table of each switch of `graph`, with `count` blocks, for routes that go up and then down. The GUIDs
+/// of the switches of `graph` must be in strictly ascending order. The attachments must be at these switches. `count`
+/// must be at most 1024.
 fn updown_tables(
     alloc: Global,
     graph: &Graph,

@@ -4,7 +4,7 @@ ghost use Rattle.smp_bytes.specs.Judges.{JudgesButFor};
 ghost use Rattle.lid_assign.specs.LidFault.{is_memory, lid_fault, no_room};
 ghost use Rattle.lft_blocks.specs.Arrival.{EveryPacketArrives};
 ghost use Rattle.lft_blocks.specs.Plan.{plan_of};
-ghost use Rattle.lft_blocks.specs.Rules.{value_of};
+ghost use Rattle.lft_blocks.specs.Rule.{value_of};
 
 use crate::{Plan, PlanFault, Rule};
 use attr_codec::Lmc;
@@ -22,7 +22,7 @@ pub struct Planning {
 }
 
 impl Model for Planning {
-    ghost use Rattle.lft_blocks.specs.Rules.{value_of};
+    ghost use Rattle.lft_blocks.specs.Rule.{value_of};
     ghost use Rattle.lft_blocks.specs.Planning.{Planning, planning_code};
 
     ghost Value = { Planning };
@@ -40,7 +40,8 @@ impl Planning {
         Planning { lmc, rule }
     }
 
-    /// Returns a copy. Takes time linear in the number of GUIDs that the rule names.
+    /// Returns a copy. Takes time linear in the number of GUIDs that the rule names. Returns an error if memory runs
+    /// out.
     pub fn try_clone(&self, alloc: Global) -> Result<Self, AllocError>
         ensures { IfOk result (λ planning. planning ≡ self.now) }
     {

@@ -1,5 +1,5 @@
 ghost use Rattle.std.specs.Prelude.{◌≡◌, IfOk};
-ghost use Rattle.lft_blocks.specs.Rules.{value_of};
+ghost use Rattle.lft_blocks.specs.Rule.{value_of};
 
 use spread_routes::SwitchOrder;
 use std::alloc::{AllocError, Global};
@@ -18,7 +18,8 @@ pub enum Rule {
 }
 
 impl Rule {
-    /// Returns a copy. Takes time linear in the number of GUIDs that the order names.
+    /// Returns a copy. Takes time linear in the number of GUIDs that the order names. Returns an error if memory runs
+    /// out.
     pub fn try_clone(&self, alloc: Global) -> Result<Self, AllocError>
         ensures { IfOk result (λ copy. value_of copy ≡ value_of self.now) }
     {

@@ -1,19 +1,19 @@
-//! Tables by the rule that spreads.
+//! Tables under the rule that spreads.
 ghost use Rattle.std.specs.Prelude.{◌≡◌, ◌<◌, ◌≤◌, ◌*◌, All, IfOk, OnOk, length, map, replicate, slice_index};
 ghost use Rattle.std.specs.List.{range_with_len};
 ghost use Rattle.fact_store.specs.View.{cells_of};
 ghost use Rattle.subnet_view.specs.Graph.{graph_of, guids_of};
 ghost use Rattle.spread_routes.specs.Adapters.{adapters_of};
 ghost use Rattle.spread_routes.specs.Spread.{spread_at, spread_by};
-ghost use Rattle.spread_routes.specs.SwitchOrders.{order_value_of};
+ghost use Rattle.spread_routes.specs.SwitchOrder.{order_value_of};
 ghost use Rattle.spread_routes.specs.Exits.{AreTowards};
-ghost use Rattle.lft_blocks.specs.Attachments.{AreWithin};
+ghost use Rattle.lft_blocks.specs.Attachment.{AreWithin};
 ghost use Rattle.lft_blocks.specs.LidNumbers.{number_of, numbered, numbering_of};
 ghost use Rattle.lft_blocks.specs.Plan.{tables_of};
-ghost use Rattle.lft_blocks.specs.TableRows.{AreLidsAt, AreRows, IsRow, attachment_by_index, table_of_row};
+ghost use Rattle.lft_blocks.specs.TableRow.{AreLidsAt, AreRows, IsRow, attachment_by_index, table_of_row};
 
 use crate::attachment::Attachment;
-use crate::numbers::{find_numbering, lid_numbers};
+use crate::lid_numbers::{find_numbering, lid_numbers};
 use crate::table::Table;
 use crate::table_row::{TableRow, lids_by_switch};
 use attr_codec::Lmc;
@@ -23,8 +23,8 @@ use std::alloc::{AllocError, Global};
 use std::mem;
 use subnet_view::{SwitchGraph, Wires};
 
-/// Returns the table of each switch of `graph`, with `count` blocks, by the rule that spreads by `order`. `count` must
-/// be at most 1024. `graph` must be the graph of `wires`. `attachments` must have `64 * count` items, and the
+/// Returns the table of each switch of `graph`, with `count` blocks, under the rule that spreads by `order`. `count`
+/// must be at most 1024. `graph` must be the graph of `wires`. `attachments` must have `64 * count` items, and the
 /// attachments must be at switches of `graph`.
 pub(crate) fn spread_tables(
     alloc: Global,

@@ -47,7 +47,7 @@ impl Table {
         self.blocks.get(b)
     }
 
-    /// Returns the blocks, from block 0 on.
+    /// Returns the blocks, starting at block 0.
     pub fn blocks(&self) -> &[[u8; 64]]
         ensures blocks { result.now ≡ self.now.blocks }
         ensures few { length result.now ≤ 1024 }

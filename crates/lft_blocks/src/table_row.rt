@@ -2,8 +2,8 @@
 ghost use Rattle.std.specs.Prelude.{◌≡◌, ◌<◌, ◌≤◌, ◌+◌, ◌*◌, [], All, IfOk, None, length, map, replicate};
 ghost use Rattle.std.specs.Prelude.{slice_index, slice_index_or};
 ghost use Rattle.spread_routes.specs.Exits.{port_by, with_entries};
-ghost use Rattle.lft_blocks.specs.Attachments.{AreWithin};
-ghost use Rattle.lft_blocks.specs.TableRows.{AreLidsAt, block_of_row, blocks_of_row, entry_by, attachment_port};
+ghost use Rattle.lft_blocks.specs.Attachment.{AreWithin};
+ghost use Rattle.lft_blocks.specs.TableRow.{AreLidsAt, block_of_row, blocks_of_row, entry_by, attachment_port};
 
 use crate::attachment::Attachment;
 use smp_bytes::{Lid, NO_ENTRY};
@@ -26,7 +26,7 @@ impl Model for TableRow {
 }
 
 impl TableRow {
-    /// Creates a row of `len` entries, from LID 0 on, each of which is 255.
+    /// Creates a row of `len` entries, which starts at LID 0. Each entry is 255.
     pub(crate) fn new(alloc: Global, len: usize) -> Result<Self, AllocError>
         ensures { IfOk result (λ row. row ≡ replicate len 255) }
     {

@@ -1,7 +1,7 @@
 ghost use Rattle.std.specs.Prelude.{◌≡◌, ◌<◌, ◌≤◌, length, map, unwrap_or, IfOk};
 ghost use Rattle.std.specs.List.{range_with_len};
 ghost use Rattle.updown_routes.specs.Ports.{next_port_at};
-ghost use Rattle.lft_blocks.specs.Attachments.{AreWithin, row_of, table_in};
+ghost use Rattle.lft_blocks.specs.Attachment.{AreWithin, row_of, table_in};
 
 use crate::attachment::Attachment;
 use crate::block::blocks;
@@ -10,8 +10,8 @@ use smp_bytes::{Guid, NO_ENTRY};
 use std::alloc::{AllocError, Global};
 use updown_routes::Routes;
 
-/// Returns the table of each of the switches `guids`, with `count` blocks, by `routes`. `count` must be at most 1024.
-/// The attachments must be at switches of `guids`.
+/// Returns the table of each of the switches `guids`, with `count` blocks, according to `routes`. `count` must be at
+/// most 1024. The attachments must be at switches of `guids`.
 pub(crate) fn tables(
     alloc: Global,
     routes: &Routes,
@@ -32,8 +32,8 @@ pub(crate) fn tables(
     Ok(tables)
 }
 
-/// Returns the table of the switch at the index `own` of `guids`, with `count` blocks, by `routes`. `count` must be at
-/// most 1024. There must be a switch at the index `own`. The attachments must be at switches of `guids`.
+/// Returns the table of the switch at the index `own` of `guids`, with `count` blocks, according to `routes`. `count`
+/// must be at most 1024. There must be a switch at the index `own`. The attachments must be at switches of `guids`.
 fn table_at(
     alloc: Global,
     routes: &Routes,

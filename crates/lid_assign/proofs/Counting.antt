@@ -7,7 +7,7 @@ use Rattle.std.proofs.Math.Nat.{mul-le-mul_left, mul_comm}
 use Rattle.std.specs.Prelude.{Contains, Option, None, Some, is_some, option_map, option_and_then}
 use Rattle.subnet_view.specs.declared.end_port.EndPort.{EndPort}
 use Rattle.subnet_view.specs.Reading.{Cells}
-use Rattle.subnet_view.specs.EndPorts.{end_ports}
+use Rattle.subnet_view.specs.EndPort.{end_ports}
 use Rattle.subnet_view.proofs.Apart.{Apart, contains_map, contains-from_map}
 use Rattle.subnet_view.proofs.Members.{contains_cases, contains_as}
 use Rattle.lid_assign.specs.Ranges.{width_of, Range, range_at, meets, IsIn, Fits}

@@ -6,7 +6,7 @@ use Rattle.std.specs.List.{cons_option, filter_map}
 use Rattle.reply_facts.specs.Known.{cap_of}
 use Rattle.subnet_view.specs.Reading.{Cells, switches, usable_guid}
 use Rattle.lid_assign.specs.Claims.{least_room, room}
-use Rattle.lid_assign.specs.Rooms.{cap_if, usable_cap}
+use Rattle.lid_assign.specs.Room.{cap_if, usable_cap}
 
 -- no room is above the first number that is no unicast LID
 pub at_most : (caps : List ℕ) → least_room caps ≤ 0xC000

@@ -8,7 +8,7 @@ use Rattle.subnet_view.proofs.Members.{contains_cases, list_any_true, list_any_a
 use Rattle.lid_assign.specs.declared.hand_out.Next.{Next}
 use Rattle.lid_assign.specs.Ranges.{width_of, Range, range_at, meets, is_in, fits, Fits}
 use Rattle.lid_assign.specs.Lids.{least_open, hand_out}
-use Rattle.lid_assign.specs.Marks.{any_marked, from_on, AreMarkedMore, AreTaken, ArePassed, IsUnmarked, NoneUnmarked, IsLeastUnmarked}
+use Rattle.lid_assign.specs.LidMarks.{any_marked, from_on, AreMarkedMore, AreTaken, ArePassed, IsUnmarked, NoneUnmarked, IsLeastUnmarked}
 use Rattle.lid_assign.proofs.HandOut.{GivenLids, so_many, IsBlocked, is_least_open, open_is_none}
 use Rattle.lid_assign.proofs.KeptClaims.{Ports}
 use Rattle.lid_assign.proofs.LidLaws.{ranges_of, among_ranges}

@@ -4,12 +4,12 @@ use Rattle.std.specs.Prelude.{Option, None, Some, is_some, option_map, replicate
 use Rattle.subnet_view.specs.declared.end_port.EndPort.{EndPort}
 use Rattle.reply_facts.specs.Known.{claim_of}
 use Rattle.subnet_view.specs.Reading.{Cells}
-use Rattle.subnet_view.specs.EndPorts.{end_ports, ports_after}
+use Rattle.subnet_view.specs.EndPort.{end_ports, ports_after}
 use Rattle.lid_assign.specs.declared.hand_out.Next.{Next}
 use Rattle.lid_assign.specs.Ranges.{width_of}
 use Rattle.lid_assign.specs.Lids.{handed_out, is_no_room}
 use Rattle.lid_assign.specs.Claims.{room, kept_claim, with_kept, kept}
-use Rattle.lid_assign.specs.Marks.{from_on, fitting, unmarked, AreMarkedMore, AreTaken, ArePassed, NoneUnmarked, IsLeastUnmarked}
+use Rattle.lid_assign.specs.LidMarks.{from_on, fitting, unmarked, AreMarkedMore, AreTaken, ArePassed, NoneUnmarked, IsLeastUnmarked}
 use Rattle.lid_assign.proofs.Giving.{IsGiving, giving_start, given_kept, given_open, given_none, given_all}
 use Rattle.lid_assign.proofs.HandOut.{GivenLids}
 use Rattle.lid_assign.proofs.Keeping.{AreClaimed, claimed_start, IsKeeping, keeping_start, keeping_more, taken_all, unmarked_is, claimed_more}

@@ -9,11 +9,11 @@ use Rattle.std.specs.List.{list_any, cons_option}
 use Rattle.subnet_view.specs.declared.end_port.EndPort.{EndPort}
 use Rattle.reply_facts.specs.Known.{claim_of}
 use Rattle.subnet_view.specs.Reading.{Cells}
-use Rattle.subnet_view.specs.EndPorts.{end_ports}
+use Rattle.subnet_view.specs.EndPort.{end_ports}
 use Rattle.subnet_view.proofs.Members.{list_any_true, list_any_at}
 use Rattle.lid_assign.specs.Ranges.{width_of, Range, range_at, is_in}
 use Rattle.lid_assign.specs.Claims.{room, fitting_claim, claims, if_first, kept_claim, with_kept, kept, kept_range}
-use Rattle.lid_assign.specs.Marks.{is_marked, any_marked, from_on, is_in_some, fitting, if_unmarked, unmarked, AreMarkedMore, AreTaken}
+use Rattle.lid_assign.specs.LidMarks.{is_marked, any_marked, from_on, is_in_some, fitting, if_unmarked, unmarked, AreMarkedMore, AreTaken}
 use Rattle.lid_assign.proofs.KeptClaims.{Ports, claims_fitting, claims_at, claims_from}
 use Rattle.lid_assign.proofs.LidLaws.{ranges_of}
 use Rattle.lid_assign.proofs.Marking.{marked_at, at_marked}

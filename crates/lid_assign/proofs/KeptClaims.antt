@@ -7,7 +7,7 @@ use Rattle.std.specs.List.{list_any}
 use Rattle.subnet_view.specs.declared.end_port.EndPort.{EndPort}
 use Rattle.reply_facts.specs.Known.{claim_of}
 use Rattle.subnet_view.specs.Reading.{Cells}
-use Rattle.subnet_view.specs.EndPorts.{end_ports}
+use Rattle.subnet_view.specs.EndPort.{end_ports}
 use Rattle.subnet_view.proofs.Apart.{Apart, split_once}
 use Rattle.subnet_view.proofs.Members.{contains_here, contains_later, contains_cases, contains_none, list_any_true, list_any_at, contains_first, contains_in}
 use Rattle.lid_assign.specs.Ranges.{Range, range_at, meets, fits, Fits}

@@ -6,7 +6,7 @@ use Rattle.std.specs.List.{filter_map}
 use Rattle.subnet_view.specs.declared.end_port.EndPort.{EndPort}
 use Rattle.fact_store.specs.View.{Facts, cells_of}
 use Rattle.subnet_view.specs.Reading.{Cells}
-use Rattle.subnet_view.specs.EndPorts.{end_ports}
+use Rattle.subnet_view.specs.EndPort.{end_ports}
 use Rattle.subnet_view.proofs.Apart.{Apart}
 use Rattle.subnet_view.proofs.EndPorts.{end_ports_apart}
 use Rattle.subnet_view.proofs.Members.{contains_in}

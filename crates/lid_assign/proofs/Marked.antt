@@ -2,7 +2,7 @@
 use Rattle.std.proofs.Common.{◌≡◌, ◌<◌, ◌-◌, ◌+◌, ℕ, suc, List, ◌∷◌, sym, ap, ◌∙◌, Bool, true, false, cond, arith, length, add-one}
 use Rattle.std.specs.Prelude.{filter, slice_index_or}
 use Rattle.lid_assign.specs.Lids.{Given, count_up, is_lid, top_of, end_of, rising_lids}
-use Rattle.lid_assign.specs.Indexed.{AreLidMarks, marked_from}
+use Rattle.lid_assign.specs.LidMap.{AreLidMarks, marked_from}
 use Rattle.lid_assign.proofs.Rising.{filter_same}
 
 -- the numbers from one on begin with it

@@ -7,7 +7,7 @@ use Rattle.std.specs.Prelude.{None, Some}
 use Rattle.subnet_view.proofs.Members.{list_any_true, list_any_at}
 use Rattle.lid_assign.specs.Ranges.{Range, is_in, IsIn}
 use Rattle.lid_assign.specs.Lids.{count_up}
-use Rattle.lid_assign.specs.Marks.{is_marked, any_marked, from_on, AreMarkedMore}
+use Rattle.lid_assign.specs.LidMarks.{is_marked, any_marked, from_on, AreMarkedMore}
 use Rattle.lid_assign.proofs.Ranges.{in_from_test, test_from_in}
 use Rattle.lid_assign.proofs.Rising.{within-count_up, contains-count_up}
 

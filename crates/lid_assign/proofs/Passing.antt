@@ -5,7 +5,7 @@ use Rattle.std.proofs.lemmas.Nat.{mod-mul-add, pow_pos}
 use Rattle.std.specs.Prelude.{Option, Some}
 use Rattle.lid_assign.specs.declared.hand_out.Next.{Next}
 use Rattle.lid_assign.specs.Ranges.{Range, fits, Fits}
-use Rattle.lid_assign.specs.Marks.{is_marked, any_marked, from_on, is_in_some, AreMarkedMore, IsUnmarked, NoneUnmarked, IsLeastUnmarked, IsPassed, ArePassed}
+use Rattle.lid_assign.specs.LidMarks.{is_marked, any_marked, from_on, is_in_some, AreMarkedMore, IsUnmarked, NoneUnmarked, IsLeastUnmarked, IsPassed, ArePassed}
 use Rattle.lid_assign.proofs.Marking.{marked_at, none_marked, not_marked}
 use Rattle.lid_assign.proofs.Ranges.{fits_from_test, test_from_fits, multiples_apart, test_from_in}
 

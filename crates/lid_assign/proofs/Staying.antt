@@ -8,7 +8,7 @@ use Rattle.reply_facts.specs.declared.key.Key.{Key}
 use Rattle.fact_store.specs.View.{Facts, cell_for, cells_of}
 use Rattle.subnet_view.specs.declared.end_port.EndPort.{EndPort}
 use Rattle.reply_facts.specs.Known.{claim_of}
-use Rattle.subnet_view.specs.EndPorts.{end_ports}
+use Rattle.subnet_view.specs.EndPort.{end_ports}
 use Rattle.subnet_view.proofs.Apart.{Apart, contains_at, contains_map, contains-from_map, before_apart, split_at}
 use Rattle.subnet_view.proofs.BesideClaims.{is_claim, cap_same, switches_same, end_ports_same}
 use Rattle.subnet_view.proofs.EndPorts.{end_ports_apart}

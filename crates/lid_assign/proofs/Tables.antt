@@ -20,7 +20,8 @@ use Rattle.subnet_view.proofs.Members.{contains_in}
 use Rattle.subnet_view.specs.declared.end_port.EndPort.{EndPort}
 use Rattle.lid_assign.specs.Ranges.{width_of, range_at, is_in}
 use Rattle.lid_assign.specs.Lids.{has_number, is_end_port_at, is_lid, top_among, last_of, greatest}
-use Rattle.lid_assign.specs.Indexed.{AreOwners, AreOwnersMore, AreLidMarks, AreBelow, ByPort, node_port_cmp}
+use Rattle.smp_bytes.specs.Ports.{node_port_cmp}
+use Rattle.lid_assign.specs.LidMap.{AreOwners, AreOwnersMore, AreLidMarks, AreBelow, ByPort}
 
 -- the last of a list, which a step back takes
 pub stepped : {X : Type 0} (before after : List X) (r : X) (P : Type 0) (x : Option (Bor X)) → MatchOption x P (λ b. before ≡ push after b.now) → Some r

@@ -5,7 +5,7 @@ use Rattle.subnet_view.specs.declared.end_port.EndPort.{EndPort}
 use Rattle.subnet_view.proofs.Members.{contains_here, contains_later, contains_cases, contains_none}
 use Rattle.lid_assign.specs.Ranges.{range_at, IsIn}
 use Rattle.lid_assign.specs.Lids.{Given, greatest, last_of, top_among, top_of, end_of}
-use Rattle.lid_assign.specs.Indexed.{AreBelow}
+use Rattle.lid_assign.specs.LidMap.{AreBelow}
 use Rattle.lid_assign.proofs.Ranges.{some_width}
 
 at_most_greatest : (lmc : ℕ) (given : List (EndPort × ℕ)) (x : EndPort × ℕ) → Contains given x → last_of lmc x ≤ greatest (map (last_of lmc) given)

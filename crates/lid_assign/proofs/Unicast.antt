@@ -2,7 +2,7 @@
 use Rattle.std.proofs.Common.{◌≡◌, ◌<◌, ℕ, Option, None, Some, sym, arith}
 use Rattle.std.specs.Prelude.{IfSome}
 use Rattle.subnet_view.specs.declared.end_port.EndPort.{EndPort}
-use Rattle.lid_assign.specs.Indexed.{AreBelow}
+use Rattle.lid_assign.specs.LidMap.{AreBelow}
 use Rattle.lid_assign.specs.Lids.{Given, owner_of}
 use Rattle.lid_assign.proofs.Owners.{given-from_owner}
 

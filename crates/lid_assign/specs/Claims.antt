@@ -1,5 +1,5 @@
--- Which claim an end port keeps. It keeps the claim if the range from there on fits, and no end port before it claims a
--- number of that range.
+-- Which claim an end port keeps. It keeps the claim if the range that begins at the claim fits, and no end port
+-- before it claims a range that fits and has a number in common with that range.
 use Rattle.std.specs.Prelude.{ℕ, Bool, false, List, [], ◌∷◌, min, Option, None, Some, option_map, option_and_then}
 use Rattle.std.specs.Prelude.{if◌then◌else◌}
 use Rattle.std.specs.Option.{option_map_or}
@@ -7,7 +7,7 @@ use Rattle.std.specs.List.{filter_map, list_any}
 use Rattle.subnet_view.specs.declared.end_port.EndPort.{EndPort}
 use Rattle.reply_facts.specs.Known.{cap_of, claim_of}
 use Rattle.subnet_view.specs.Reading.{Cells, switches}
-use Rattle.subnet_view.specs.EndPorts.{end_ports}
+use Rattle.subnet_view.specs.EndPort.{end_ports}
 use Rattle.lid_assign.specs.Ranges.{Range, range_at, meets, fits}
 
 -- the least of some table sizes, but at most 0xC000, the first number past the unicast LIDs
@@ -20,11 +20,11 @@ least_room (cap ∷ caps) = min cap (least_room caps)
 abbrev pub room : Cells → ℕ
 room cells = least_room (filter_map (cap_of cells) (switches cells))
 
--- `c` if the range of the end port `e` from `c` on fits, otherwise None
+-- `c` if the range of the end port `e` that begins at `c` fits, otherwise None
 abbrev pub if_fits : ℕ → ℕ → EndPort → ℕ → Option ℕ
 if_fits room lmc e c = if fits room (range_at lmc e c) then Some c else None
 
--- the number that the end port `e` claims, if the range of `e` from that number on fits; otherwise None
+-- the number that the end port `e` claims, if the range of `e` that begins at that number fits; otherwise None
 abbrev pub fitting_claim : ℕ → Cells → EndPort → Option ℕ
 fitting_claim lmc cells e = option_and_then (if_fits (room cells) lmc e) (claim_of cells e.node e.port)
 
@@ -32,8 +32,8 @@ fitting_claim lmc cells e = option_and_then (if_fits (room cells) lmc e) (claim_
 abbrev pub claims : ℕ → Cells → Range → EndPort → Bool
 claims lmc cells r e = option_map_or (λ c. meets r (range_at lmc e c)) (fitting_claim lmc cells e) false
 
--- `c` if no end port of `earlier` claims a range that fits and has a number in common with the range of `e` from `c`
--- on; otherwise None
+-- `c` if no end port of `earlier` claims a range that fits and has a number in common with the range of `e` that
+-- begins at `c`; otherwise None
 abbrev pub if_first : ℕ → Cells → List EndPort → EndPort → ℕ → Option ℕ
 if_first lmc cells earlier e c = if list_any (claims lmc cells (range_at lmc e c)) earlier then None else Some c
 
@@ -47,7 +47,7 @@ abbrev pub with_kept : ℕ → Cells → List EndPort → List EndPort → List 
 with_kept lmc cells earlier [] = []
 with_kept lmc cells earlier (e ∷ rest) = (e, kept_claim lmc cells earlier e) ∷ with_kept lmc cells (e ∷ earlier) rest
 
--- each end port, in order, with the claim that it keeps, or None if it keeps none
+-- each end port, in the order of `end_ports`, with the claim that it keeps, or None if it keeps none
 abbrev pub kept : ℕ → Cells → List (EndPort × Option ℕ)
 kept lmc cells = with_kept lmc cells [] (end_ports cells)
 

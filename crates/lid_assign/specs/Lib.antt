@@ -1,9 +1,9 @@
 pub mod Claims
-pub mod Indexed
+pub mod LidMap
 pub mod LidFault
 pub mod LidLaws
 pub mod Lids
-pub mod Marks
+pub mod LidMarks
 pub mod Ranges
-pub mod Rooms
+pub mod Room
 pub mod Stability

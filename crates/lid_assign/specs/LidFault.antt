@@ -1,10 +1,10 @@
 -- When end ports get no LIDs: no room, or no memory.
 use Rattle.std.specs.Prelude.{ℕ, Bool, true, false, List, Option, None, Some, length, codes, if◌then◌else◌}
 use Rattle.subnet_view.specs.Reading.{Cells}
-use Rattle.subnet_view.specs.EndPorts.{end_ports}
-use Rattle.lid_assign.specs.declared.fault.NoRoom.{NoRoom as Room}
-use Rattle.lid_assign.specs.declared.fault.LidFault.{LidFault}
-use Rattle.lid_assign.specs.declared.fault.LidFault.TheVariants.{NoRoom, Memory}
+use Rattle.subnet_view.specs.EndPort.{end_ports}
+use Rattle.lid_assign.specs.declared.lid_fault.NoRoom.{NoRoom as Room}
+use Rattle.lid_assign.specs.declared.lid_fault.LidFault.{LidFault}
+use Rattle.lid_assign.specs.declared.lid_fault.LidFault.TheVariants.{NoRoom, Memory}
 use Rattle.lid_assign.specs.Lids.{is_no_room}
 use Rattle.lid_assign.specs.Claims.{room}
 

@@ -5,7 +5,7 @@ use Rattle.subnet_view.specs.declared.end_port.EndPort.{EndPort}
 use Rattle.fact_store.specs.View.{Facts, cells_of}
 use Rattle.reply_facts.specs.Known.{claim_of}
 use Rattle.subnet_view.specs.Reading.{Cells}
-use Rattle.subnet_view.specs.EndPorts.{end_ports}
+use Rattle.subnet_view.specs.EndPort.{end_ports}
 use Rattle.smp_bytes.specs.LidRange.{has_lid}
 use Rattle.lid_assign.specs.Ranges.{width_of, range_at, IsIn, IsInBoth, Fits}
 use Rattle.lid_assign.specs.Claims.{room}
@@ -15,13 +15,13 @@ use Rattle.lid_assign.specs.Lids.{Given, lids, IsNoRoom, owner_of, lid_of, lmc_o
 abbrev pub Stands : {X : Type 0} → List X → X → List X → List X → Type 0
 Stands earlier x later all = all ≡ earlier ++ x ∷ later
 
--- the end port `e` claims the number `c`, and the range of `e` from `c` on fits
+-- the end port `e` claims the number `c`, and the range of `e` that begins at `c` fits
 pub record ClaimsFitting (lmc : ℕ) (cells : Cells) (e : EndPort) (c : ℕ) : Type 0 where
   pub claimed : claim_of cells e.node e.port ≡ Some c
   pub claim_fits : Fits (room cells) (range_at lmc e c)
 
--- the end port `e` keeps the claim `c`: the range of `e` from `c` on fits, and no end port before `e` claims a range
--- that fits and has a number in common with that range. True if `e` is not an end port
+-- the end port `e` keeps the claim `c`: `e` claims `c`, the range of `e` that begins at `c` fits, and no end port
+-- before `e` claims a range that fits and has a number in common with that range. True if `e` is not an end port
 abbrev pub Keeps : ℕ → Cells → EndPort → ℕ → Type 0
 Keeps lmc cells e c =
     (earlier later : List EndPort) → Stands earlier e later (end_ports cells) → ClaimsFitting lmc cells e c
@@ -40,9 +40,9 @@ pub record WasTaken (lmc : ℕ) (cells : Cells) (earlier given : List (EndPort �
   pub is_before : Contains earlier (by, lid) ⊎ Keeps lmc cells by lid
   pub is_its : IsIn (range_at lmc by lid) n
 
--- `given` has the end ports in order, each with a LID. Their ranges fit and have no number in common. An end port has
--- the claim that it keeps. If it keeps none, it has the least number from which its range fits and has no number that
--- was taken (`WasTaken`)
+-- `given` has the end ports in the order of `end_ports`, each with a LID. Their ranges fit and have no number in
+-- common. An end port has the claim that it keeps. If it keeps none, it has the least number from which its range
+-- fits and has no number that was taken (`WasTaken`)
 pub record AreLids (lmc : ℕ) (cells : Cells) (given : List (EndPort × ℕ)) : Type 0 where
   pub end_ports_in_order : map (λ x. x.0) given ≡ end_ports cells
   pub each_fits : (e : EndPort) (n : ℕ) → Contains given (e, n) → Fits (room cells) (range_at lmc e n)

@@ -10,7 +10,7 @@ use Rattle.lid_assign.specs.Claims.{room, kept, kept_range}
 
 -- LIDs that are handed out: -------------------------------------------------------
 
--- the `n` numbers from `start` on
+-- the `n` numbers that begin at `start`
 abbrev pub count_up : ℕ → ℕ → List ℕ
 count_up start zero = []
 count_up start (suc n) = start ∷ count_up (suc start) n
@@ -35,11 +35,11 @@ hand_out room lmc taken ((e, None) ∷ rest) =
     option_and_then (λ c. option_map (λ given. (e, c) ∷ given) (hand_out room lmc (range_at lmc e c ∷ taken) rest))
     (least_open room taken (width_of lmc e))
 
--- each end port in order, with its LID; None if some end port finds no LID
+-- each end port in the order of `end_ports`, with its LID; None if some end port finds no LID
 abbrev pub handed_out : ℕ → Cells → Option (List (EndPort × ℕ))
 handed_out lmc cells = hand_out (room cells) lmc (filter_map (kept_range lmc) (kept lmc cells)) (kept lmc cells)
 
--- the LMC of a subnet, and its end ports in their order, each with its LID
+-- the LMC of a subnet, and its end ports in the order of `end_ports`, each with its LID
 pub record Given : Type 0 where
   pub lmc : ℕ
   pub ports : List (EndPort × ℕ)

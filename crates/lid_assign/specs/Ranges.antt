@@ -1,5 +1,5 @@
--- The LIDs of an end port, as a range of consecutive numbers from its LID on: one for a switch, and 2^LMC for an
--- adapter port (addressing chapter, base LID and LMC).
+-- The LIDs of an end port, as a range of consecutive numbers that begins at its LID: one for a switch, and 2^LMC for
+-- an adapter port (addressing chapter, base LID and LMC).
 use Rattle.std.specs.Prelude.{◌≡◌, ◌↔◌, ◌<◌, ◌≤◌, ◌+◌, ◌%◌, ◌^◌, ℕ, Bool, ◌==◌, ◌&&◌, nat_le, nat_lt, IsTrue, if◌then◌else◌}
 use Rattle.smp_bytes.specs.LidRange.{is_among}
 use Rattle.subnet_view.specs.declared.end_port.EndPort.{EndPort}

@@ -1,14 +1,14 @@
 ghost use Rattle.std.specs.Prelude.{◌≡◌, IfOk, unwrap_or};
-ghost use Rattle.lid_assign.specs.declared.fault.LidFault.TheVariants.{Memory};
+ghost use Rattle.lid_assign.specs.declared.lid_fault.LidFault.TheVariants.{Memory};
 ghost use Rattle.fact_store.specs.View.{cells_of};
 ghost use Rattle.lid_assign.specs.Lids.{lids, handed_out};
 ghost use Rattle.lid_assign.specs.LidFault.{is_memory, lid_fault, no_room};
-ghost use Rattle.lid_assign.specs.Marks.{IsFound};
+ghost use Rattle.lid_assign.specs.LidMarks.{IsFound};
 ghost use Rattle.smp_bytes.specs.Judges.{JudgesButFor};
 
-use crate::fault::LidFault;
 use crate::hand_out::hand_out;
 use crate::keep_claims::keep_claims;
+use crate::lid_fault::LidFault;
 use crate::lid_map::LidMap;
 use crate::room::{no_room, room, room_and_end_ports};
 use attr_codec::Lmc;
@@ -18,11 +18,11 @@ use std::alloc::Global;
 use subnet_view::{EndPort, end_ports};
 
 /// Assigns a LID to each end port of the view. A switch has a range of one number, its LID. An adapter's port has a
-/// range of 2^`lmc` numbers, from its LID on. A range fits if it begins at a multiple of its width other than 0, and
-/// ends below the room. The room is the least table size of a usable switch, but at most 49152, where unicast LIDs end.
-/// An end port keeps its claim if the claim's range fits, and has no number in common with a fitting range that an
-/// earlier end port claims. Each other end port, in order, takes the least number whose range fits and has no number
-/// that is taken. Unless memory runs out, walks the cells at most four times.
+/// range of 2^`lmc` numbers, which begins at its LID. A range fits if it begins at a multiple of its width other than
+/// 0, and ends below the room. The room is the least table size of a usable switch, but at most 49152, where unicast
+/// LIDs end. An end port keeps its claim if the claim's range fits, and has no number in common with a fitting range
+/// that an earlier end port claims. Each other end port, in the order of `end_ports`, takes the least number whose
+/// range fits and has no number that is taken. Unless memory runs out, walks the cells at most four times.
 ///
 /// # Errors
 ///
@@ -50,8 +50,8 @@ fn out_of_memory(store: &Store, lmc: Lmc) -> LidFault
     }
 }
 
-/// Returns the end ports in their order, each with its LID, or `None` if some end port finds no LID. Returns an error
-/// if memory runs out.
+/// Returns the end ports in the order of `end_ports`, each with its LID, or `None` if some end port finds no LID.
+/// Returns an error if memory runs out.
 fn handed_out(
     alloc: Global,
     store: &Store,

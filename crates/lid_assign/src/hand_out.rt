@@ -3,8 +3,8 @@ ghost use Rattle.std.specs.List.{filter_map};
 ghost use Rattle.lid_assign.specs.Lids.{hand_out};
 ghost use Rattle.lid_assign.specs.Claims.{kept_range};
 ghost use Rattle.lid_assign.specs.Ranges.{width_of};
-ghost use Rattle.lid_assign.specs.Marks.{from_on, AreMarkedMore, ArePassed, AreTaken, IsFound, IsLeastUnmarked};
-ghost use Rattle.lid_assign.specs.Marks.{IsPassed, NoneUnmarked};
+ghost use Rattle.lid_assign.specs.LidMarks.{from_on, AreMarkedMore, ArePassed, AreTaken, IsFound, IsLeastUnmarked};
+ghost use Rattle.lid_assign.specs.LidMarks.{IsPassed, NoneUnmarked};
 
 use crate::lid_marks::{any_marked, mark};
 use attr_codec::Lmc;
@@ -21,10 +21,10 @@ pub(crate) struct Next {
     adapter: usize,
 }
 
-/// Returns the end ports of `keepers` in their order, each with its LID. The LID is the claim that the end port keeps.
-/// If it keeps none, the LID is the least number whose range fits and has no number that is taken. Returns `None` if
-/// some end port finds no LID. In `taken` the ranges of kept claims must be marked, and no others. The length of
-/// `taken` is the room, and must be at most 49152.
+/// Returns the end ports of `keepers`, in the order of `keepers`, each with its LID. The LID is the claim that the
+/// end port keeps. If the end port keeps none, the LID is the least number whose range fits and has no number that is
+/// taken. Returns `None` if some end port finds no LID. In `taken` the ranges of kept claims must be marked, and no
+/// others. The length of `taken` is the room, and must be at most 49152.
 pub(crate) fn hand_out(
     alloc: Global,
     lmc: Lmc,
@@ -100,10 +100,10 @@ fn take_from(taken: &mut [bool], next: &mut usize, width: usize) -> Option<Lid>
     Some(Lid::new(first as u16))
 }
 
-/// Returns the least number, from `next` on, whose range of `width` numbers fits and has no mark. Returns `None` if no
-/// such number exists. `width` must be from 1 to 128, and `marks` must have at most 49152 numbers. `next` must be
-/// passed (`IsPassed`): no such number is below `next`, and `next` is a multiple of `width` other than 0, and at most
-/// `width` past the end of `marks`.
+/// Returns the least number that is at least `next` and whose range of `width` numbers fits and has no mark. Returns
+/// `None` if no such number exists. `width` must be from 1 to 128, and `marks` must have at most 49152 numbers.
+/// `next` must be passed (`IsPassed`): no such number is below `next`, and `next` is a multiple of `width` other than
+/// 0, and at most `width` past the end of `marks`.
 fn least_unmarked(marks: &[bool], mut next: usize, width: usize) -> Option<usize>
     requires some { 1 ≤ width }
     requires few { width ≤ 128 }

@@ -2,9 +2,9 @@ ghost use Rattle.std.specs.Prelude.{◌≡◌, ◌≤◌, false, length, option_
 ghost use Rattle.std.specs.List.{filter_map};
 ghost use Rattle.reply_facts.specs.Known.{claim_of};
 ghost use Rattle.fact_store.specs.View.{cells_of};
-ghost use Rattle.subnet_view.specs.EndPorts.{end_ports};
+ghost use Rattle.subnet_view.specs.EndPort.{end_ports};
 ghost use Rattle.lid_assign.specs.Claims.{room, kept, kept_range};
-ghost use Rattle.lid_assign.specs.Marks.{fitting, from_on, unmarked, AreMarkedMore, AreTaken};
+ghost use Rattle.lid_assign.specs.LidMarks.{fitting, from_on, unmarked, AreMarkedMore, AreTaken};
 
 use crate::lid_marks::{any_marked, fits, mark, width};
 use attr_codec::Lmc;
@@ -13,10 +13,11 @@ use smp_bytes::Lid;
 use std::alloc::{AllocError, Global};
 use subnet_view::EndPort;
 
-/// Returns the end ports in their order, each with the claim that it keeps, or `None` if it keeps no claim. A claim is
-/// kept if its range fits, and has no number in common with a fitting range that an earlier end port claims. Marks the
-/// ranges of fitting claims in `claimed`, and the ranges of kept claims in `taken`. `ports` must be the end ports of
-/// `store` in their order. `claimed` and `taken` must be as long as the room, and have no marks.
+/// Returns the end ports in the order of `end_ports`, each with the claim that it keeps, or `None` if it keeps no
+/// claim. A claim is kept if its range fits, and has no number in common with a fitting range that an earlier end
+/// port claims. Marks the ranges of fitting claims in `claimed`, and the ranges of kept claims in `taken`. `ports`
+/// must be the end ports of `store` in that order. `claimed` and `taken` must be as long as the room, and have no
+/// marks.
 pub(crate) fn keep_claims(
     alloc: Global,
     store: &Store,

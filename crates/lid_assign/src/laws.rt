@@ -56,9 +56,9 @@ pub fn lids_settle()
 {}
 
 /// If a later view grows from an earlier view (`GrowsFrom`) and all end ports of both find LIDs, each end port of the
-/// earlier view keeps its LID. That the later view grows means: it has the earlier end ports, and each claims the LID
-/// that it has by the earlier view. All other end ports claim nothing or 0. The room of the later view is above the
-/// greatest number that an end port has by the earlier view.
+/// earlier view keeps its LID. The later view grows from the earlier one if the following holds. It has the earlier
+/// end ports, and each of these claims the LID that it has under the earlier view. All other end ports claim nothing
+/// or 0. The room of the later view is above the greatest number that an end port has under the earlier view.
 pub fn lids_stay()
     ensures { LidsStay }
 {}

@@ -1,7 +1,7 @@
 ghost use Rattle.std.specs.Prelude.{◌≡◌, ◌+◌, ◌<◌, ◌≤◌, ◌^◌, length, vec_len, IfOk, IfSome, max, unwrap_or};
 ghost use Rattle.lid_assign.specs.Ranges.{range_at, width_of};
 ghost use Rattle.lid_assign.specs.Lids.{owner_of, lid_of, lmc_of, top_of, top_among, end_of, last_of, rising_lids};
-ghost use Rattle.lid_assign.specs.Indexed.{AreOwners, AreOwnersMore, AreLidMarks, AreBelow, ByPort, marked_from};
+ghost use Rattle.lid_assign.specs.LidMap.{AreOwners, AreOwnersMore, AreLidMarks, AreBelow, ByPort, marked_from};
 
 use crate::lid_marks::{lmc_at, width};
 use attr_codec::Lmc;
@@ -11,12 +11,13 @@ use std::collections::BTreeMap;
 use std::marker::Model;
 use subnet_view::EndPort;
 
-/// A map from end ports to LIDs. The range of an end port begins at its LID: one number for a switch, and 2^LMC numbers
-/// for an adapter's port. Contracts see the LMC, and the end ports in their order, each with its LID.
+/// A map from end ports to LIDs. The range of an end port begins at its LID: one number for a switch, and 2^LMC
+/// numbers for an adapter's port. Contracts see the LMC, and the end ports in the order of `end_ports`, each with its
+/// LID.
 #[derive(Drop)]
 pub struct LidMap {
     lmc: Lmc,
-    /// The end ports in their order, each with its LID.
+    /// The end ports in the order of `end_ports`, each with its LID.
     given: Vec<(EndPort, Lid)>,
     /// For each number up to the greatest number in a range, the end port whose range has the number, or `None`.
     owners: Vec<Option<EndPort>>,
@@ -24,12 +25,12 @@ pub struct LidMap {
     by_port: BTreeMap<(Guid, PortNum), Lid>,
     /// The greatest number in the range of an end port, or `None` if there are no end ports.
     top: Option<Lid>,
-    /// The LIDs that are assigned, each once, rising.
+    /// The LIDs that are assigned, each once, in ascending order.
     rising: Vec<Lid>,
 }
 
 impl Model for LidMap {
-    ghost use Rattle.lid_assign.specs.Indexed.{IsIndexed};
+    ghost use Rattle.lid_assign.specs.LidMap.{IsIndexed};
     ghost use Rattle.lid_assign.specs.Lids.{Given};
 
     ghost Value = { Given };
@@ -41,8 +42,8 @@ impl Model for LidMap {
 }
 
 impl LidMap {
-    /// Creates a map with the LMC `lmc` from the end ports in their order, each with its LID. All ranges must be below
-    /// 49152. Returns an error if memory runs out.
+    /// Creates a map with the LMC `lmc` from the end ports in the order of `end_ports`, each with its LID. All ranges
+    /// must be below 49152. Returns an error if memory runs out.
     pub(crate) fn new(
         alloc: Global,
         lmc: Lmc,
@@ -72,7 +73,7 @@ impl LidMap {
         lmc_at(self.lmc, *port)
     }
 
-    /// Returns the end ports in their order, each with its LID.
+    /// Returns the end ports in the order of `end_ports`, each with its LID.
     pub fn given(&self) -> &[(EndPort, Lid)]
         ensures { result.now ≡ self.now.ports }
     {
@@ -98,7 +99,7 @@ impl LidMap {
         self.by_port.get(&(port.node, port.port)).copied()
     }
 
-    /// Returns the LIDs that are assigned, each once, rising.
+    /// Returns the LIDs that are assigned, each once, in ascending order.
     pub fn lids(&self) -> &[Lid]
         ensures { result.now ≡ rising_lids self.now }
     {

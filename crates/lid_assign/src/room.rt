@@ -1,12 +1,12 @@
 ghost use Rattle.std.specs.Prelude.{◌≡◌, Some, length};
 ghost use Rattle.fact_store.specs.View.{cell_for, cells_of};
-ghost use Rattle.subnet_view.specs.EndPorts.{end_ports};
+ghost use Rattle.subnet_view.specs.EndPort.{end_ports};
 ghost use Rattle.lid_assign.specs.LidFault.{no_room};
 ghost use Rattle.lid_assign.specs.Lids.{is_no_room};
 ghost use Rattle.lid_assign.specs.Claims.{room};
-ghost use Rattle.lid_assign.specs.Rooms.{usable_cap};
+ghost use Rattle.lid_assign.specs.Room.{usable_cap};
 
-use crate::fault::NoRoom;
+use crate::lid_fault::NoRoom;
 use crate::without_memory::runs_out;
 use attr_codec::Lmc;
 use fact_store::{Sighting, Store};

@@ -4,7 +4,7 @@ ghost use Rattle.std.specs.List.{filter_map};
 ghost use Rattle.fact_store.specs.View.{cells_of};
 ghost use Rattle.lid_assign.specs.Lids.{is_no_room};
 ghost use Rattle.lid_assign.specs.Claims.{kept, kept_range, room};
-ghost use Rattle.lid_assign.specs.Marks.{AreTaken};
+ghost use Rattle.lid_assign.specs.LidMarks.{AreTaken};
 
 use crate::hand_out::{first, take};
 use crate::keep_claims::{claim, claims_first, keep};
@@ -18,8 +18,8 @@ use subnet_view::next_end_port;
 /// The number of LIDs up to the last unicast LID, including 0.
 const NUMBERS: usize = Lid::UNICAST_END as usize;
 
-/// Returns whether some end port finds no LID. The number of walks over the cells is linear in the number of end ports.
-/// Does not allocate.
+/// Returns whether some end port finds no LID. The number of walks through the cells is linear in the number of end
+/// ports. Does not allocate.
 pub(crate) fn runs_out(store: &Store, lmc: Lmc) -> bool
     ensures { result ≡ is_no_room lmc (cells_of store.now) }
 {

@@ -20,11 +20,12 @@ use Rattle.fabric_sim.specs.ToldOfEnd.{path_of}
 use Rattle.sweep.specs.declared.answer.Answer.{Answer}
 use Rattle.sweep.specs.declared.fault.SweepFault.{SweepFault}
 use Rattle.sweep.specs.declared.fault.SweepFault.TheVariants.{SequenceSpent}
-use Rattle.sweep.specs.declared.request.Question.{Question}
-use Rattle.sweep.specs.declared.request.Question.TheVariants as ask
+use Rattle.sweep.specs.declared.question.Question.{Question}
+use Rattle.sweep.specs.declared.question.Question.TheVariants as ask
 use Rattle.sweep.specs.declared.request.Request.{Request}
 use Rattle.sweep.specs.Sweep.{Sweep, attribute_asked, modifier_asked}
-use Rattle.sweep.specs.Finding.{finding, questions}
+use Rattle.sweep.specs.Finding.{finding}
+use Rattle.sweep.specs.Questions.{questions}
 use Rattle.smp_bytes.specs.Answers.{has_ports}
 use Rattle.sweep.specs.Replies.{is_for, belongs, request_of, report_for, fault_by, fault_for, answer_for, is_spent, judged_by, judged_for, judged_as, judged}
 

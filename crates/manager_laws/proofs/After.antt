@@ -25,7 +25,7 @@ use Rattle.fabric_sim.proofs.TracedCalls.{agents_after, repeated_agents, lost_ag
 use Rattle.fabric_sim.proofs.TripShapes.{IsAlong}
 use Rattle.lft_blocks.specs.Plan.{PlanValue}
 use Rattle.plan_steps.specs.declared.step.Step.{Step}
-use Rattle.plan_steps.specs.Phases.{Phase}
+use Rattle.plan_steps.specs.Phase.{Phase}
 use Rattle.sm_manager.specs.declared.outgoing.Outgoing.{Outgoing}
 use Rattle.sm_manager.specs.declared.pending.Pending.{Pending}
 use Rattle.sm_manager.specs.Manager.{Manager, Writing, begin_fault, after_begin_sweep, after_take_outgoing}

@@ -21,7 +21,7 @@ use Rattle.reply_facts.specs.Known.{kind_in, guid_in, peer_in, up_in, count_in, 
 use Rattle.reply_facts.specs.Report.{Sightings, guid_port}
 use Rattle.fact_store.specs.View.{cells_of, view}
 use Rattle.subnet_view.specs.Reading.{Cells, IsUsable}
-use Rattle.subnet_view.specs.EndPorts as view_ports
+use Rattle.subnet_view.specs.EndPort as view_ports
 use Rattle.subnet_view.specs.Wires as view_wires
 use Rattle.subnet_view.specs.Wires.{CanHaveWire}
 use Rattle.subnet_view.specs.FabricAgreement.{AgreesOn, IsEndPortIn, HasEndPort, HasWire, TellsEndPort}

@@ -8,7 +8,7 @@ use Rattle.fabric_model.specs.FabricWalks.{IsJoinedTo}
 use Rattle.fabric_sim.specs.Simulation.{fabric_of}
 use Rattle.fact_store.specs.View.{cells_of}
 use Rattle.subnet_view.specs.FabricAgreement.{AgreesOn}
-use Rattle.subnet_view.specs.EndPorts.{IsEndPort}
+use Rattle.subnet_view.specs.EndPort.{IsEndPort}
 use Rattle.lft_blocks.specs.InForce.{HoldsPlan}
 use Rattle.sweep.specs.Sweep.{Sweep, path_to, IsReached}
 use Rattle.sm_manager.specs.Writing.{is_written}

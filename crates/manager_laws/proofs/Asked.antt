@@ -7,10 +7,10 @@ use Rattle.std.specs.Prelude.{Some, find, ◌==◌}
 use Rattle.std.specs.List.{AllByRecursion}
 use Rattle.request_table.proofs.Numbers.{rising_least}
 use Rattle.reply_facts.specs.declared.report.Context.{Context}
-use Rattle.sweep.specs.declared.request.Question.TheVariants as ask
+use Rattle.sweep.specs.declared.question.Question.TheVariants as ask
 use Rattle.sweep.specs.declared.request.Request.{Request}
 use Rattle.sweep.specs.Sweep.{Asking, AreRising, numbered, without_number}
-use Rattle.sweep.specs.Finding.{port_questions}
+use Rattle.sweep.specs.Questions.{port_questions}
 use Rattle.sweep.proofs.Numbers.{rising_asked}
 use Rattle.manager_laws.proofs.Lists.{Has}
 

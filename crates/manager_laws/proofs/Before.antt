@@ -8,7 +8,7 @@ use Rattle.fabric_model.specs.declared.cable.NodePort.{NodePort}
 use Rattle.fabric_model.specs.Cables.{is_same_port}
 use Rattle.fabric_sim.specs.Simulation.{Simulation}
 use Rattle.lft_blocks.specs.Plan.{PlanValue, plan_of}
-use Rattle.plan_steps.specs.Phases.{phases_of}
+use Rattle.plan_steps.specs.Phase.{phases_of}
 use Rattle.subnet_view.proofs.Members.{contains_none}
 use Rattle.sweep.specs.Sweep.{Sweep}
 use Rattle.sm_manager.specs.declared.outgoing.Outgoing.{Outgoing}

@@ -27,7 +27,7 @@ use Rattle.subnet_view.proofs.Members.{contains_cases, contains_none}
 use Rattle.sm_state.specs.declared.control.Control.{Control}
 use Rattle.sm_state.specs.declared.event.Message.{Message}
 use Rattle.sm_state.specs.declared.transition.Transition.{Transition}
-use Rattle.sm_state.specs.Controls.{control_of_message, modifier_of_control}
+use Rattle.sm_state.specs.Control.{control_of_message, modifier_of_control}
 use Rattle.sm_state.specs.declared.event.Event.TheVariants as event
 use Rattle.sm_state.specs.Transitions.{status_of, stepped}
 use Rattle.sm_manager.specs.declared.outgoing.Outgoing.{Outgoing}
@@ -45,7 +45,7 @@ use Rattle.sm_manager.specs.Manager.{Manager}
 use Rattle.sm_manager.specs.Packets.{Called, answers, after_timeout, is_for_sweep, is_info_request, packet_taken, pending_for, request_answered}
 use Rattle.sm_manager.specs.Packets.{request_gave_up, after_request, after_packet, unless_spent}
 use Rattle.sm_manager.specs.ManagerRequests.{is_for_step, is_step, with_number}
-use Rattle.sm_manager.specs.Served.{acknowledged_at, answer_data, answer_out, answering, controlled, is_control, moved_on, replying, request_counted, served, status_for}
+use Rattle.sm_manager.specs.SmInfoAnswers.{acknowledged_at, answer_data, answer_out, answering, controlled, is_control, moved_on, replying, request_counted, served, status_for}
 use Rattle.sm_manager.specs.Traps.{represses, repress_out, repressing, trap_repress}
 use Rattle.sm_state.specs.Standing.{after_request_heard, info_of, info_with, is_in, moved_to}
 use Rattle.sm_state.specs.declared.state.SmState.TheVariants.{Standby}

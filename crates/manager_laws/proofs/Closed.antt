@@ -16,7 +16,7 @@ use Rattle.reply_facts.specs.declared.value.Value.{Value}
 use Rattle.reply_facts.specs.declared.value.Value.TheVariants.{Kind, Guid, Peer}
 use Rattle.reply_facts.specs.Known.{kind_in, guid_in, peer_in}
 use Rattle.reply_facts.specs.Report.{Sightings, guid_port}
-use Rattle.sweep.specs.declared.request.Question.TheVariants as ask
+use Rattle.sweep.specs.declared.question.Question.TheVariants as ask
 use Rattle.sweep.specs.declared.request.Request.{Request}
 use Rattle.sweep.specs.declared.vertex.Vertex.{Vertex}
 use Rattle.sweep.specs.Sweep.{Sweep, Asking, is_none_left, is_done}

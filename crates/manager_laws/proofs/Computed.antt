@@ -24,14 +24,14 @@ use Rattle.fact_store.specs.View.{Facts, cells_of, view}
 use Rattle.fact_store.proofs.Views.{view_of_both}
 use Rattle.subnet_view.specs.Reading.{Cells}
 use Rattle.subnet_view.proofs.Members.{contains_here, contains_later}
-use Rattle.lft_blocks.specs.Rules.{up_and_down}
+use Rattle.lft_blocks.specs.Rule.{up_and_down}
 use Rattle.lft_blocks.specs.Plan.{PlanValue, plan_of}
 use Rattle.plan_steps.specs.declared.step.Step.{Step}
 use Rattle.plan_steps.specs.Bound.{most_steps}
-use Rattle.plan_steps.specs.Phases.{Phase, phases_of}
+use Rattle.plan_steps.specs.Phase.{Phase, phases_of}
 use Rattle.fabric_sim.specs.declared.delivered.Delivered.{Delivered}
 use Rattle.fabric_sim.specs.declared.delivered.Delivered.TheVariants.{Answered}
-use Rattle.fabric_sim.specs.declared.fault.FabricFault.{FabricFault}
+use Rattle.fabric_sim.specs.declared.fabric_fault.FabricFault.{FabricFault}
 use Rattle.fabric_sim.specs.declared.flight.Flight.{Flight}
 use Rattle.fabric_sim.specs.Simulation.{Simulation, port_of}
 use Rattle.fabric_sim.specs.Flights.{flight_with}

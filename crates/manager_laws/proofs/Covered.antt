@@ -21,8 +21,8 @@ use Rattle.reply_facts.specs.declared.value.Value.TheVariants.{Kind, Guid}
 use Rattle.reply_facts.specs.declared.report.Context.{Context}
 use Rattle.reply_facts.specs.declared.report.Context.TheVariants.{Start, Via, About}
 use Rattle.reply_facts.specs.Report.{Sightings, guid_port}
-use Rattle.sweep.specs.declared.request.Question.{Question}
-use Rattle.sweep.specs.declared.request.Question.TheVariants as ask
+use Rattle.sweep.specs.declared.question.Question.{Question}
+use Rattle.sweep.specs.declared.question.Question.TheVariants as ask
 use Rattle.sweep.specs.declared.request.Request.{Request}
 use Rattle.sweep.specs.declared.vertex.Vertex.{Vertex}
 use Rattle.sweep.specs.Images.{Images}

@@ -9,7 +9,7 @@ use Rattle.smp_bytes.specs.NodeType.{is_switch}
 use Rattle.fabric_model.specs.Fabric.{Fabric, IsEndPort, IsNodeAt}
 use Rattle.fabric_model.specs.FabricWalks.{IsJoinedTo}
 use Rattle.lid_assign.specs.Lids.{IsNoRoom}
-use Rattle.lft_blocks.specs.Rules.{RuleValue}
+use Rattle.lft_blocks.specs.Rule.{RuleValue}
 use Rattle.lft_blocks.specs.Plan.{plan_of}
 use Rattle.lft_blocks.specs.InForce.{HoldsPlan}
 use Rattle.reply_facts.specs.declared.report.Report.{Report}

@@ -10,7 +10,8 @@ use Rattle.node_agents.specs.Answers.{after_answer, get_of, set_of}
 use Rattle.node_agents.specs.PortInfo.{changed_port}
 use Rattle.fabric_sim.specs.Simulation.{Simulation, IsSimulation, fabric_of}
 use Rattle.fabric_sim.specs.Build.{uncabled}
-use Rattle.fabric_sim.specs.Delivery.{outcome_of, after_deliver}
+use Rattle.fabric_sim.specs.Delivery.{after_deliver}
+use Rattle.fabric_sim.specs.PacketOutcome.{outcome_of}
 use Rattle.fabric_sim.specs.Changes.{changed_at, after_inject, after_lose, cabled_at}
 use Rattle.fabric_sim.proofs.Built.{uncabled_is}
 use Rattle.fabric_sim.proofs.Invariants.{seated_is}

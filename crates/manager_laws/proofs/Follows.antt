@@ -36,7 +36,7 @@ use Rattle.sm_manager.specs.Packets.{request_answered, request_gave_up, after_re
 use Rattle.sm_manager.specs.Packets.{sweep_answered, sweep_gave_up, sweep_timed_out, after_packet, unless_spent}
 use Rattle.sm_manager.specs.PlanFaults.{writing_fault}
 use Rattle.sm_manager.specs.ManagerRequests.{counts, no_step_waits, with_number, without_number}
-use Rattle.sm_manager.specs.Served.{acknowledged_at, answering, controlled, is_control, moved_on, replying, request_counted, served}
+use Rattle.sm_manager.specs.SmInfoAnswers.{acknowledged_at, answering, controlled, is_control, moved_on, replying, request_counted, served}
 use Rattle.sm_manager.specs.Traps.{represses, repressing}
 use Rattle.sm_state.specs.Standing.{after_request_heard, moved_to}
 use Rattle.sm_manager.specs.Writing.{is_done_by, is_spent, noted, after_step, went_on_with}

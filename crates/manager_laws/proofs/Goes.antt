@@ -9,7 +9,7 @@ use Rattle.fabric_sim.specs.Simulation.{Simulation}
 use Rattle.fabric_sim.proofs.Courses.{IsForManager}
 use Rattle.lft_blocks.specs.Plan.{PlanValue}
 use Rattle.plan_steps.specs.declared.step.Step.{Step}
-use Rattle.plan_steps.specs.Phases.{Phase}
+use Rattle.plan_steps.specs.Phase.{Phase}
 use Rattle.sm_manager.specs.declared.pending.Pending.{Pending}
 use Rattle.sm_manager.specs.Manager.{Manager, Writing}
 use Rattle.sm_manager.specs.Packets.{Called, unless_spent}

@@ -24,9 +24,9 @@ use Rattle.lft_blocks.specs.Plan.{PlanValue, plan_of, block_at, switches_of}
 use Rattle.sweep.specs.Sweep.{Sweep, path_to, seen_state, switch_image, IsReached}
 use Rattle.plan_steps.specs.declared.step.Step.{Step}
 use Rattle.plan_steps.specs.Carried.{port_read}
-use Rattle.plan_steps.specs.LidSets.{own_lid, port_data}
-use Rattle.plan_steps.specs.TableSets.{top_data}
-use Rattle.plan_steps.specs.Phases.{Phase, phases_of}
+use Rattle.plan_steps.specs.LidSteps.{own_lid, port_data}
+use Rattle.plan_steps.specs.BlockSteps.{top_data}
+use Rattle.plan_steps.specs.Phase.{Phase, phases_of}
 use Rattle.sm_manager.specs.Manager.{Manager, Writing, after_begin_sweep}
 use Rattle.sm_manager.specs.Writing.{begun_with, is_written, without_empty_phases, phases_by, after_write_steps}
 use Rattle.manager_laws.specs.Truth.{HasNode, AreGuidsDistinct}

@@ -21,8 +21,8 @@ use Rattle.reply_facts.specs.Report.{guid_port, may_be_asked_by, node_info_of, p
 use Rattle.reply_facts.specs.Sighting.{is_cabled_port}
 use Rattle.fabric_sim.specs.ThereAndBack.{BeginsWith}
 use Rattle.fabric_sim.specs.ToldOfEnd.{SaysNode, SaysOf}
-use Rattle.sweep.specs.declared.request.Question.{Question}
-use Rattle.sweep.specs.declared.request.Question.TheVariants as ask
+use Rattle.sweep.specs.declared.question.Question.{Question}
+use Rattle.sweep.specs.declared.question.Question.TheVariants as ask
 use Rattle.sweep.specs.declared.request.Request.{Request}
 use Rattle.sweep.specs.declared.vertex.Vertex.{Vertex}
 use Rattle.sweep.specs.declared.vertex.SeenState.{SeenState}

@@ -7,10 +7,10 @@ use Rattle.reply_facts.specs.Report.{Sightings}
 use Rattle.subnet_view.specs.Reading.{Cells}
 use Rattle.lft_blocks.specs.Plan.{PlanValue, plan_of}
 use Rattle.lft_blocks.specs.Planning.{Planning}
-use Rattle.plan_steps.specs.Phases.{Phase}
+use Rattle.plan_steps.specs.Phase.{Phase}
 use Rattle.fabric_sim.specs.Simulation.{Simulation, IsSimulation, fabric_of, is_seat_at}
 use Rattle.sweep.specs.Sweep.{started}
-use Rattle.sm_state.specs.Conducts.{is_live}
+use Rattle.sm_state.specs.Conduct.{is_live}
 use Rattle.sm_state.specs.Standing.{active_once_more}
 use Rattle.sm_state.specs.declared.conduct.Conduct.{Conduct}
 use Rattle.sm_manager.specs.Manager.{Manager, after_begin_sweep, begin_fault, new_manager, with_sweep}

@@ -20,13 +20,14 @@ use Rattle.reply_facts.specs.declared.report.Context.{Context}
 use Rattle.reply_facts.specs.declared.report.Context.TheVariants.{Start, Via, About}
 use Rattle.reply_facts.specs.Report.{Sightings, guid_port, sightings_of_link, sightings_of_kind}
 use Rattle.fabric_sim.specs.ToldOfEnd.{SaysNode}
-use Rattle.sweep.specs.declared.request.Question.TheVariants as ask
+use Rattle.sweep.specs.declared.question.Question.TheVariants as ask
 use Rattle.sweep.specs.declared.request.Request.{Request}
 use Rattle.sweep.specs.declared.vertex.Vertex.{Vertex}
 use Rattle.sweep.specs.Order.{placed}
 use Rattle.sweep.specs.Sweep.{Sweep, Asking, asking, vertex_at, first_vertex, vertex_key}
 use Rattle.sweep.specs.Finding as finding
-use Rattle.sweep.specs.Finding.{found_anew, node_found_of, vertex_questions, with_finding}
+use Rattle.sweep.specs.Finding.{found_anew, node_found_of, with_finding}
+use Rattle.sweep.specs.Questions.{vertex_questions}
 use Rattle.manager_laws.specs.Truth.{HasNode}
 use Rattle.manager_laws.proofs.Ends.{end_before}
 use Rattle.manager_laws.proofs.Sound.{Asks, CanBeSwept, GoesBy, IsSoundSweep}

@@ -8,7 +8,7 @@ use Rattle.subnet_view.proofs.Apart.{contains_map, contains-from_map}
 use Rattle.subnet_view.proofs.Members.{contains_here, contains_later, contains_cases, contains_none, contains_first, contains_filter, contains-from_filter}
 use Rattle.plan_steps.specs.declared.step.Step.{Step}
 use Rattle.plan_steps.specs.Step.{set_packet}
-use Rattle.plan_steps.specs.Phases.{Phase}
+use Rattle.plan_steps.specs.Phase.{Phase}
 use Rattle.sm_manager.specs.declared.outgoing.Outgoing.{Outgoing}
 use Rattle.sm_manager.specs.declared.pending.Pending.{Pending}
 use Rattle.sm_manager.specs.ManagerRequests.{counts as counts_of, how_many, is_step, none_counts, no_step_waits, without_number}

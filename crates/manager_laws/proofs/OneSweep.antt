@@ -10,7 +10,7 @@ use Rattle.fact_store.proofs.Views.{view_of_its_cells}
 use Rattle.lft_blocks.specs.Plan.{PlanValue}
 use Rattle.sweep.specs.declared.request.Request.{Request}
 use Rattle.sweep.specs.Sweep.{Sweep, started}
-use Rattle.sm_state.specs.Conducts.{is_live}
+use Rattle.sm_state.specs.Conduct.{is_live}
 use Rattle.sm_manager.specs.Manager.{after_begin_sweep, newest_held, next_generation, with_all_sent}
 use Rattle.manager_laws.specs.Scene.{Scene}
 use Rattle.manager_laws.specs.Sweeping as sweeping

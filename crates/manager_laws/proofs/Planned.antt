@@ -15,7 +15,7 @@ use Rattle.fact_store.specs.View.{Facts, cells_of}
 use Rattle.subnet_view.specs.declared.end_port.EndPort.{EndPort}
 use Rattle.reply_facts.specs.Known as values
 use Rattle.subnet_view.specs.Reading.{Cells, switches}
-use Rattle.subnet_view.specs.EndPorts.{IsEndPort}
+use Rattle.subnet_view.specs.EndPort.{IsEndPort}
 use Rattle.subnet_view.specs.FabricAgreement.{Part, AgreesOn, IsEndPortIn, TellsEndPort}
 use Rattle.subnet_view.proofs.Apart.{found_there, contains_map, contains-from_map}
 use Rattle.subnet_view.proofs.EndPortList.{end_ports_law}
@@ -26,7 +26,7 @@ use Rattle.lid_assign.proofs.Owners.{lid-from_given}
 use Rattle.lft_blocks.specs.InForce.{HoldsBlock, HoldsPlan, HoldsPlanAt}
 use Rattle.lft_blocks.specs.Plan.{SwitchTable, plan_of, block_at, switches_of, lid_routing}
 use Rattle.lft_blocks.specs.Entries.{attachment_of_lid, block_count, blocks}
-use Rattle.lft_blocks.specs.Rules.{RuleValue}
+use Rattle.lft_blocks.specs.Rule.{RuleValue}
 use Rattle.sweep.specs.Sweep.{Sweep, IsReached}
 use Rattle.manager_laws.specs.Truth.{HasNode}
 use Rattle.manager_laws.specs.Written.{IsHeldWhere}

@@ -10,7 +10,7 @@ use Rattle.fabric_model.specs.Fabric.{Node, IsEndPort, is_switch_at}
 use Rattle.fabric_model.specs.FabricWalks.{IsJoinedTo}
 use Rattle.fabric_model.proofs.FabricWalks.{type_at}
 use Rattle.node_agents.specs.Agent.{Agent, node_of}
-use Rattle.fabric_sim.specs.declared.fault.FabricFault.TheVariants.{NoSuchPort}
+use Rattle.fabric_sim.specs.declared.fabric_fault.FabricFault.TheVariants.{NoSuchPort}
 use Rattle.fabric_sim.specs.Simulation.{Simulation, port_count, is_port, fabric_of}
 use Rattle.fabric_sim.proofs.PingsFind.{pings_find}
 use Rattle.fabric_sim.proofs.SeenFabrics.{agent_seen, simulations_are_fabrics}

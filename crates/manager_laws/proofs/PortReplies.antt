@@ -13,11 +13,13 @@ use Rattle.reply_facts.specs.declared.key.Key.TheVariants.{Port, Claim, Cap}
 use Rattle.reply_facts.specs.declared.value.Value.TheVariants.{Up, Lid, Count}
 use Rattle.reply_facts.specs.declared.report.Context.TheVariants.{About}
 use Rattle.reply_facts.specs.Report.{Sightings, is_up_state}
-use Rattle.sweep.specs.declared.request.Question.TheVariants as ask
+use Rattle.sweep.specs.declared.question.Question.TheVariants as ask
 use Rattle.sweep.specs.declared.request.Request.{Request}
 use Rattle.sweep.specs.Sweep.{Sweep, Asking, asking, first_question}
-use Rattle.sweep.specs.Finding.{asks_manager, goes_by, leads_on, manager_questions, one_too_far, onward, onward_questions}
-use Rattle.sweep.specs.Finding.{port_finding_of, port_found_of, port_found_questions, with_finding}
+use Rattle.sweep.specs.Finding.{asks_manager, goes_by, leads_on, one_too_far, onward}
+use Rattle.sweep.specs.Questions.{manager_questions, onward_questions}
+use Rattle.sweep.specs.Finding.{port_finding_of, port_found_of, with_finding}
+use Rattle.sweep.specs.Questions.{port_found_questions}
 use Rattle.manager_laws.specs.Truth.{HasNode}
 use Rattle.manager_laws.proofs.Sound.{CanBeSwept, LeadsTo, IsSoundSweep}
 use Rattle.manager_laws.proofs.Asked.{asking_of, IsPending}

@@ -16,12 +16,13 @@ use Rattle.reply_facts.specs.declared.report.Context.TheVariants.{Start, Via, Ab
 use Rattle.reply_facts.specs.Report.{may_be_asked_by, node_info_of, payload_of}
 use Rattle.reply_facts.specs.Sighting.{is_cabled_port}
 use Rattle.fabric_sim.specs.ToldOfEnd.{SaysNode, SaysOf}
-use Rattle.sweep.specs.declared.request.Question.{Question}
-use Rattle.sweep.specs.declared.request.Question.TheVariants as ask
+use Rattle.sweep.specs.declared.question.Question.{Question}
+use Rattle.sweep.specs.declared.question.Question.TheVariants as ask
 use Rattle.sweep.specs.declared.request.Request.{Request}
 use Rattle.sweep.specs.declared.vertex.Vertex.{Vertex}
 use Rattle.sweep.specs.Sweep.{Sweep, Asking, attribute_asked, asking, numbered, first_vertex, without_number}
-use Rattle.sweep.specs.Finding.{finding_of, questions, with_finding, node_found_of, found_anew, port_found_of}
+use Rattle.sweep.specs.Finding.{finding_of, with_finding, node_found_of, found_anew, port_found_of}
+use Rattle.sweep.specs.Questions.{questions}
 use Rattle.manager_laws.proofs.Accepted.{IsGoodNode, IsFor, type_read}
 use Rattle.manager_laws.proofs.Sound.{CanBeSwept, LeadsTo, IsSound, AreSoundQuestions, IsSoundRequest, AreSound, AreFound, IsSoundSweep, sound_numbered, sound_append, again_good, anew_good, sound_port}
 

@@ -21,8 +21,8 @@ use Rattle.reply_facts.specs.declared.report.Context.TheVariants.{About}
 use Rattle.reply_facts.specs.Report.{Sightings, is_up_state, node_info_of, payload_of, sightings_by_node_info, sightings_by_port_info}
 use Rattle.reply_facts.specs.Report.{sightings_by_switch_info, sightings_by_packet, sightings_of_kind}
 use Rattle.fabric_sim.specs.ToldOfEnd.{SaysOf, SaysPort, port_asked}
-use Rattle.sweep.specs.declared.request.Question.{Question}
-use Rattle.sweep.specs.declared.request.Question.TheVariants as ask
+use Rattle.sweep.specs.declared.question.Question.{Question}
+use Rattle.sweep.specs.declared.question.Question.TheVariants as ask
 use Rattle.sweep.specs.declared.request.Request.{Request}
 use Rattle.sweep.specs.Sweep.{Sweep, attribute_asked, modifier_asked, first_vertex}
 use Rattle.sweep.specs.Finding.{finding_of, with_finding}

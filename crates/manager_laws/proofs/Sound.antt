@@ -17,14 +17,15 @@ use Rattle.reply_facts.specs.declared.report.Context.TheVariants.{Start, Via, Ab
 use Rattle.reply_facts.specs.Report.{guid_port, is_up_state}
 use Rattle.fabric_sim.specs.ThereAndBack.{BeginsWith}
 use Rattle.fabric_sim.specs.ToldOfEnd.{port_asked}
-use Rattle.sweep.specs.declared.request.Question.{Question}
-use Rattle.sweep.specs.declared.request.Question.TheVariants as ask
+use Rattle.sweep.specs.declared.question.Question.{Question}
+use Rattle.sweep.specs.declared.question.Question.TheVariants as ask
 use Rattle.sweep.specs.declared.request.Request.{Request}
 use Rattle.sweep.specs.declared.vertex.Vertex.{Vertex}
 use Rattle.sweep.specs.Images.{Images}
 use Rattle.sweep.specs.Order.{is_before, placed}
 use Rattle.sweep.specs.Sweep.{Sweep, Asking, numbered, first_vertex, vertex_at, vertex_key}
-use Rattle.sweep.specs.Finding.{asks_manager, vertex_of, found_again, is_start, is_way_on, goes_by, leads_on, onward, port_finding_of, port_found_of, port_questions, vertex_questions, manager_questions, onward_questions, questions, with_vertex}
+use Rattle.sweep.specs.Finding.{asks_manager, vertex_of, found_again, is_start, is_way_on, goes_by, leads_on, onward, port_finding_of, port_found_of, with_vertex}
+use Rattle.sweep.specs.Questions.{port_questions, vertex_questions, manager_questions, onward_questions, questions}
 use Rattle.manager_laws.specs.Truth.{HasNode, AreGuidsDistinct}
 
 -- what the fabric has to be: GUIDs differ, nodes have up to 254 ports, and the seat is at no switch

@@ -30,16 +30,16 @@ use Rattle.lid_assign.proofs.Tops.{top_below}
 use Rattle.lft_blocks.specs.Entries.{Next, attachment_of_lid, entry, block, block_count, blocks}
 use Rattle.lft_blocks.specs.Plan.{PlanValue, SwitchTable, plan_of, block_at, switches_of, lid_routing}
 use Rattle.lft_blocks.proofs.BlockLaws.{made_from}
-use Rattle.lft_blocks.specs.Rules.{RuleValue}
+use Rattle.lft_blocks.specs.Rule.{RuleValue}
 use Rattle.sweep.specs.Sweep.{Sweep, path_to, seen_state, switch_image}
 use Rattle.plan_steps.specs.declared.step.Step.{Step}
 use Rattle.plan_steps.specs.declared.carried.PortRead.{PortRead}
 use Rattle.plan_steps.specs.Carried.{carried_switch, port_read}
 use Rattle.plan_steps.specs.Step.{step_at}
-use Rattle.plan_steps.specs.LidSets.{port_data, lid_step, owner_step, lid_steps}
-use Rattle.plan_steps.specs.TableSets.{block_step, switch_steps, block_steps, top_data, top_step, top_steps}
-use Rattle.plan_steps.specs.States.{wired_ports, is_due, vertex_port, state_data, state_step, state_steps}
-use Rattle.plan_steps.specs.Phases.{Phase, phases_by}
+use Rattle.plan_steps.specs.LidSteps.{port_data, lid_step, owner_step, lid_steps}
+use Rattle.plan_steps.specs.BlockSteps.{block_step, switch_steps, block_steps, top_data, top_step, top_steps}
+use Rattle.plan_steps.specs.StateSteps.{wired_ports, is_due, vertex_port, state_data, state_step, state_steps}
+use Rattle.plan_steps.specs.Phase.{Phase, phases_by}
 use Rattle.plan_steps.proofs.SetLaws.{carried_switch_whole, port_data_whole, range-port_data, says_top}
 use Rattle.manager_laws.proofs.AgentSets.{IsOfPlan}
 use Rattle.manager_laws.proofs.WritingLists.{in_flat_map, from_flat_map, in_range_from_0}

@@ -15,8 +15,8 @@ use Rattle.sweep.specs.declared.answer.Answer.{Answer}
 use Rattle.sweep.specs.declared.answer.Answer.TheVariants.{Facts, Seen}
 use Rattle.sweep.specs.declared.fault.SweepFault.{SweepFault}
 use Rattle.sweep.specs.declared.request.Request.{Request}
-use Rattle.sweep.specs.declared.request.Question.{Question}
-use Rattle.sweep.specs.declared.request.Question.TheVariants as ask
+use Rattle.sweep.specs.declared.question.Question.{Question}
+use Rattle.sweep.specs.declared.question.Question.TheVariants as ask
 use Rattle.sweep.specs.Sweep.{Sweep, AreRising, first_question, managers_asked, request_with, transaction_of, without_number}
 use Rattle.sweep.specs.Sweep.{after_next_request, after_next_request_of, after_timeout, after_timeout_of}
 use Rattle.sweep.specs.Images.{images_with}

@@ -30,8 +30,8 @@ use Rattle.fabric_sim.proofs.TripShapes.{agent_there}
 use Rattle.sweep.specs.declared.answer.Answer.{Answer}
 use Rattle.sweep.specs.declared.answer.Answer.TheVariants.{Facts, Seen}
 use Rattle.sweep.specs.declared.fault.SweepFault.{SweepFault}
-use Rattle.sweep.specs.declared.request.Question.{Question}
-use Rattle.sweep.specs.declared.request.Question.TheVariants as ask
+use Rattle.sweep.specs.declared.question.Question.{Question}
+use Rattle.sweep.specs.declared.question.Question.TheVariants as ask
 use Rattle.sweep.specs.declared.request.Request.{Request}
 use Rattle.sweep.specs.Sweep.{Sweep, attribute_asked, modifier_asked, transaction_of, packet_of, request_with, after_next_request_of, after_next_request, started, after_timeout_of, after_timeout}
 use Rattle.sweep.specs.Images.{images_with}

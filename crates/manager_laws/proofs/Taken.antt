@@ -17,12 +17,13 @@ use Rattle.fabric_model.proofs.Cabled.{same_port-is, same_port-refl}
 use Rattle.fabric_model.proofs.FabricWalks.{port_at, type_at, vertex_node, switch_vertex, adapter_vertex, walk_further}
 use Rattle.reply_facts.specs.declared.report.Context.TheVariants.{Via, About}
 use Rattle.reply_facts.specs.Report.{Sightings, guid_port}
-use Rattle.sweep.specs.declared.request.Question.{Question}
-use Rattle.sweep.specs.declared.request.Question.TheVariants as ask
+use Rattle.sweep.specs.declared.question.Question.{Question}
+use Rattle.sweep.specs.declared.question.Question.TheVariants as ask
 use Rattle.sweep.specs.declared.request.Request.{Request}
 use Rattle.sweep.specs.declared.vertex.Vertex.{Vertex}
 use Rattle.sweep.specs.Sweep.{Sweep, Asking, asking, first_question, numbered, without_number, first_vertex}
-use Rattle.sweep.specs.Finding.{goes_by, is_start, is_way_on, port_questions, vertex_questions}
+use Rattle.sweep.specs.Finding.{goes_by, is_start, is_way_on}
+use Rattle.sweep.specs.Questions.{port_questions, vertex_questions}
 use Rattle.manager_laws.specs.Truth.{HasNode}
 use Rattle.manager_laws.proofs.Sound.{CanBeSwept, LeadsTo, IsSoundSweep}
 use Rattle.manager_laws.proofs.Asked.{asking_of, IsPending, numbered_pending, numbered_all, port_asked, ports_all, only_one, ended_or_pending, rising_on}

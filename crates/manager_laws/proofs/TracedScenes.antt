@@ -16,7 +16,7 @@ use Rattle.smp_bytes.proofs.Made.{directed_reads_back}
 use Rattle.fabric_sim.specs.declared.packet.Packet.{Packet}
 use Rattle.fabric_sim.specs.declared.delivered.Delivered.{Delivered}
 use Rattle.fabric_sim.specs.declared.delivered.Delivered.TheVariants.{ToManager}
-use Rattle.fabric_sim.specs.declared.fault.FabricFault.{FabricFault}
+use Rattle.fabric_sim.specs.declared.fabric_fault.FabricFault.{FabricFault}
 use Rattle.fabric_sim.specs.Simulation.{Simulation, AreCables, port_count}
 use Rattle.fabric_sim.specs.ThereAndBack.{BeginsWith}
 use Rattle.fabric_sim.proofs.Traced.{IsRequestFor, IsAnswerFor, IsOnCourse, IsForManager}

@@ -21,8 +21,8 @@ use Rattle.reply_facts.specs.Report.{Sightings, guid_port, may_be_asked_by, are_
 use Rattle.reply_facts.specs.Sighting.{is_cabled_port}
 use Rattle.fabric_sim.specs.ToldOfEnd.{SaysNode, SaysPort, SaysOf, IsUpState, port_asked}
 use Rattle.manager_laws.proofs.Ends.{end_before}
-use Rattle.sweep.specs.declared.request.Question.{Question}
-use Rattle.sweep.specs.declared.request.Question.TheVariants as ask
+use Rattle.sweep.specs.declared.question.Question.{Question}
+use Rattle.sweep.specs.declared.question.Question.TheVariants as ask
 use Rattle.sweep.specs.declared.request.Request.{Request}
 use Rattle.sweep.specs.Replies.{answer_by, sightings_by}
 use Rattle.sweep.specs.Sweep.{attribute_asked, modifier_asked}

@@ -11,12 +11,13 @@ use Rattle.node_agents.specs.Agent.{fresh_agent}
 use Rattle.node_agents.specs.Answers.{after_answer, get_of, set_of}
 use Rattle.node_agents.specs.PortInfo.{changed_port}
 use Rattle.reply_facts.specs.Report.{Sightings}
-use Rattle.lft_blocks.specs.Rules.{up_and_down}
+use Rattle.lft_blocks.specs.Rule.{up_and_down}
 use Rattle.lft_blocks.specs.Plan.{plan_of}
-use Rattle.plan_steps.specs.Phases.{Phase}
+use Rattle.plan_steps.specs.Phase.{Phase}
 use Rattle.fabric_sim.specs.Simulation.{fabric_of}
 use Rattle.fabric_sim.specs.Changes.{after_inject, cabled_at, after_lose, after_repeat}
-use Rattle.fabric_sim.specs.Delivery.{outcome_of, after_deliver}
+use Rattle.fabric_sim.specs.Delivery.{after_deliver}
+use Rattle.fabric_sim.specs.PacketOutcome.{outcome_of}
 use Rattle.sm_manager.specs.PlanFaults.{writing_fault}
 use Rattle.sm_manager.specs.Writing.{begun_with, is_written}
 use Rattle.manager_laws.proofs.Lists.{all_append}

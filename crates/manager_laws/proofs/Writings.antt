@@ -17,8 +17,8 @@ use Rattle.lid_assign.specs.Lids.{IsNoRoom, range_of}
 use Rattle.lft_blocks.specs.Plan.{PlanValue, plan_of}
 use Rattle.sweep.specs.Sweep.{Sweep, is_done, path_to, seen_state}
 use Rattle.plan_steps.specs.declared.step.Step.{Step}
-use Rattle.plan_steps.specs.LidSets.{own_lid}
-use Rattle.plan_steps.specs.Phases.{Phase, phases_of}
+use Rattle.plan_steps.specs.LidSteps.{own_lid}
+use Rattle.plan_steps.specs.Phase.{Phase, phases_of}
 use Rattle.sm_manager.specs.declared.fault.ManagerFault.{ManagerFault}
 use Rattle.sm_manager.specs.declared.pending.Pending.{Pending}
 use Rattle.sm_manager.specs.ManagerRequests.{is_step, no_step_waits}

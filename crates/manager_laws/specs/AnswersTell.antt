@@ -1,4 +1,4 @@
--- Answers that come back to a manager over a directed route are true of the end of their path.
+-- Answers that come back to a manager along a directed route are true of the end of their path.
 use Rattle.std.specs.Prelude.{◌≡◌, true, List, All}
 use Rattle.smp_bytes.specs.Packet.{is_directed, is_returning}
 use Rattle.fabric_sim.specs.Simulation.{fabric_of}
@@ -9,8 +9,8 @@ use Rattle.manager_laws.specs.Scene.{Handed, Scene, Event, CanHappen, IsQuiet, a
 abbrev pub IsBack : Handed → Type 0
 IsBack h = (is_directed h.packet.bytes ≡ true) × (is_returning h.packet.bytes ≡ true)
 
--- after any events that can happen from a quiet scene (`IsQuiet`) on, each directed packet that was handed up on its
--- way back (`IsBack`) tells of the end of its path (`TellsOfEnd`)
+-- after any events that can happen, starting from a quiet scene (`IsQuiet`), each directed packet that was handed up
+-- on its way back (`IsBack`) tells of the end of its path (`TellsOfEnd`)
 abbrev pub AnswersTell : Type 0
 AnswersTell =
     (s : Scene) (events : List Event) → IsQuiet s → All CanHappen events

@@ -7,19 +7,19 @@ use Rattle.fabric_model.specs.DirectedWalk.{directed_end}
 use Rattle.reply_facts.specs.declared.report.Report.{Report}
 use Rattle.reply_facts.specs.Report.{sightings_of}
 use Rattle.fact_store.specs.View.{Facts, cells_of, view}
-use Rattle.subnet_view.specs.EndPorts.{IsEndPort}
+use Rattle.subnet_view.specs.EndPort.{IsEndPort}
 use Rattle.subnet_view.specs.FabricAgreement.{AgreesOn}
 use Rattle.fabric_sim.specs.Simulation.{Simulation, fabric_of}
 use Rattle.sweep.specs.Sweep.{Sweep, is_done, path_to}
 use Rattle.lid_assign.specs.Lids.{IsNoRoom}
-use Rattle.lft_blocks.specs.Rules.{RuleValue}
+use Rattle.lft_blocks.specs.Rule.{RuleValue}
 use Rattle.lft_blocks.specs.Plan.{plan_of}
 use Rattle.lft_blocks.specs.InForce.{HoldsPlan}
 use Rattle.manager_laws.specs.Pings.{EachPingArrives}
 use Rattle.manager_laws.specs.Sweeping.{Sweeping, SweepEvent, CanBe, Begins, after_sweep_events}
 
--- the sweep has every answer: nothing waits to be sent or for a reply. Only requests for SMInfo, which has no facts,
--- were not answered. No request would have needed a path of more than 63 ports
+-- the sweep has every answer: no request is queued or outstanding. Only requests for SMInfo, which has no facts, were
+-- not answered. No request would have needed a path of more than 63 ports
 pub record IsWhole (s : Sweep) : Type 0 where
   pub done : is_done s ≡ true
   pub answered : s.unanswered ≡ s.silent_managers
@@ -53,15 +53,15 @@ pub record HasFoundAll (begun ended : Sweeping) : Type 0 where
   pub ways : (guid port : ℕ) → IsEndPort (cells_of (facts_of ended.reports)) guid port
       → HasWay (fabric_of begun.scene.fabric) begun.seat ended.sweep guid port
 
--- a sweep with every answer has found exactly what is joined to its seat, if it began on a quiet scene whose nodes
--- have different GUIDs (`Begins`). Any possible events (`CanBe`) may have happened since
+-- if a sweep began on a quiet scene whose nodes have different GUIDs (`Begins`), and has every answer, it has found
+-- exactly what is joined to its seat. Any possible events (`CanBe`) may have happened since the sweep began
 abbrev pub DoneSweepsAreComplete : Type 0
 DoneSweepsAreComplete =
     (w : Sweeping) (generation first : ℕ) (events : List SweepEvent) → Begins w generation first → All CanBe events
     → IsWhole (after_sweep_events events w).sweep → HasFoundAll w (after_sweep_events events w)
 
--- each ping within the part that is joined to a sweep's seat arrives, if three conditions hold: the sweep has every
--- answer; its facts have room; and the part holds their plan
+-- if a sweep has every answer, its facts have room, and the part that is joined to the sweep's seat holds the plan of
+-- these facts, each ping within this part arrives
 abbrev pub SweptPingsArrive : Type 0
 SweptPingsArrive =
     (rule : RuleValue) (lmc : ℕ) (w : Sweeping) (generation first : ℕ) (events : List SweepEvent)

@@ -85,8 +85,8 @@ abbrev pub sending : Managing → Option Outgoing → Managing
 sending w None = w
 sending w (Some o) = record w { scene = sent_from w.scene w.seat (packet_of o) }
 
--- `w` once its manager was given the packet, with its source LID; unchanged if there is no packet, or if it was not
--- handed up at the manager's seat
+-- `w` once its manager was given the packet, with the packet's source LID; unchanged if there is no packet, or if the
+-- packet was not handed up at the manager's seat
 abbrev pub hearing : Managing → Option Handed → Managing
 hearing w None = w
 hearing w (Some h) =
@@ -113,11 +113,11 @@ after_manager_events (event ∷ events) w = after_manager_events events (after_m
 
 -- where runs begin -------------------------------------------------------------------------------
 
--- the manager has nothing to send and waits for nothing: it is new, or between its tasks
+-- the manager has nothing to send, and none of its requests is outstanding: it is new, or between its tasks
 pub record IsAtRest (m : Manager) : Type 0 where
   -- no sweep is running
   pub sweep : is_running m.sweep ≡ false
-  -- no request outside sweeps waits for its answer
+  -- no request outside sweeps is outstanding
   pub pending : m.pending ≡ []
   -- no packet is to be sent
   pub outgoing : m.outgoing ≡ []

@@ -9,7 +9,7 @@ use Rattle.subnet_view.specs.declared.end_port.EndPort.{EndPort}
 use Rattle.subnet_view.specs.Reading.{Cells}
 use Rattle.subnet_view.specs.FabricAgreement.{Part, AgreesOn}
 use Rattle.lid_assign.specs.Lids.{IsNoRoom, owner_of}
-use Rattle.lft_blocks.specs.Rules.{RuleValue}
+use Rattle.lft_blocks.specs.Rule.{RuleValue}
 use Rattle.lft_blocks.specs.Plan.{PlanValue, plan_of}
 use Rattle.lft_blocks.specs.Arrival.{Arrives}
 use Rattle.lft_blocks.specs.InForce.{HoldsPlan}
@@ -32,8 +32,8 @@ EachPingArrives rule cells plan s origin =
     → (lid : ℕ) (owner : EndPort) → owner_of plan.given lid ≡ Some owner
     → PingArrives rule (IsJoinedTo (fabric_of s) origin) cells s lid source owner
 
--- each ping among the end ports that the end port `origin` is joined to arrives, if three conditions hold: the facts
--- have room; they describe exactly the part that `origin` is joined to; and this part holds their plan
+-- if the facts have room and describe exactly the part that the end port `origin` is joined to, and this part holds
+-- the plan of these facts, each ping among the part's end ports arrives
 abbrev pub PingsArrive : Type 0
 PingsArrive = (rule : RuleValue) (lmc : ℕ) (facts : Facts) (s : Simulation) (origin : NodePort)
     → ¬ (IsNoRoom lmc (cells_of facts)) → IsSimulation s → IsEndPort (fabric_of s) origin

@@ -11,7 +11,7 @@ use Rattle.smp_bytes.specs.ReadBack.{FitsRequest}
 use Rattle.fabric_sim.specs.declared.packet.Packet.{Packet}
 use Rattle.fabric_sim.specs.declared.delivered.Delivered.{Delivered}
 use Rattle.fabric_sim.specs.declared.delivered.Delivered.TheVariants.{Moved, Answered, ToManager, Discarded}
-use Rattle.fabric_sim.specs.declared.fault.FabricFault.{FabricFault}
+use Rattle.fabric_sim.specs.declared.fabric_fault.FabricFault.{FabricFault}
 use Rattle.fabric_sim.specs.Simulation.{Simulation, IsSimulation}
 use Rattle.fabric_sim.specs.Delivery.{after_deliver}
 use Rattle.fabric_sim.specs.Changes.{after_inject, after_repeat, after_lose}
@@ -94,7 +94,7 @@ answer_to request status payload =
     else record { bytes = answer; slid = request.dlid; dlid = request.slid }
 
 -- the scene once the answer to a request for SMInfo that was handed up at `seat` was sent from there; unchanged if
--- there is no packet, or if it is not such a request
+-- there is no packet, or if the packet is not such a request
 abbrev pub answered_from : Scene → NodePort → ℕ → List ℕ → Option Handed → Scene
 answered_from s seat status payload None = s
 answered_from s seat status payload (Some h) =

@@ -61,14 +61,14 @@ abbrev pub reports_of : Answer → List Report
 reports_of (Facts report) = report ∷ []
 reports_of (Seen guid port info) = []
 
--- `w` once its sweep has taken the reply `packet`; unchanged if the sweep refuses it
+-- `w` once its sweep has taken the reply `packet`; unchanged if the sweep refuses the reply
 abbrev pub with_answer : Sweeping → List ℕ → Result Answer SweepFault → Sweeping
 with_answer w packet (Ok answer) =
     record w { sweep = after_reply w.sweep packet; reports = w.reports ++ reports_of answer }
 with_answer w packet (Err fault) = w
 
--- `w` once its sweep was given the packet; unchanged if there is no packet, or if it was not handed up at the sweep's
--- seat
+-- `w` once its sweep was given the packet; unchanged if there is no packet, or if the packet was not handed up at the
+-- sweep's seat
 abbrev pub hearing : Sweeping → Option Handed → Sweeping
 hearing w None = w
 hearing w (Some h) =
@@ -87,7 +87,7 @@ abbrev pub after_sweep_events : List SweepEvent → Sweeping → Sweeping
 after_sweep_events [] w = w
 after_sweep_events (event ∷ events) w = after_sweep_events events (after_sweep_event w event)
 
--- `is_so` holds of the scene after each event of a run
+-- after each event of a run, the scene is as `is_so` requires
 abbrev pub AlwaysSo : (Scene → Type 0) → List SweepEvent → Sweeping → Type 0
 AlwaysSo is_so [] w = Unit {0}
 AlwaysSo is_so (event ∷ events) w =

@@ -23,8 +23,8 @@ abbrev pub AreNoSweeps : List ManagerEvent → Managing → Type 0
 AreNoSweeps [] w = Unit {0}
 AreNoSweeps (event ∷ events) w = BeginsNoSweep w event × AreNoSweeps events (after_manager_event w event)
 
--- a manager without facts sweeps, and the sweep has every answer. Until the writing it learns only from this sweep;
--- then it writes the plan of its facts. In the end the plan counts as written
+-- a manager without facts sweeps, and the sweep has every answer. Until the writing the manager learns only from this
+-- sweep; then it writes the plan of its facts. In the end the plan counts as written
 pub record BringsUp (w : Managing) (before between after : List ManagerEvent) : Type 0 where
   pub run : IsWritingRun w before between after
   -- the manager holds no facts when the sweep begins; its floor may have been raised
@@ -38,8 +38,8 @@ pub record BringsUp (w : Managing) (before between after : List ManagerEvent) : 
   -- the plan is written in the end
   pub written : is_written (at_end w before between after).manager ≡ true
 
--- each ping from an end port that the seat is joined to, for each LID of the plan, reaches the LID's owner, if the
--- manager brings the subnet up
+-- if a manager brings its subnet up (`BringsUp`), each ping from an end port that the seat is joined to, for each LID
+-- of the plan, reaches the LID's owner
 abbrev pub PingsArriveOnceWritten : Type 0
 PingsArriveOnceWritten =
     (w : Managing) (before between after : List ManagerEvent) → BringsUp w before between after

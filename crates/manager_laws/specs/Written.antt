@@ -23,7 +23,7 @@ use Rattle.manager_laws.specs.Sets.{IsOwnSet, OwnSets, KeepsPlan}
 
 -- a plan where a sweep reached ----------------------------------------------------------------------
 
--- in the fabric, each end port and each switch of the plan that the sweep reached holds what the plan has for it
+-- in the fabric, each end port and each switch of the plan that the sweep reached holds its values in the plan
 pub record IsHeldWhere (plan : PlanValue) (s : Sweep) (f : Fabric) : Type 0 where
   pub lids : (e : EndPort) (range : ℕ × ℕ) (port : NodePort) → range_of plan.given e ≡ Some range
       → IsReached s e.node e.port
@@ -105,7 +105,7 @@ pub record IsWritingRun (w : Managing) (before between after : List ManagerEvent
   pub before_can : All (CanBe w.seat) before
   pub between_can : All (CanBe w.seat) between
   pub after_can : All (CanBe w.seat) after
-  -- no writing begins before a sweep, and thus none goes over the paths of a sweep from before the run
+  -- no writing begins before a sweep, and thus none goes along the paths of a sweep from before the run
   pub sweeps_first : SweepsFirst before w
   -- neither the sweep nor the writing is refused
   pub sweep_begins : begin_fault (after_manager_events before w).manager ≡ None

@@ -1,4 +1,4 @@
-//! The laws of what holds after any events on a fabric: of sweeps, of written plans, and of pings.
+//! Laws about what is so after any events on a fabric: of sweeps, of written plans, and of pings.
 ghost use Rattle.manager_laws.specs.AnswersTell.{AnswersTell};
 ghost use Rattle.manager_laws.specs.Complete.{DoneSweepsAreComplete, SomeManagerIsSilent, SomeSweepIsWhole};
 ghost use Rattle.manager_laws.specs.Complete.{SweptPingsArrive};
@@ -10,9 +10,9 @@ ghost use Rattle.manager_laws.specs.Written.{NewManagersSweepFirst, WrittenPlans
 
 /// A directed answer with status 0 that comes back to a manager says what is true of the node at the end of its path:
 /// the NodeInfo, whether a port is up, or the size of the forwarding table. LIDs, tops, blocks and descriptions are
-/// left open. Other managers may send, each from its own port, packets that are forwarded by LIDs, requests over paths
-/// that leave by that port, and answers to requests for SMInfo. Packets may be lost, copied and reordered on the way.
-/// No cable changes.
+/// left open. Other managers may send, each from its own port, packets that are forwarded by LIDs, requests along
+/// paths that leave by that port, and answers to requests for SMInfo. Packets may be lost, copied and reordered on
+/// the way. No cable changes.
 #[tactic(auto, using(crate::proofs::Answers::answers_tell))]
 pub fn answers_tell()
     ensures { AnswersTell }
@@ -66,7 +66,7 @@ pub fn some_manager_is_silent()
     ensures { SomeManagerIsSilent }
 {}
 
-/// A new manager is at rest: no sweep runs, the manager waits for no answer, and it has nothing to send. The runs of
+/// A new manager is at rest: no sweep runs, no request is outstanding, and there is nothing to send. The runs of
 /// other laws can therefore begin with a new manager.
 pub fn new_managers_rest()
     ensures { NewManagersRest }

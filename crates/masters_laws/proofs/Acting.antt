@@ -12,7 +12,7 @@ use Rattle.fabric_sim.specs.Simulation.{Simulation, agent_at, fabric_of}
 use Rattle.fabric_sim.proofs.TripShapes.{IsAlong}
 use Rattle.lft_blocks.specs.Plan.{PlanValue}
 use Rattle.plan_steps.specs.declared.step.Step.{Step}
-use Rattle.plan_steps.specs.Phases.{Phase}
+use Rattle.plan_steps.specs.Phase.{Phase}
 use Rattle.sm_manager.specs.declared.outgoing.Outgoing.{Outgoing}
 use Rattle.sm_manager.specs.declared.pending.Pending.{Pending}
 use Rattle.sm_manager.specs.Manager.{Manager, Writing, after_begin_sweep, begin_fault, taken_of}

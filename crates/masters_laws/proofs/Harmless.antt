@@ -11,7 +11,7 @@ use Rattle.fabric_model.specs.Forwarding.{course}
 use Rattle.smp_bytes.specs.Header.{get_resp, set}
 use Rattle.smp_bytes.specs.Field.{number_in}
 use Rattle.smp_bytes.specs.Packet.{fault_of, hop_count, hop_pointer, is_directed, is_response, is_returning, method}
-use Rattle.dr_forward.specs.Step.{Stepped, is_port, moved_on, pointed, step}
+use Rattle.dr_forward.specs.DirectedStep.{Stepped, is_port, moved_on, pointed, step}
 use Rattle.dr_forward.specs.declared.here.Here.{Here}
 use Rattle.dr_forward.specs.declared.verdict.Verdict.{Verdict}
 use Rattle.dr_forward.specs.declared.verdict.Verdict.TheVariants.{Out, ToAgent, ToManager, Discard}
@@ -29,13 +29,15 @@ use Rattle.fabric_sim.specs.declared.flight.Flight.{Flight}
 use Rattle.fabric_sim.specs.declared.delivered.Delivered.{Delivered}
 use Rattle.fabric_sim.specs.declared.delivered.Delivered.TheVariants as delivered_is
 use Rattle.fabric_sim.specs.declared.delivered.Reason.TheVariants.{Down}
-use Rattle.fabric_sim.specs.declared.fault.FabricFault.{FabricFault}
-use Rattle.fabric_sim.specs.declared.fault.FabricFault.TheVariants.{NoSuchPacket, SerialsSpent}
+use Rattle.fabric_sim.specs.declared.fabric_fault.FabricFault.{FabricFault}
+use Rattle.fabric_sim.specs.declared.fabric_fault.FabricFault.TheVariants.{NoSuchPacket, SerialsSpent}
 use Rattle.fabric_sim.specs.Called.{Called, refused}
-use Rattle.fabric_sim.specs.Notices.{trap_repress}
+use Rattle.fabric_sim.specs.Notice.{trap_repress}
 use Rattle.fabric_sim.specs.Changes.{addressed, after_inject, after_lose, after_repeat, copied}
-use Rattle.fabric_sim.specs.Delivery.{after_deliver, after_enqueue, after_outcome, answer_at, asked, by_course, by_verdict, carrying, delivered_flight, here_at}
-use Rattle.fabric_sim.specs.Delivery.{is_for_manager, leaving, outcome_of, with_changed}
+use Rattle.fabric_sim.specs.Delivery.{after_deliver, after_enqueue, after_outcome, answer_at, asked, delivered_flight}
+use Rattle.fabric_sim.specs.PacketOutcome.{by_course, by_verdict, carrying, here_at}
+use Rattle.fabric_sim.specs.Delivery.{with_changed}
+use Rattle.fabric_sim.specs.PacketOutcome.{is_for_manager, leaving, outcome_of}
 use Rattle.fabric_sim.specs.PacketOutcome.{Outcome, Moves, Asks, HandsUp, Represses, Drops}
 use Rattle.fabric_sim.specs.Simulation.{Simulation, AreCables, IsSimulation, across, agent_at, fabric_of, is_at_seat}
 use Rattle.fabric_sim.specs.Simulation.{is_by_wire, is_cable_port}

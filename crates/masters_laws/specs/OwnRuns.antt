@@ -16,8 +16,8 @@ pub record IsSendable (w : Managing) (o : Outgoing) : Type 0 where
   pub can_send : CanSend w.seat sending
   pub is : sent w.scene w.seat sending ≡ sent_from w.scene w.seat (packet_of o)
 
--- each packet that a manager gives out can be sent as a packet of another manager (`IsSendable`), if the manager may
--- start a run (`Starts`) and begins no writing before a sweep
+-- if a manager may start a run (`Starts`) and begins no writing before a sweep, each packet that the manager gives
+-- out can be sent as a packet of another manager (`IsSendable`)
 abbrev pub WhatIsGivenOutCanBeSent : Type 0
 WhatIsGivenOutCanBeSent =
     (w : Managing) (events : List ManagerEvent) → Starts w → SweepsFirst events w → All (one.CanBe w.seat) events

@@ -79,17 +79,17 @@ abbrev pub AllSweepWhole : List MastersEvent → Masters → Type 0
 AllSweepWhole [] t = Unit {0}
 AllSweepWhole (event ∷ events) t = SweepsWhole t event × AllSweepWhole events (after_masters_event t event)
 
--- no port gets another LID, if three conditions hold: managers share LIDs; other senders set only SMInfo; and each
--- manager writes only what it learned from one sweep with every answer
+-- if managers share LIDs, other senders set only SMInfo, and each manager writes only what it learned from one sweep
+-- with every answer, no port gets another LID
 abbrev pub MastersKeepLids : Type 0
 MastersKeepLids =
     (facts : Facts) (planning : Planning) (t : Masters) (events : List MastersEvent) → ShareLids facts planning t
     → AllCanBe events t → AllSweepWhole events t
     → HasLidsOf (fabric_of t.scene.fabric) (after_masters_events events t).scene
 
--- a manager that knows one sweep, with every answer, has the plan of `facts`, if three conditions hold: managers share
--- the LIDs of this plan; other senders set only SMInfo; and each manager writes only what it learned from one sweep
--- with every answer
+-- suppose managers share the LIDs of the plan of `facts`, other senders set only SMInfo, and each manager writes only
+-- what it learned from one sweep with every answer. Then a manager that knows one sweep, with every answer, has this
+-- plan
 abbrev pub MastersWriteTheSame : Type 0
 MastersWriteTheSame =
     (facts : Facts) (planning : Planning) (t : Masters) (events : List MastersEvent) → ShareLids facts planning t
@@ -140,9 +140,9 @@ pub record HasWritten (t : Masters) (before after : List MastersEvent) (which : 
   pub there_later : IsAt (after_masters_events (before ++ At which one.Write ∷ after) t) which later
   pub written : is_written later.manager ≡ true
 
--- once one manager has written (`HasWritten`), the part that is joined to each seat holds the plan of `facts`, if three
--- conditions hold: managers share the LIDs of this plan; other senders set only SMInfo; and each manager writes only
--- what it learned from one sweep with every answer
+-- suppose managers share the LIDs of the plan of `facts`, other senders set only SMInfo, and each manager writes only
+-- what it learned from one sweep with every answer. Then once one manager has written (`HasWritten`), the part that
+-- is joined to each seat holds this plan
 abbrev pub WrittenByOneIsHeld : Type 0
 WrittenByOneIsHeld =
     (facts : Facts) (planning : Planning) (t : Masters) (before after : List MastersEvent) (which : ℕ)
@@ -151,9 +151,9 @@ WrittenByOneIsHeld =
     → HasWritten t before after which
     → AllHold facts planning (after_masters_events (before ++ At which one.Write ∷ after) t)
 
--- once the part that is joined to each seat holds the plan of `facts`, this plan stays in use there, if three
--- conditions hold: managers share the LIDs of this plan; other senders set only SMInfo; and each manager writes only
--- what it learned from one sweep with every answer
+-- suppose managers share the LIDs of the plan of `facts`, other senders set only SMInfo, and each manager writes only
+-- what it learned from one sweep with every answer. Then once the part that is joined to each seat holds this plan,
+-- the plan stays in use there
 abbrev pub MastersChangeNothing : Type 0
 MastersChangeNothing =
     (facts : Facts) (planning : Planning) (t : Masters) (before after : List MastersEvent) → ShareLids facts planning t

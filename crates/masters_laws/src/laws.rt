@@ -5,8 +5,8 @@ ghost use Rattle.masters_laws.specs.Known.{HasSweptMeans, KnowsOneSweepMeans};
 ghost use Rattle.masters_laws.specs.OwnRuns.{EachRunsOnItsOwn, WhatIsGivenOutCanBeSent};
 
 /// If a manager begins no writing before a sweep, each packet that it gives out can be sent from its seat as a packet
-/// of another manager: the packet is forwarded by LIDs, or is a request over a path that leaves by the seat's port, or
-/// answers a request for SMInfo that was handed up there.
+/// of another manager: the packet is forwarded by LIDs, or is a request along a path that leaves by the seat's port,
+/// or answers a request for SMInfo that was handed up there.
 pub fn what_is_given_out_can_be_sent()
     ensures { WhatIsGivenOutCanBeSent }
 {}
@@ -40,9 +40,9 @@ pub fn rest_shares_lids()
 {}
 
 /// No port of a subnet gets another LID, however many masters sweep and write it, if four conditions hold: the end
-/// ports have the LIDs and the LMC of the plan of some facts with room that describe the subnet exactly; each master
-/// plans by the rule, the roots or order and the LMC of that plan; each master writes only what it knows from one sweep
-/// that has every answer; and other senders set only SMInfo.
+/// ports have the LIDs and the LMC of the plan of a set of facts with room that describes the subnet exactly; each
+/// master plans by the rule, the roots or order and the LMC of that plan; each master writes only what it knows from
+/// one sweep that has every answer; and other senders set only SMInfo.
 pub fn masters_keep_lids()
     ensures { MastersKeepLids }
 {}

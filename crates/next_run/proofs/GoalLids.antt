@@ -1,12 +1,12 @@
 -- The goal in between has the plan's LIDs, so the same LIDs move.
 use Rattle.std.proofs.Common.{◌≡◌, ◌∙◌, ℕ, Bool, true, false, List, Option, None, Some, ap, refl, subst, sym}
 use Rattle.fact_store.specs.View.{Facts, cells_of}
-use Rattle.lft_blocks.specs.Rules.{RuleValue}
+use Rattle.lft_blocks.specs.Rule.{RuleValue}
 use Rattle.held_tables.specs.Held.{HeldPlan}
 use Rattle.next_tables.specs.NextTables.{first_moved}
 use Rattle.between_orders.specs.Between.{Goal}
 use Rattle.between_orders.proofs.Safe.{goal_lids}
-use Rattle.next_run.specs.RunNext.{Choice, IsChoice, IsGoalFrom, IsGoalOf, IsMade, choice_by, goal_or, next_by_choice}
+use Rattle.next_run.specs.NextRun.{Choice, IsChoice, IsGoalFrom, IsGoalOf, IsMade, choice_by, goal_or, next_by_choice}
 
 goal_plan : (told right : Bool) (facts : Facts) (held plan : HeldPlan) (by preferred : List ℕ) (g : Goal)
     → IsGoalFrom told right (cells_of facts) held plan by preferred (Some g) → g.tables.lids ≡ plan.lids

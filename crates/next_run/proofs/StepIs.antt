@@ -10,10 +10,10 @@ use Rattle.fact_store.specs.View.{Facts, cells_of}
 use Rattle.subnet_view.specs.Reading.{Cells}
 use Rattle.lid_assign.specs.LidFault.{lid_fault, no_room}
 use Rattle.lft_blocks.specs.Plan.{PlanValue, plan_of}
-use Rattle.lft_blocks.specs.Rules.{RuleValue}
+use Rattle.lft_blocks.specs.Rule.{RuleValue}
 use Rattle.held_tables.specs.Held.{HeldPlan}
 use Rattle.held_tables.specs.PlanTables.{held_plan, planned}
-use Rattle.tables_file.specs.TablesText.{next_text}
+use Rattle.tables_file.specs.PrintedTables.{next_text}
 use Rattle.next_tables.specs.NextTables.{first_moved}
 use Rattle.sm_cli.specs.declared.fault.Fault.{Fault}
 use Rattle.sm_cli.specs.declared.fault.Fault.TheVariants.{Memory, Text, Write}
@@ -22,7 +22,7 @@ use Rattle.sm_cli.proofs.Plans.{has_room}
 use Rattle.step_loops.specs.StepOrder.{NoneShorter, WaitInCycle}
 use Rattle.lanes_file.specs.Lanes.{LanesSaid}
 use Rattle.next_run.specs.StepVerdict.{IsSound, IsVerdict, Verdict, verdict_text}
-use Rattle.next_run.specs.RunNext.{IsMade, IsSaid, IsStep, StopsBy, StopsStep}
+use Rattle.next_run.specs.NextRun.{IsMade, IsSaid, IsStep, StopsBy, StopsStep}
 use Rattle.next_run.specs.StepLoops.{IsCycleInStep}
 use Rattle.next_run.specs.StepOrderText.{step_order_text}
 

@@ -1,9 +1,9 @@
 -- The order that a step goes by and the lanes of packets in it, as they are asked for.
 use Rattle.std.specs.Prelude.{ℕ, Bool, true, false, List, Option, None, Some}
 use Rattle.subnet_view.specs.Reading.{Cells}
-use Rattle.lft_blocks.specs.Rules.{RuleValue, spread_in}
+use Rattle.lft_blocks.specs.Rule.{RuleValue, spread_in}
 use Rattle.plan_order.specs.PlanOrder.{positions_by}
-use Rattle.spread_routes.specs.SwitchOrders.{as_named}
+use Rattle.spread_routes.specs.SwitchOrder.{as_named}
 use Rattle.next_run.specs.declared.asked.StepLanes.{StepLanes}
 use Rattle.next_run.specs.declared.asked.StepLanes.TheVariants.{One, ByText}
 use Rattle.next_run.specs.declared.asked.HeldOrder.{HeldOrder}

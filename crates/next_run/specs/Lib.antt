@@ -1,6 +1,6 @@
 pub mod Asked
 pub mod LoopText
-pub mod RunNext
+pub mod NextRun
 pub mod StepLoops
 pub mod StepOrderText
 pub mod StepVerdict

@@ -2,7 +2,7 @@
 use Rattle.std.specs.Prelude.{ℕ, List, [], ◌∷◌}
 use Rattle.subnet_view.specs.Reading.{Cells}
 use Rattle.held_tables.specs.Held.{HeldPlan}
-use Rattle.step_loops.specs.LoopLids.{AreLoopLids}
+use Rattle.step_loops.specs.LidsInLoop.{AreLoopLids}
 use Rattle.step_loops.specs.StepOrder.{NoneShorter, NumbersRise, WaitInCycle}
 
 -- the channels are a shortest credit loop that mixtures of the two tables make; for an empty list, channels have

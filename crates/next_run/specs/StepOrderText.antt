@@ -12,8 +12,7 @@ use Rattle.between_orders.specs.Between.{Goal}
 abbrev pub switches_by : Cells → List ℕ → List ℕ
 switches_by cells positions = map (switch_at cells) (positions_in positions (length positions))
 
--- the GUIDs of the switches in the order that a step goes by; None if the step goes by no order that the held tables
--- imply
+-- if a step goes by an order that the held tables imply, the GUIDs of the switches in this order; otherwise None
 abbrev pub order_of_step : Cells → Option Goal → Option (List ℕ)
 order_of_step cells goal = option_map (λ (g : Goal). switches_by cells g.positions) goal
 
@@ -25,7 +24,7 @@ items_of order = option_map (λ switches. switches.items) order
 abbrev pub switch_word : ℕ → List ℕ
 switch_word guid = codes " 0x" ++ guid_text guid
 
--- the line of the order that a step goes by; empty for None
+-- if there is an order that a step goes by, its line; otherwise empty
 abbrev pub step_order_text : Option (List ℕ) → List ℕ
 step_order_text None = []
 step_order_text (Some switches) = codes "order" ++ flat_map switch_word switches ++ codes "\n"

@@ -4,14 +4,14 @@ use Rattle.fact_store.specs.View.{Facts, cells_of}
 use Rattle.subnet_view.specs.Reading.{Cells}
 use Rattle.held_tables.specs.Held.{HeldPlan}
 use Rattle.audit_counts.specs.FirstFew.{Listed, all_listed}
-use Rattle.audit_report.specs.RunAudit.{most_lines}
+use Rattle.audit_report.specs.AuditRun.{most_lines}
 use Rattle.lanes_file.specs.Lanes.{LanesSaid}
 use Rattle.lane_channels.specs.AnyTables.{IsCycleByAny, IsSomeDropByAny, NoneShorterByAny}
-use Rattle.lane_channels.specs.declared.stop.Dropped.{Dropped}
+use Rattle.lane_channels.specs.declared.dropped.Dropped.{Dropped}
 use Rattle.lane_report.specs.declared.levels_missing.PacketPair.{PacketPair}
 use Rattle.lane_report.specs.LaneText.{lanes_text}
 use Rattle.lane_report.specs.LevelsMissing.{missing_levels}
-use Rattle.lane_report.specs.RunLaneAudit.{IsSoundByLane, seen_of}
+use Rattle.lane_report.specs.LaneRun.{IsSoundByLane, seen_of}
 use Rattle.next_run.specs.LoopText.{loop_text}
 use Rattle.next_run.specs.StepLoops.{IsLoopInStep}
 use Rattle.next_run.specs.declared.step_verdict.StepVerdict.{StepVerdict}
@@ -29,7 +29,7 @@ abbrev pub verdict_of : StepVerdict → Verdict
 verdict_of (OnOneLane found) = on_one_lane found.channels.items found.lids.items
 verdict_of (ByLane found) = by_lane found.missing found.order.dropped found.order.cycle.items
 
--- in the step from `held` to `next`, `dropped` is a packet that is dropped for want of a lane by the held or by the
+-- in the step from `held` to `next`, `dropped` is a packet that is dropped for want of a lane under the held or the
 -- next tables, or None if none is. `cycle` is a shortest credit loop by lane, or empty if there is none
 pub record IsOrderInStep (said : LanesSaid) (answers : Bool) (facts : Facts) (held next : HeldPlan)
     (dropped : Option Dropped) (cycle : List ℕ) : Type 0 where

@@ -3,11 +3,11 @@
 #![tactic(auto)]
 
 mod asked;
-mod run_step;
+mod loop_text;
+mod next_run;
 mod step_choice;
-mod step_loop;
-mod step_order;
+mod step_order_text;
 mod step_verdict;
 
 pub use asked::{HeldOrder, StepAsked, StepLanes};
-pub use run_step::run_next;
+pub use next_run::run_next;

@@ -2,13 +2,13 @@
 ghost use Rattle.std.specs.Prelude.{◌≡◌, IfOk, false, length};
 ghost use Rattle.std.specs.Option.{option_map};
 ghost use Rattle.fact_store.specs.View.{cells_of};
-ghost use Rattle.lft_blocks.specs.Rules.{value_of};
+ghost use Rattle.lft_blocks.specs.Rule.{value_of};
 ghost use Rattle.subnet_view.specs.Reading.{switches};
 ghost use Rattle.between_orders.specs.Between.{goal_of};
 ghost use Rattle.next_run.specs.Asked.{preferred_positions, rule_or};
-ghost use Rattle.next_run.specs.RunNext.{IsChoice, IsGoalFrom, choice_of};
+ghost use Rattle.next_run.specs.NextRun.{IsChoice, IsGoalFrom, choice_of};
 
-use crate::step_order::switches_by;
+use crate::step_order_text::switches_by;
 use between_orders::{StepGoal, between};
 use fact_store::Refused;
 use held_tables::Held;

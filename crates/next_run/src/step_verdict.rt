@@ -5,7 +5,7 @@ ghost use Rattle.lft_blocks.specs.WritesPart.{WritesPart};
 ghost use Rattle.next_run.specs.StepVerdict.{IsFoundInStep, IsOrderInStep, IsSound, IsVerdict, verdict_of};
 ghost use Rattle.next_run.specs.StepVerdict.{verdict_text};
 
-use crate::step_loop::StepLoop;
+use crate::loop_text::StepLoop;
 use audit_report::most_lines;
 use byte_io::{Sink, WriteFault};
 use fact_store::Refused;
@@ -49,8 +49,8 @@ impl StepVerdict {
         }
     }
 
-    /// Returns whether no credit loop was found and, lane by lane, also no dropped packet and no packet without a
-    /// service level.
+    /// Returns whether nothing wrong was found: on one lane, no credit loop; lane by lane, no credit loop, no dropped
+    /// packet and no packet without a service level.
     pub fn is_sound(&self) -> bool
         ensures { IsTrue result ↔ IsSound (verdict_of self.now) }
     {

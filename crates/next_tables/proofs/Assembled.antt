@@ -18,7 +18,7 @@ use Rattle.packet_walks.specs.Edges.{greatest_top}
 use Rattle.held_tables.specs.Tables.{top_of}
 use Rattle.held_tables.proofs.HeldTables.{get_mapped, within_length}
 use Rattle.held_tables.proofs.Mapped.{mapped_more}
-use Rattle.next_tables.specs.Assembled.{all_blocks, block_in, entry_in, some_blocks}
+use Rattle.next_tables.specs.Assembly.{all_blocks, block_in, entry_in, some_blocks}
 use Rattle.next_tables.specs.NextTables.{StepRuleValue, column_of, next_at, next_block, next_switch, next_table, next_top}
 
 -- functions that agree over a range

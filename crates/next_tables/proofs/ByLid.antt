@@ -17,8 +17,8 @@ use Rattle.held_tables.specs.Blocks.{AreBlocks}
 use Rattle.packet_walks.specs.HopsByTables.{switch_step}
 use Rattle.held_tables.specs.Tables.{owners_of, entry_for}
 use Rattle.next_tables.specs.SwitchPositions.{position_at}
-use Rattle.next_tables.specs.OrderComputed.{ordered_of}
-use Rattle.next_tables.specs.SettledComputed.{next_of}
+use Rattle.next_tables.specs.OrderedEntries.{ordered_of}
+use Rattle.next_tables.specs.SettledEntries.{next_of}
 use Rattle.next_tables.specs.NextTables.{StepRuleValue, by_order, column_of, if_owned, index_at, keeper, next_at, next_for, ordered_for, settled_first}
 use Rattle.next_tables.proofs.Listed.{listed}
 use Rattle.next_tables.proofs.Ordered.{ordered_is}

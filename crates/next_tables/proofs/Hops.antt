@@ -12,7 +12,7 @@ use Rattle.subnet_view.specs.declared.end_port.EndPort.{EndPort}
 use Rattle.subnet_view.specs.Reading.{Cells, switches}
 use Rattle.subnet_view.specs.Wires.{across}
 use Rattle.held_tables.specs.Held.{HeldPlan}
-use Rattle.packet_walks.specs.declared.packet_end.Cause.{Cause}
+use Rattle.packet_walks.specs.declared.cause.Cause.{Cause}
 use Rattle.packet_walks.specs.declared.next_hop.NextHop.TheVariants.{To, Ends}
 use Rattle.packet_walks.specs.declared.packet_end.End.TheVariants.{Taken}
 use Rattle.held_tables.specs.declared.far_end.Far.{Far}
@@ -21,7 +21,7 @@ use Rattle.held_tables.specs.Switches.{far_at, far_by, far_of, far_to, index_in,
 use Rattle.held_tables.specs.Tables.{owners_of, entry_for}
 use Rattle.packet_walks.specs.HopsByTables.{by_entry, over, cause_of}
 use Rattle.packet_walks.specs.Edges.{edge_by, edge_to, edges_of}
-use Rattle.audit_channels.specs.Columns.{number_of}
+use Rattle.audit_channels.specs.Column.{number_of}
 use Rattle.held_tables.proofs.HeldTables.{within_length}
 use Rattle.next_tables.specs.SettledRule.{step_at}
 use Rattle.next_tables.proofs.Entries.{at_mapped, past_mapped}

@@ -19,8 +19,8 @@ use Rattle.subnet_view.specs.Wires.{across}
 use Rattle.subnet_view.specs.FabricAgreement.{Part, IsEndPortIn}
 use Rattle.held_tables.specs.declared.held.HeldLid.{HeldLid}
 use Rattle.held_tables.specs.Held.{HeldPlan}
-use Rattle.packet_walks.specs.declared.packet_end.Cause.{Cause}
-use Rattle.packet_walks.specs.declared.packet_end.Cause.TheVariants.{NoEntry, NoLink, Foreign}
+use Rattle.packet_walks.specs.declared.cause.Cause.{Cause}
+use Rattle.packet_walks.specs.declared.cause.Cause.TheVariants.{NoEntry, NoLink, Foreign}
 use Rattle.packet_walks.specs.declared.packet_end.End.TheVariants.{Taken, Lost}
 use Rattle.held_tables.specs.declared.far_end.Far.{Far}
 use Rattle.held_tables.specs.declared.far_end.Far.TheVariants.{Nothing}

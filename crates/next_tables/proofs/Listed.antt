@@ -13,7 +13,7 @@ use Rattle.packet_walks.specs.EndsBySwitch.{HaveEnded, after, end_of, onward}
 use Rattle.packet_walks.specs.HopsByTables.{is_at, next_hops_of, switch_step}
 use Rattle.packet_walks.proofs.InTime.{one_end, ends_in_time}
 use Rattle.next_tables.specs.SettledRule.{comes_to, agreed, mending, next_entry}
-use Rattle.next_tables.specs.SettledComputed.{agreed_by, agreed_of, arrives_by, chosen_by, hops_of, is_whole, mending_by, mending_of, mends_of, next_by, next_of, patch_entry_by}
+use Rattle.next_tables.specs.SettledEntries.{agreed_by, agreed_of, arrives_by, chosen_by, hops_of, is_whole, mending_by, mending_of, mends_of, next_by, next_of, patch_entry_by}
 
 -- whether a walk comes to the port, by where walks have ended
 pub arrives_is : (port : EndPort) (steps ends : List NextHop) → HaveEnded steps ends

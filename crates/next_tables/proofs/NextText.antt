@@ -22,7 +22,7 @@ use Rattle.held_tables.specs.Held.{HeldPlan}
 use Rattle.held_tables.specs.PlanRanges.{IsBlock, IsPlanInRange, IsTableInRange}
 use Rattle.held_tables.specs.PlanTables.{blocks_from, blocks_of, held_plan, owned_lids, with_top}
 use Rattle.tables_file.specs.PrintedTextIsRead.{AreTops, IsHeldInRange, Says, held_under, with_own_top}
-use Rattle.tables_file.specs.TablesText.{next_text}
+use Rattle.tables_file.specs.PrintedTables.{next_text}
 use Rattle.held_tables.proofs.PlanRanges.{plans_in_range, switch_small}
 use Rattle.tables_file.proofs.Printed.{tables_are_read}
 use Rattle.tables_file.proofs.ReadRanges.{texts_are_in_range}

@@ -25,11 +25,11 @@ use Rattle.packet_walks.specs.HopsByTables.{next_hops_of, switch_step}
 use Rattle.packet_walks.proofs.FabricParts.{index_there}
 use Rattle.next_tables.specs.SettledRule.{comes_to, delivers, step_at}
 use Rattle.packet_walks.specs.EndsBySwitch.{HaveEnded}
-use Rattle.next_tables.specs.SettledComputed.{Both, arrives_by, hops_of}
+use Rattle.next_tables.specs.SettledEntries.{Both, arrives_by, hops_of}
 use Rattle.next_tables.specs.OrderRule.{comes_down, goes_up, is_same, leads_in, may_change, next_by_order, none_comes_down, none_goes_up, tried, tried_at, turns_well}
 use Rattle.next_tables.specs.SwitchPositions.{is_down, is_up, position_at, switch_at}
-use Rattle.next_tables.specs.OrderComputed as listed
-use Rattle.next_tables.specs.OrderComputed.{delivered_of, entered_of, enters, enters_from, entries_by, entry_by, flag, goes_up_by, going_up_of, is_entered, may_change_by, ordered_of, tried_by, tried_of, turns_well_by}
+use Rattle.next_tables.specs.OrderedEntries as listed
+use Rattle.next_tables.specs.OrderedEntries.{delivered_of, entered_of, enters, enters_from, entries_by, entry_by, flag, goes_up_by, going_up_of, is_entered, may_change_by, ordered_of, tried_by, tried_of, turns_well_by}
 use Rattle.next_tables.specs.NextTables.{index_at}
 use Rattle.next_tables.proofs.Entries.{at_mapped, member}
 use Rattle.next_tables.proofs.Hops.{to_within}

@@ -5,8 +5,8 @@ use Rattle.std.proofs.lemmas.List.{get_or_past}
 use Rattle.std.proofs.lemmas.List.FromFn.{length-map-range_with_len}
 use Rattle.subnet_view.specs.declared.end_port.EndPort.{EndPort}
 use Rattle.subnet_view.specs.Reading.{Cells}
-use Rattle.packet_walks.specs.declared.packet_end.Cause.{Cause}
-use Rattle.packet_walks.specs.declared.packet_end.Cause.TheVariants.{NoEntry}
+use Rattle.packet_walks.specs.declared.cause.Cause.{Cause}
+use Rattle.packet_walks.specs.declared.cause.Cause.TheVariants.{NoEntry}
 use Rattle.packet_walks.specs.declared.packet_end.End.{End}
 use Rattle.packet_walks.specs.declared.packet_end.End.TheVariants.{Taken, Lost}
 use Rattle.held_tables.specs.declared.far_end.Far.{Far}

@@ -26,7 +26,7 @@ use Rattle.packet_walks.specs.declared.next_hop.NextHop.TheVariants.{To}
 use Rattle.next_tables.specs.OrderRule.{may_change, tried}
 use Rattle.next_tables.specs.SwitchPositions.{position_at}
 use Rattle.next_tables.specs.SettledRule.{IsNext, comes_to, delivers, leads_on, mends, next_entry, step_at}
-use Rattle.next_tables.specs.Assembled.{all_blocks}
+use Rattle.next_tables.specs.Assembly.{all_blocks}
 use Rattle.next_tables.specs.NextTables.{IsKept, StepRuleValue, by_order, column_of, if_owned, index_at, keeper, next_at, next_block, next_for, next_switch, next_table, next_tables, next_top, ordered_for, settled_first}
 use Rattle.held_tables.specs.declared.held.HeldBlock.{HeldBlock}
 use Rattle.packet_walks.specs.Edges.{greatest_top}

@@ -1,11 +1,11 @@
 pub mod SwitchPositions
 pub mod OrderRule
-pub mod Assembled
+pub mod Assembly
 pub mod ChangingFabric
 pub mod Mixtures
 pub mod SettledRule
 pub mod NextTables
 pub mod NextTextIsRead
-pub mod OrderComputed
+pub mod OrderedEntries
 pub mod SettledStepLaws
-pub mod SettledComputed
+pub mod SettledEntries

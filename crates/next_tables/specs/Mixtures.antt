@@ -1,12 +1,12 @@
 -- What becomes of packets while switches change from the held tables to the next tables, each block at its own time.
 use Rattle.std.specs.Prelude.{◌≡◌, ◌≤◌, ◌<◌, ◌⊎◌, ℕ, zero, suc, List, [], ◌∷◌, Contains, Option, Some, slice_get, slice_index_or}
 use Rattle.port_graph.specs.declared.edge.Edge.{Edge}
-use Rattle.audit_channels.specs.Columns.{TakesAcross}
+use Rattle.audit_channels.specs.Column.{TakesAcross}
 use Rattle.subnet_view.specs.declared.end_port.EndPort.{EndPort}
 use Rattle.subnet_view.specs.Reading.{Cells, switches}
 use Rattle.held_tables.specs.declared.held.HeldLid.{HeldLid}
 use Rattle.held_tables.specs.Held.{HeldPlan}
-use Rattle.packet_walks.specs.declared.packet_end.Cause.{Cause}
+use Rattle.packet_walks.specs.declared.cause.Cause.{Cause}
 use Rattle.packet_walks.specs.declared.packet_end.End.{End}
 use Rattle.packet_walks.specs.declared.packet_end.End.TheVariants.{Taken, Lost}
 use Rattle.packet_walks.specs.declared.next_hop.NextHop.{NextHop}
@@ -24,14 +24,14 @@ pub record IsMixed (cells : Cells) (held next : HeldPlan) (lid : ℕ) (mixed : H
   pub entries : (g : ℕ) → Contains (switches cells) g → (entry_for mixed lid g ≡ entry_for held lid g)
       ⊎ (entry_for mixed lid g ≡ entry_for next lid g)
 
--- the hop that is reached from the hop `s` by `n` steps; step number `k`, counted from 0, goes by the next hops `steps
--- k`
+-- the hop that is reached from the hop `s` by `n` steps; step number `k`, counted from 0, goes along the next hops
+-- `steps k`
 abbrev pub after_by : ℕ → (ℕ → List NextHop) → NextHop → NextHop
 after_by zero steps s = s
 after_by (suc n) steps s = after_by n (λ k. steps (suc k)) (onward (steps 0) s)
 
--- the packet that `e` sends for `lid` ends at `end` by tables that change; `tables k` are the tables when the packet
--- has passed `k` switches
+-- the packet that `e` sends for `lid` ends at `end` under tables that change; `tables k` are the tables when the
+-- packet has passed `k` switches
 abbrev pub IsBroughtBy : Cells → (ℕ → HeldPlan) → ℕ → EndPort → End → Type 0
 IsBroughtBy cells tables lid e end =
     (n : ℕ) × (after_by n (λ k. next_hops_of cells (tables k) lid)
@@ -47,9 +47,9 @@ pub record IsLoose (cells : Cells) (held next : HeldPlan) (lid : ℕ) (mixed : H
       ⊎ ((entry_for mixed lid g ≡ entry_for next lid g)
       ⊎ ((x : ℕ) × (cause : Cause) × (step_at cells held lid g ≡ Ends (Lost x cause))))
 
--- a packet that the held tables deliver at the end port of `line` is delivered there by any loose mixtures (`IsLoose`)
--- of the held and the next tables, if two conditions hold: the LID has the same owners in the plan and in the held
--- tables; and `next` has the next entries for it
+-- if the LID has the same owners in the plan and in the held tables, and `next` has the next entries for the LID, a
+-- packet that the held tables deliver at the end port of `line` is delivered there under any loose mixtures
+-- (`IsLoose`) of the held and the next tables
 abbrev pub NoneIsLost : Type 0
 NoneIsLost =
     (cells : Cells) (held plan next : HeldPlan) (line : HeldLid) → owners_of plan line.lid ≡ owners_of held line.lid
@@ -58,8 +58,8 @@ NoneIsLost =
     → (source : EndPort) → IsBrought cells held line.lid source (Some (Taken line.port))
     → IsBroughtBy cells mixed line.lid source (Taken line.port)
 
--- each switch delivers a packet for the LID by the next tables, or has the entry 255, if two conditions hold: the LID
--- has the same owners in the plan and in the held tables; and `next` has the next entries for it
+-- if the LID has the same owners in the plan and in the held tables, and `next` has the next entries for the LID,
+-- each switch delivers a packet for the LID under the next tables, or has the entry 255
 abbrev pub NextDeliverOrDrop : Type 0
 NextDeliverOrDrop =
     (cells : Cells) (held plan next : HeldPlan) (line : HeldLid) → owners_of plan line.lid ≡ owners_of held line.lid
@@ -67,9 +67,9 @@ NextDeliverOrDrop =
     → (i g : ℕ) → slice_get (switches cells) i ≡ Some g
     → (entry_for next line.lid g ≡ 255) ⊎ IsEndOf (next_hops_of cells next line.lid) (To i) (Some (Taken line.port))
 
--- a packet for the LID that does not loop by the held tables does not loop by any mixtures of the held and the next
--- tables, if two conditions hold: the LID has the same owners in the plan and in the held tables; and `next` has the
--- next entries for it
+-- if the LID has the same owners in the plan and in the held tables, and `next` has the next entries for the LID, a
+-- packet for the LID that does not loop under the held tables does not loop under any mixtures of the held and the
+-- next tables
 abbrev pub NoneGoesRound : Type 0
 NoneGoesRound =
     (cells : Cells) (held plan next : HeldPlan) (line : HeldLid) → owners_of plan line.lid ≡ owners_of held line.lid
@@ -102,8 +102,8 @@ StillIsThePlan =
     ≡ Ends (Taken line.port)
     → entry_for held line.lid g ≡ entry_for plan line.lid g
 
--- in steps towards a plan, each packet for the LID of `line` that arrives by the plan arrives by the tables after two
--- steps
+-- in steps towards a plan, each packet for the LID of `line` that arrives under the plan arrives under the tables
+-- after two steps
 abbrev pub HealInTwo : Type 0
 HealInTwo =
     (cells : Cells) (plan : HeldPlan) (line : HeldLid) (tables : ℕ → HeldPlan) → AreSteps cells plan line tables
@@ -120,12 +120,12 @@ abbrev pub TakesInStep : List (Option Edge) → List (Option Edge) → ℕ → �
 TakesInStep held next a b =
     TakesBy held held a b ⊎ (TakesBy held next a b ⊎ (TakesBy next held a b ⊎ TakesBy next next a b))
 
--- channel `a` waits for channel `b`: packets for `lid` that took `a` by the tables `before` take `b` next by the tables
--- `now`
+-- channel `a` waits for channel `b`: packets for `lid` that took `a` under the tables `before` take `b` next under
+-- the tables `now`
 abbrev pub WaitsAcross : Cells → HeldPlan → HeldPlan → ℕ → ℕ → ℕ → Type 0
 WaitsAcross cells before now lid a b = TakesBy (edges_of cells before lid) (edges_of cells now lid) a b
 
--- packets for `lid` take channel `a` and then channel `b`, each by the held or by the next tables
+-- packets for `lid` take channel `a` and then channel `b`, each under the held or the next tables
 abbrev pub WaitsInStep : Cells → HeldPlan → HeldPlan → ℕ → ℕ → ℕ → Type 0
 WaitsInStep cells held next lid a b = TakesInStep (edges_of cells held lid) (edges_of cells next lid) a b
 
@@ -144,8 +144,8 @@ RiseInStep cells held next numbers =
     (lid a b : ℕ) → 1 ≤ lid → WaitsInStep cells held next lid a b → slice_index_or numbers a 0
     < slice_index_or numbers b 0
 
--- channel `a` waits for channel `b`: for some LID, packets that took `a` by one mixture of the held and the next tables
--- take `b` next by a mixture, perhaps another
+-- channel `a` waits for channel `b`: for some LID, packets that took `a` by one mixture of the held and the next
+-- tables take `b` next under a mixture, perhaps another
 pub record WaitsMixed (cells : Cells) (held next : HeldPlan) (a b : ℕ) : Type 0 where
   pub lid : ℕ
   pub is_lid : 1 ≤ lid
@@ -155,8 +155,8 @@ pub record WaitsMixed (cells : Cells) (held next : HeldPlan) (a b : ℕ) : Type 
   pub now_is : IsMixed cells held next lid now
   pub waits : WaitsAcross cells before now lid a b
 
--- in the list that has `channel`, then the given channels, then `last`, each channel waits for the next one by some
--- mixtures of the held and the next tables
+-- in the list that has `channel`, then the given channels, then `last`, each channel waits for the next one under
+-- some mixtures of the held and the next tables
 abbrev pub WaitOnMixed : Cells → HeldPlan → HeldPlan → ℕ → List ℕ → ℕ → Type 0
 WaitOnMixed cells held next channel [] last = WaitsMixed cells held next channel last
 WaitOnMixed cells held next channel (c ∷ later) last =

@@ -12,8 +12,8 @@ use Rattle.held_tables.specs.PlanTables.{blocks_of}
 use Rattle.held_tables.specs.Owners.{is_sole}
 use Rattle.held_tables.specs.Switches.{index_in}
 use Rattle.held_tables.specs.Tables.{owners_of, is_same_end, entry_for, top_of}
-use Rattle.next_tables.specs.declared.fault.StepFault.{StepFault}
-use Rattle.next_tables.specs.declared.fault.StepFault.TheVariants.{Moves, Memory}
+use Rattle.next_tables.specs.declared.step_fault.StepFault.{StepFault}
+use Rattle.next_tables.specs.declared.step_fault.StepFault.TheVariants.{Moves, Memory}
 use Rattle.next_tables.specs.declared.step_rule.StepRule.{StepRule}
 use Rattle.next_tables.specs.declared.step_rule.StepRule.TheVariants.{SettledFirst, ByOrder}
 use Rattle.next_tables.specs.OrderRule.{next_by_order}
@@ -25,7 +25,7 @@ abbrev pub moves : HeldPlan → HeldLid → Bool
 moves held line = not (is_sole line.port (owners_of held line.lid))
 
 -- the first LID that the plan gives to an end port and that another end port holds in the held tables; None if there
--- is none
+-- is no such LID
 abbrev pub first_moved : HeldPlan → HeldPlan → Option ℕ
 first_moved held plan = option_map (λ line. line.lid) (find (moves held) plan.lids)
 
@@ -35,8 +35,8 @@ kept_by e [] = None
 kept_by e (x ∷ []) = if is_same_end e x then Some e else None
 kept_by e (x ∷ y ∷ xs) = None
 
--- the only one of a LID's owners in the plan (the first list), if it is also the only one in `held`, the LID's owners
--- in the held tables; otherwise None
+-- the end port that alone owns a LID in the plan and in the held tables; None if there is none. The first list has
+-- the LID's owners in the plan, and `held` those in the held tables
 abbrev pub keeper : List EndPort → List EndPort → Option EndPort
 keeper [] held = None
 keeper (e ∷ []) held = kept_by e held
@@ -65,7 +65,7 @@ abbrev pub value_of : StepRule → StepRuleValue
 value_of SettledFirst = settled_first
 value_of (ByOrder positions) = by_order positions.items
 
--- the index of switch `g` among the usable switches; 0 if `g` is none of them
+-- if `g` is a usable switch, the index of `g` among the usable switches; otherwise 0
 abbrev pub index_at : Cells → ℕ → ℕ
 index_at cells g = unwrap_or (index_in (switches cells) g) 0
 
@@ -122,7 +122,7 @@ next_tables cells rule held plan = record {
   blocks = blocks_of 0 (map (next_table cells rule held plan) (switches cells));
 }
 
--- the fault of a step: the given LID moves from one end port to another; None if no LID moves
+-- if a LID moves from one end port to another, the fault of a step that says so; None if no LID is given
 abbrev pub step_fault : Option ℕ → Option StepFault
 step_fault None = None
 step_fault (Some lid) = Some (Moves lid)

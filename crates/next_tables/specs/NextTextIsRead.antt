@@ -3,13 +3,13 @@ use Rattle.std.specs.Prelude.{◌≤◌, ℕ, List}
 use Rattle.fact_store.specs.View.{Facts, cells_of, AreInRange}
 use Rattle.lid_assign.specs.Lids.{IsNoRoom}
 use Rattle.lft_blocks.specs.Plan.{PlanValue, plan_of}
-use Rattle.lft_blocks.specs.Rules.{RuleValue}
+use Rattle.lft_blocks.specs.Rule.{RuleValue}
 use Rattle.held_tables.specs.Held.{HeldPlan}
 use Rattle.held_tables.specs.PlanRanges.{IsPlanInRange}
 use Rattle.held_tables.specs.PlanTables.{held_plan}
 use Rattle.tables_file.specs.PrintedTextIsRead.{IsHeldInRange, Says}
 use Rattle.tables_file.specs.Reading.{held_of}
-use Rattle.tables_file.specs.TablesText.{next_text}
+use Rattle.tables_file.specs.PrintedTables.{next_text}
 use Rattle.next_tables.specs.NextTables.{StepRuleValue, next_tables}
 
 -- the text of the next tables towards `plan`, by the rule `by`, is read back as these tables
@@ -25,8 +25,8 @@ NextTextsAreRead =
     (facts : Facts) (by : StepRuleValue) (held : HeldPlan) (plan : PlanValue) → AreInRange facts → IsHeldInRange held
     → IsPlanInRange plan → IsStepRead facts by held plan
 
--- the text of a step is read back as its tables, if the step goes from the tables of any text towards the plan, at an
--- LMC of at most 7, of facts that are in range and have room for the LIDs
+-- suppose facts are in range and have room for the LIDs, and the LMC is at most 7. Then the text of a step from the
+-- tables of any text towards the plan of these facts is read back as the step's tables
 abbrev pub StepTextsAreRead : Type 0
 StepTextsAreRead =
     (rule : RuleValue) (lmc : ℕ) (facts : Facts) (by : StepRuleValue) (text : List ℕ) → lmc ≤ 7 → AreInRange facts

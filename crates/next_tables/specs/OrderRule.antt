@@ -75,8 +75,8 @@ tried_at cells q held goal line i =
 abbrev pub tried : Cells → (ℕ → ℕ) → HeldPlan → HeldPlan → HeldLid → List NextHop
 tried cells q held goal line = map (tried_at cells q held goal line) (range_with_len 0 (length (switches cells)))
 
--- the next entry of the switch `g` at index `i` by the order: the tried entry if the packet arrives from there by the
--- tried entries, otherwise 255
+-- the next entry of the switch `g` at index `i` by the order: the tried entry if the packet arrives from there along
+-- the tried entries, otherwise 255
 abbrev pub next_by_order : Cells → (ℕ → ℕ) → HeldPlan → HeldPlan → HeldLid → ℕ → ℕ → ℕ
 next_by_order cells q held goal line i g =
     if comes_to line.port (tried cells q held goal line) (To i) then tried_entry cells q held goal line i g else 255
@@ -89,7 +89,7 @@ pub record IsNextByOrder (cells : Cells) (q : ℕ → ℕ) (held goal : HeldPlan
         → entry_for next line.lid g ≡ next_by_order cells q held goal line i g
 
 -- the LID's owners stay the same, and each switch has its tried entry for the LID in `next`. If the packet does not
--- arrive from a switch by the tried entries, the switch may have 255 instead
+-- arrive from a switch along the tried entries, the switch may have 255 instead
 pub record IsTriedByOrder (cells : Cells) (q : ℕ → ℕ) (held goal : HeldPlan) (line : HeldLid) (next : HeldPlan) : Type 0
   where
     pub owners : owners_of next line.lid ≡ owners_of held line.lid
@@ -97,8 +97,8 @@ pub record IsTriedByOrder (cells : Cells) (q : ℕ → ℕ) (held goal : HeldPla
         → (entry_for next line.lid g ≡ tried_entry cells q held goal line i g)
         ⊎ ((comes_to line.port (tried cells q held goal line) (To i) ≡ false) × (entry_for next line.lid g ≡ 255))
 
--- each entry of `next` for `lid` is the held entry, 255, or the goal's entry; if it is the goal's, its hop makes no
--- bad turn with held entries
+-- each entry of `next` for `lid` is the held entry, or 255, or the goal's entry with a hop that makes no bad turn
+-- with held entries
 abbrev pub IsChoice : Cells → (ℕ → ℕ) → HeldPlan → HeldPlan → ℕ → HeldPlan → Type 0
 IsChoice cells q held goal lid next =
     (i g : ℕ) → slice_get (switches cells) i ≡ Some g

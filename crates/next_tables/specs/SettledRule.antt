@@ -1,11 +1,11 @@
--- The next entry of each switch for a LID, from held tables towards a plan, by settled entries: the plan's entry once
--- it leads on.
+-- The next entry of each switch for a LID that the same end port alone holds in the held tables and in the plan, by
+-- settled entries: the plan's entry once it leads on.
 use Rattle.std.specs.Prelude.{◌≡◌, ℕ, ◌==◌, Bool, List, Contains, length, map, if◌then◌else◌}
 use Rattle.subnet_view.specs.declared.end_port.EndPort.{EndPort}
 use Rattle.subnet_view.specs.Reading.{Cells, switches}
 use Rattle.held_tables.specs.declared.held.HeldLid.{HeldLid}
 use Rattle.held_tables.specs.Held.{HeldPlan}
-use Rattle.packet_walks.specs.declared.packet_end.Cause.TheVariants.{NoEntry}
+use Rattle.packet_walks.specs.declared.cause.Cause.TheVariants.{NoEntry}
 use Rattle.packet_walks.specs.declared.packet_end.End.TheVariants.{Taken, Lost}
 use Rattle.packet_walks.specs.declared.next_hop.NextHop.{NextHop}
 use Rattle.packet_walks.specs.declared.next_hop.NextHop.TheVariants.{Ends}
@@ -14,12 +14,12 @@ use Rattle.held_tables.specs.Tables.{owners_of, entry_for}
 use Rattle.packet_walks.specs.EndsBySwitch.{after, end_of, is_to}
 use Rattle.packet_walks.specs.HopsByTables.{by_entry, cause_of, is_at, next_hops_of}
 
--- the next hop of switch `g` for `lid` by `tables`
+-- the next hop of switch `g` for `lid` under `tables`
 abbrev pub step_at : Cells → HeldPlan → ℕ → ℕ → NextHop
 step_at cells tables lid g =
     by_entry (owners_of tables lid) g (cause_of cells tables lid g) (row_of cells g) (entry_for tables lid g)
 
--- the walk from `s` by `steps` arrives at `port`
+-- the walk from `s` along `steps` arrives at `port`
 abbrev pub comes_to : EndPort → List NextHop → NextHop → Bool
 comes_to port steps s = is_at port (end_of (after (length steps) steps s))
 
@@ -29,8 +29,8 @@ abbrev pub agreed_at : Cells → HeldPlan → HeldPlan → ℕ → ℕ → NextH
 agreed_at cells held plan lid g =
     if entry_for held lid g == entry_for plan lid g then step_at cells plan lid g else Ends (Lost g NoEntry)
 
--- for each usable switch, the plan's next hop if its held entry for `lid` is the plan's already; any other switch drops
--- the packet
+-- for each usable switch, the plan's next hop if the switch's held entry for `lid` is the plan's already; any other
+-- switch drops the packet
 abbrev pub agreed : Cells → HeldPlan → HeldPlan → ℕ → List NextHop
 agreed cells held plan lid = map (agreed_at cells held plan lid) (switches cells)
 
@@ -39,7 +39,7 @@ agreed cells held plan lid = map (agreed_at cells held plan lid) (switches cells
 abbrev pub leads_on : Cells → HeldPlan → HeldPlan → HeldLid → ℕ → Bool
 leads_on cells held plan line g = comes_to line.port (agreed cells held plan line.lid) (step_at cells plan line.lid g)
 
--- the held tables deliver a packet for the LID of `line` from switch `g` at its port
+-- the held tables deliver a packet for the LID of `line` from switch `g` at the port of `line`
 abbrev pub delivers : Cells → HeldPlan → HeldLid → ℕ → Bool
 delivers cells held line g = comes_to line.port (next_hops_of cells held line.lid) (step_at cells held line.lid g)
 
@@ -53,8 +53,8 @@ abbrev pub patch_at : Cells → HeldPlan → HeldPlan → ℕ → ℕ → NextHo
 patch_at cells held plan lid g =
     if is_to (step_at cells held lid g) then step_at cells held lid g else step_at cells plan lid g
 
--- the hop of a packet at switch `g` while mending: it is delivered if the held tables deliver it; otherwise it takes
--- the held hop if that leads to a switch, and else the plan's
+-- the hop of a packet at switch `g` while mending: delivery if the held tables deliver the packet; otherwise the held
+-- hop if this hop leads to a switch, and else the plan's hop
 abbrev pub mending_at : Cells → HeldPlan → HeldPlan → HeldLid → ℕ → NextHop
 mending_at cells held plan line g =
     if delivers cells held line g then Ends (Taken line.port) else patch_at cells held plan line.lid g

@@ -35,9 +35,9 @@ abbrev pub StepsFollowTheRule : Type 0
 StepsFollowTheRule = (cells : Cells) (held plan : HeldPlan) (line : HeldLid) → IsKept held plan line
     → IsNext cells held plan line (next_tables cells settled_first held plan)
 
--- a packet that the held tables deliver is delivered at the same end port by any loose mixtures (`IsLoose`) of the
--- held tables and the next ones by settled entries, if this end port alone holds the LID in the held tables and in the
--- plan
+-- if the end port of `line` alone holds the LID in the held tables and in the plan, a packet that the held tables
+-- deliver at this end port is delivered there under any loose mixtures (`IsLoose`) of the held tables and the next
+-- ones by settled entries
 abbrev pub StepsLoseNone : Type 0
 StepsLoseNone =
     (cells : Cells) (held plan : HeldPlan) (line : HeldLid) → IsKept held plan line
@@ -45,8 +45,8 @@ StepsLoseNone =
     → (source : EndPort) → IsBrought cells held line.lid source (Some (Taken line.port))
     → IsBroughtBy cells mixed line.lid source (Taken line.port)
 
--- a packet that does not loop by the held tables does not loop by any mixtures of the held tables and the next ones by
--- settled entries, if the same end port alone holds its LID in the held tables and in the plan
+-- if the same end port alone holds a LID in the held tables and in the plan, a packet for the LID that does not loop
+-- under the held tables does not loop under any mixtures of the held tables and the next ones by settled entries
 abbrev pub StepsSendNoneRound : Type 0
 StepsSendNoneRound =
     (cells : Cells) (held plan : HeldPlan) (line : HeldLid) → IsKept held plan line
@@ -59,8 +59,8 @@ abbrev pub stepped : Cells → HeldPlan → HeldPlan → ℕ → HeldPlan
 stepped cells plan held zero = held
 stepped cells plan held (suc n) = next_tables cells settled_first (stepped cells plan held n) plan
 
--- a switch from which the plan delivers after n hops has the plan's entry after n or more steps by settled entries, if
--- the end port of `line` alone holds the LID in the held tables and in the plan
+-- if the end port of `line` alone holds the LID in the held tables and in the plan, a switch from which the plan
+-- delivers after n hops has the plan's entry after n or more steps by settled entries
 abbrev pub StepsEndInThePlan : Type 0
 StepsEndInThePlan =
     (cells : Cells) (held plan : HeldPlan) (line : HeldLid) → IsKept held plan line
@@ -68,8 +68,8 @@ StepsEndInThePlan =
     ≡ Ends (Taken line.port) → n ≤ m
     → entry_for (stepped cells plan held m) line.lid g ≡ entry_for plan line.lid g
 
--- a packet that the plan delivers is delivered at the same end port by the tables after two steps by settled entries,
--- if this end port alone holds its LID in the held tables and in the plan
+-- if the end port of `line` alone holds the LID in the held tables and in the plan, a packet that the plan delivers
+-- at this end port is delivered there under the tables after two steps by settled entries
 abbrev pub StepsHealInTwo : Type 0
 StepsHealInTwo =
     (cells : Cells) (held plan : HeldPlan) (line : HeldLid) → IsKept held plan line

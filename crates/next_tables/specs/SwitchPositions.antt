@@ -36,21 +36,22 @@ is_down q i j = not (nat_lt (q j) (q i))
 abbrev pub is_up : (ℕ → ℕ) → ℕ → ℕ → Bool
 is_up q i j = not (nat_lt (q i) (q j))
 
--- the turn from the switch at index `i` over `j` to `k` is bad: it goes down and then up
+-- the turn from the switch at index `i` via `j` to `k` is bad: it goes down and then up
 abbrev pub is_bad : (ℕ → ℕ) → ℕ → ℕ → ℕ → Bool
 is_bad q i j k = is_down q i j && is_up q j k
 
--- the switch at index `i` forwards packets for `lid` by `tables` to the switch at index `j`
+-- the switch at index `i` forwards packets for `lid` under `tables` to the switch at index `j`
 pub record Leads (cells : Cells) (tables : HeldPlan) (lid i j : ℕ) : Type 0 where
   pub switch : ℕ
   pub is_there : slice_get (switches cells) i ≡ Some switch
   pub goes : step_at cells tables lid switch ≡ To j
 
--- no packet for `lid` that reaches a switch by `before` and leaves it by `now` goes down and then up in the order `q`
+-- no packet for `lid` that reaches a switch under `before` and leaves this switch under `now` goes down and then up
+-- in the order `q`
 abbrev pub TurnsWell : Cells → (ℕ → ℕ) → HeldPlan → HeldPlan → ℕ → Type 0
 TurnsWell cells q before now lid =
     (i j k : ℕ) → Leads cells before lid i j → Leads cells now lid j k → is_bad q i j k ≡ false
 
--- `tables` are right by the order `q` for `lid`: no packet for `lid` goes down and then up by them
+-- `tables` are right by the order `q` for `lid`: under these tables, no packet for `lid` goes down and then up
 abbrev pub AreRight : Cells → (ℕ → ℕ) → HeldPlan → ℕ → Type 0
 AreRight cells q tables lid = TurnsWell cells q tables tables lid

@@ -2,7 +2,7 @@
 ghost use Rattle.std.specs.Prelude.{◌≡◌, ◌≤◌, ◌<◌, ◌++◌, IfOk, OnOk, map, max, slice_index_or};
 ghost use Rattle.fact_store.specs.View.{cells_of};
 ghost use Rattle.subnet_view.specs.Reading.{switches};
-ghost use Rattle.next_tables.specs.Assembled.{all_blocks, block_in, entry_in, most_blocks, some_blocks, tables_with};
+ghost use Rattle.next_tables.specs.Assembly.{all_blocks, block_in, entry_in, most_blocks, some_blocks, tables_with};
 ghost use Rattle.next_tables.specs.NextTables.{next_switch};
 
 use held_tables::{Held, HeldBlock, HeldSwitch};

@@ -39,8 +39,8 @@ pub(crate) fn columns(
     Ok(columns)
 }
 
-/// Returns the next entries of all usable switches for the LID of both cursors, by `rule`. `held` and `plan` must be
-/// at the same LID, and have the same facts.
+/// Returns the next entry of each usable switch, by `rule`, for the LID that both cursors are at. `held` and `plan`
+/// must be at the same LID, and have the same facts.
 fn column(
     alloc: Global,
     rule: &StepRule,
@@ -58,8 +58,8 @@ fn column(
     }
 }
 
-/// Returns the next entries of all usable switches for the LID of both cursors, by the order `positions`. `held` and
-/// `plan` must be at the same LID, and have the same facts.
+/// Returns the next entry of each usable switch, by the order `positions`, for the LID that both cursors are at.
+/// `held` and `plan` must be at the same LID, and have the same facts.
 fn ordered_column(
     alloc: Global,
     positions: &[usize],
@@ -87,8 +87,8 @@ fn ordered_column(
     ordered_entries(alloc, &port, positions, &held_steps, &plan_steps)
 }
 
-/// Returns the next entries of all usable switches for the LID of both cursors, by settled entries. `held` and `plan`
-/// must be at the same LID, and have the same facts.
+/// Returns the next entry of each usable switch, by settled entries, for the LID that both cursors are at. `held` and
+/// `plan` must be at the same LID, and have the same facts.
 fn settled_column(alloc: Global, held: &LidCursor, plan: &LidCursor) -> Result<Vec<u8>, AllocError>
     requires facts { plan.now.seen.facts ≡ held.now.seen.facts }
     requires lid { plan.now.lid ≡ held.now.lid }

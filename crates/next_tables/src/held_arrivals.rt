@@ -1,7 +1,7 @@
 //! Where the held tables bring packets for a LID, for both rules of next tables.
 ghost use Rattle.std.specs.Prelude.{◌≡◌, IfOk, ◌<◌, false, map};
-ghost use Rattle.next_tables.specs.SettledComputed.{arrives_by, hops_of};
-ghost use Rattle.next_tables.specs.OrderComputed.{delivered_of, flag, leads_in};
+ghost use Rattle.next_tables.specs.SettledEntries.{arrives_by, hops_of};
+ghost use Rattle.next_tables.specs.OrderedEntries.{delivered_of, flag, leads_in};
 
 use packet_walks::ends_by_switch::{end_of, ends, onward};
 use packet_walks::{NextHop, SwitchStep, is_at};
@@ -15,8 +15,8 @@ pub(crate) fn hops(alloc: Global, steps: &[SwitchStep]) -> Result<Vec<NextHop>, 
     steps.iter().map(|step| step.hop).collect(alloc)
 }
 
-/// Returns whether the walk that goes on by the hop `step` arrives at `port`. `ends` has the end of the walk from each
-/// switch.
+/// Returns whether the walk that goes on with the hop `step` arrives at `port`. `ends` has the end of the walk from
+/// each switch.
 pub(crate) fn arrives_by(port: &EndPort, ends: &[NextHop], step: NextHop) -> bool
     ensures { result ≡ arrives_by port.now ends.now step }
 {
@@ -36,8 +36,8 @@ pub(crate) fn delivered(
     arrivals(alloc, port, &ends, held)
 }
 
-/// Returns, for each of `steps`, whether the walk that goes on by its hop arrives at `port`. `ends` has the end of the
-/// walk from each switch.
+/// Returns, for each of `steps`, whether the walk that goes on with its hop arrives at `port`. `ends` has the end of
+/// the walk from each switch.
 fn arrivals(
     alloc: Global,
     port: &EndPort,

@@ -6,18 +6,18 @@
 
 mod assembly;
 mod entries_by_lid;
-mod fault;
 mod held_arrivals;
 pub mod laws;
 mod ordered_entries;
 mod settled_entries;
 mod step;
+mod step_fault;
 mod step_rule;
-mod up_down;
+mod switch_positions;
 
 pub use assembly::{greater, most_blocks, tables_with};
 pub use entries_by_lid::{first_owner, no_entries};
-pub use fault::StepFault;
 pub use step::next_tables;
+pub use step_fault::StepFault;
 pub use step_rule::StepRule;
-pub use up_down::{is_down, is_up};
+pub use switch_positions::{is_down, is_up};

@@ -3,13 +3,13 @@ ghost use Rattle.std.specs.Prelude.{◌≡◌, ◌<◌, ◌||◌, ℕ, IfOk, fal
 ghost use Rattle.std.specs.List.{enumerate_from};
 ghost use Rattle.next_tables.specs.OrderRule.{goes_up};
 ghost use Rattle.next_tables.specs.SwitchPositions.{position_at};
-ghost use Rattle.next_tables.specs.SettledComputed.{arrives_by};
-ghost use Rattle.next_tables.specs.OrderComputed.{entered_of, flag, is_differing, leads_in, may_change_by};
-ghost use Rattle.next_tables.specs.OrderComputed.{entries_by, entry_by, enters, going_up_of, ordered_of, tried_by};
-ghost use Rattle.next_tables.specs.OrderComputed.{tried_of, turns_well_by};
+ghost use Rattle.next_tables.specs.SettledEntries.{arrives_by};
+ghost use Rattle.next_tables.specs.OrderedEntries.{entered_of, flag, is_differing, leads_in, may_change_by};
+ghost use Rattle.next_tables.specs.OrderedEntries.{entries_by, entry_by, enters, going_up_of, ordered_of, tried_by};
+ghost use Rattle.next_tables.specs.OrderedEntries.{tried_of, turns_well_by};
 
 use crate::held_arrivals::{arrives_by, delivered, flag, hops, leads_in};
-use crate::up_down::{is_down, is_up};
+use crate::switch_positions::{is_down, is_up};
 use packet_walks::ends_by_switch::ends;
 use packet_walks::{NextHop, SwitchStep};
 use std::alloc::{AllocError, Global};
@@ -20,15 +20,16 @@ use subnet_view::EndPort;
 struct SwitchFlags {
     /// For each switch, whether the held tables deliver the packet from there.
     delivered: Vec<bool>,
-    /// For each switch, whether it sends the packet up by a held entry that is not the goal's.
+    /// For each switch, whether it sends the packet up according to a held entry that is not the goal's.
     going_up: Vec<bool>,
-    /// For each switch, whether some switch sends the packet down to it by a held entry that is not the goal's.
+    /// For each switch, whether some switch sends the packet down to it according to a held entry that is not the
+    /// goal's.
     entered: Vec<bool>,
 }
 
 /// Returns the next entries of the switches towards `port`. `positions` has each switch's position, and `held` and
-/// `goal` have what each switch does by the held tables and by the goal's. Takes time linear in the number of switches,
-/// times the logarithm of the longest walk's length.
+/// `goal` have what each switch does under the held tables and under the goal's. Takes time linear in the number of
+/// switches, times the logarithm of the longest walk's length.
 pub(crate) fn ordered_entries(
     alloc: Global,
     port: &EndPort,
@@ -50,7 +51,7 @@ pub(crate) fn ordered_entries(
     entries_by(alloc, port, &tried)
 }
 
-/// Returns, for each switch, whether it sends the packet up by a held entry that is not the goal's.
+/// Returns, for each switch, whether it sends the packet up according to a held entry that is not the goal's.
 fn going_up(
     alloc: Global,
     positions: &[usize],
@@ -84,7 +85,8 @@ fn goes_up(positions: &[usize], index: usize, hop: &NextHop) -> bool
     }
 }
 
-/// Returns, for each switch, whether some switch sends the packet down to it by a held entry that is not the goal's.
+/// Returns, for each switch, whether some switch sends the packet down to it according to a held entry that is not
+/// the goal's.
 fn entered(
     alloc: Global,
     positions: &[usize],
@@ -107,8 +109,8 @@ fn none_entered(alloc: Global, count: usize) -> Result<Vec<bool>, AllocError>
     vec![in alloc; false; count]
 }
 
-/// Sets the flag in `entered` of the switch to which the switch at `index` sends the packet down by a held entry that
-/// is not the goal's. Does nothing if there is no such switch or no such flag.
+/// Sets the flag in `entered` of the switch to which the switch at `index` sends the packet down according to a held
+/// entry that is not the goal's. Does nothing if there is no such switch or no such flag.
 fn enter(
     entered: &mut [bool],
     positions: &[usize],

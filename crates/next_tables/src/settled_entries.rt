@@ -1,8 +1,8 @@
 //! The next entries of the switches for a LID that one end port alone holds, both in the held tables and in the plan.
 ghost use Rattle.std.specs.Prelude.{◌≡◌, ◌↔◌, IfOk, IsTrue};
 ghost use Rattle.packet_walks.specs.EndsBySwitch.{HaveEnded};
-ghost use Rattle.next_tables.specs.SettledComputed.{agreed_by, agreed_of, arrives_by, chosen_by, hops_of, mending_by};
-ghost use Rattle.next_tables.specs.SettledComputed.{mending_of, is_whole, next_by, next_of, patch_by, patch_entry_by};
+ghost use Rattle.next_tables.specs.SettledEntries.{agreed_by, agreed_of, arrives_by, chosen_by, hops_of, mending_by};
+ghost use Rattle.next_tables.specs.SettledEntries.{mending_of, is_whole, next_by, next_of, patch_by, patch_entry_by};
 
 use crate::held_arrivals::{arrives_by, hops};
 use packet_walks::ends_by_switch::{ends, is_to};
@@ -10,9 +10,9 @@ use packet_walks::{Cause, End, NextHop, SwitchStep};
 use std::alloc::{AllocError, Global};
 use subnet_view::EndPort;
 
-/// Returns the next entries of the switches for a LID of `port`. `held` and `plan` have what each switch does by the
-/// held tables and by the plan. Takes time linear in the number of switches, times the logarithm of the longest walk's
-/// length.
+/// Returns the next entries of the switches for a LID of `port`. `held` and `plan` have what each switch does under
+/// the held tables and under the plan. Takes time linear in the number of switches, times the logarithm of the
+/// longest walk's length.
 pub(crate) fn next_entries(
     alloc: Global,
     port: &EndPort,
@@ -33,7 +33,7 @@ pub(crate) fn next_entries(
 }
 
 /// Returns the next entries of the switches for a LID of `port`. `settled` must have the end of the walk from each
-/// switch by entries that are equal in both tables, and `delivered` the end of the walk by the held tables.
+/// switch along entries that are equal in both tables, and `delivered` the end of the walk under the held tables.
 fn entries_by(
     alloc: Global,
     port: &EndPort,
@@ -54,7 +54,7 @@ fn entries_by(
     chosen(alloc, port, settled, delivered, &mended, held, plan)
 }
 
-/// Returns whether `hops` are the next hops of `steps`, in order.
+/// Returns whether `hops` are the next hops of `steps`, in the order of `steps`.
 fn are_hops_of(hops: &[NextHop], steps: &[SwitchStep]) -> bool
     ensures { IsTrue result ↔ (hops.now ≡ hops_of steps.now) }
 {
@@ -103,8 +103,9 @@ fn agreed_by(held: &SwitchStep, plan: &SwitchStep) -> NextHop
     }
 }
 
-/// Returns whether, from each switch, the packet arrives at `port` by the plan's next hop and then by `settled`, or by
-/// the held next hop and then by `delivered`.
+/// Returns whether nothing needs mending: from each switch, the plan's hop or the held hop leads to `port`. After the
+/// plan's hop, the walk goes on as `settled` says, and after the held hop as `delivered` says. Each of the two has the
+/// end of the walk from each switch.
 fn is_whole(
     port: &EndPort,
     settled: &[NextHop],
@@ -119,8 +120,8 @@ fn is_whole(
         || arrives_by(port, delivered, held.hop))
 }
 
-/// Returns the next hop of each switch while mending. `delivered` has the end of the walk from each switch by the held
-/// tables.
+/// Returns the next hop of each switch while mending. `delivered` has the end of the walk from each switch under the
+/// held tables.
 fn mending(
     alloc: Global,
     port: &EndPort,
@@ -139,7 +140,7 @@ fn mending(
 
 /// Returns the next hop of a switch while mending: delivery at `port` if the held tables deliver from the switch,
 /// otherwise the held hop if it leads to a switch, otherwise the plan's hop. `delivered` has the end of the walk from
-/// each switch by the held tables.
+/// each switch under the held tables.
 fn mending_by(
     port: &EndPort,
     delivered: &[NextHop],
@@ -174,7 +175,7 @@ fn patch_entry_by(held: &SwitchStep, plan: &SwitchStep) -> u8
 }
 
 /// Returns the next entry of each switch. `settled`, `delivered` and `mended` have the end of the walk from each
-/// switch: by entries that are equal in both tables, by the held tables, and while mending.
+/// switch: along entries that are equal in both tables, under the held tables, and while mending.
 fn chosen(
     alloc: Global,
     port: &EndPort,
@@ -193,9 +194,9 @@ fn chosen(
         .collect(alloc)
 }
 
-/// Returns the next entry of a switch, the first of these that applies: the plan's entry if the plan's hop arrives by
-/// `settled`; the held entry if the held hop arrives by `delivered`; the entry while mending if the hop while mending
-/// arrives by `mended`; 255.
+/// Returns the next entry of a switch, the first of these that applies: the plan's entry if the plan's hop arrives
+/// according to `settled`; the held entry if the held hop arrives according to `delivered`; the entry while mending
+/// if the hop while mending arrives according to `mended`; 255.
 fn next_by(
     port: &EndPort,
     settled: &[NextHop],

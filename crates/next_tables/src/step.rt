@@ -6,16 +6,17 @@ ghost use Rattle.next_tables.specs.NextTables.{first_moved, is_memory, moves, ne
 
 use crate::assembly::{most_blocks, tables_with};
 use crate::entries_by_lid::columns;
-use crate::fault::StepFault;
+use crate::step_fault::StepFault;
 use crate::step_rule::StepRule;
 use held_tables::{Held, HeldLid};
 use packet_walks::Network;
 use smp_bytes::Lid;
 use std::alloc::{AllocError, Global};
 
-/// Returns the tables to write next by `rule`, from the held tables towards a plan's. `held` and `plan` must have the
-/// same facts. The tables have the plan's LIDs. For each usable switch they have the greater of its tops in `held` and
-/// `plan`, and its next entries up to the block of that top.
+/// Returns the tables to write next by `rule`, from the tables of `held` towards those of `plan`. `held` and `plan`
+/// must have the same facts. The returned tables have the plan's LIDs and, for each usable switch, the greater of the
+/// switch's tops in `held` and `plan`, and the switch's next entries up to the block of that top. Returns `Moves`
+/// with the first LID that moves, if one does. Otherwise returns `Memory` if memory is refused.
 pub fn next_tables(
     alloc: Global,
     rule: &StepRule,

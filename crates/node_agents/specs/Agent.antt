@@ -9,9 +9,9 @@ use Rattle.attr_codec.specs.declared.port_state.PortState.TheVariants.{NoChange,
 use Rattle.node_agents.specs.declared.agent_node.AgentNode.{AgentNode}
 use Rattle.node_agents.specs.declared.port.Port.{Port}
 
--- what an agent keeps: `node` is its node, as it was built, and `ports` has its ports from port 0 on. `table` is its
--- forwarding table in whole blocks of 64 entries, and empty at an adapter. `top` is the greatest LID that the node
--- forwards
+-- what an agent keeps: `node` is its node, as it was built, and `ports` has its ports, starting at port 0. `table` is
+-- its forwarding table in whole blocks of 64 entries, and empty at an adapter. `top` is the greatest LID that the
+-- node forwards
 pub record Agent : Type 0 where
   pub node : AgentNode
   pub ports : List Port
@@ -125,15 +125,16 @@ pub record IsAgentNode (node : AgentNode) : Type 0 where
   pub no_table : types.is_switch node.kind ≡ false → node.cap ≡ 0
   pub port_guids : types.is_switch node.kind ≡ false → node.guid + node.ports < 2 ^ 64
 
--- what holds of each port of an agent whose node has the type `kind`. The state of the port is not "no change", and its
+-- `port` can be a port of an agent whose node has the type `kind`. The state of the port is not "no change", and its
 -- LID is below the end of the unicast LIDs. No subnet manager sits at a port of a switch
 pub record IsPort (kind : NodeType) (port : Port) : Type 0 where
   pub state : port.state ≢ NoChange
   pub base_lid : port.base_lid < lid_end
   pub is_sm : types.is_switch kind ≡ true → port.is_sm ≡ false
 
--- what holds of each agent: its node can be built, and has a description of 64 bytes. The agent has the node's ports
--- and port 0, which is Active at a switch. Its table has whole blocks, and its top is 0 or below the table size
+-- `a` satisfies the invariant of agents. Its node can be built, and has a description of 64 bytes. The agent has the
+-- node's ports and port 0, which is Active at a switch. Its table has whole blocks, and its top is 0 or below the
+-- table size
 pub record IsAgent (a : Agent) : Type 0 where
   pub node : IsAgentNode a.node
   pub description : length a.node.description ≡ 64

@@ -42,8 +42,9 @@ pub record IsPacket (packet : List ℕ) : Type 0 where
   pub count : length packet ≡ 256
   pub parses : fault_of packet ≡ None
 
--- the answer of an agent is a packet with the method GetResp, and with the status and the attribute that the agent
--- gives. The D bit is set if the request is directed. All else is as in the request
+-- if `packet` has no fault (`IsPacket`), an agent's answer to it is a packet with the method GetResp, and with the
+-- status and the attribute that the agent gives. The D bit is set if the request is directed. All else is as in the
+-- request
 abbrev pub AnswersHold : Type 0
 AnswersHold =
     (a : Agent) (packet : List ℕ) (arrival : ℕ) → IsAgent a → IsPacket packet
@@ -112,8 +113,8 @@ pub record IsAboutTheSame (p q : List ℕ) : Type 0 where
   pub attribute : number_in attribute_id p ≡ number_in attribute_id q
   pub modifier : number_in attribute_modifier p ≡ number_in attribute_modifier q
 
--- if a Set was accepted, a Get right after it returns what the answer to the Set returned. The Get has the attribute
--- and the modifier of the Set, and both arrived at the port `arrival`
+-- if a Set is accepted, a Get right after it that has the attribute and the modifier of the Set, and arrives at the
+-- same port, returns what the answer to the Set returned
 abbrev pub GetsTellAsSets : Type 0
 GetsTellAsSets =
     (a : Agent) (p q : List ℕ) (arrival number : ℕ) → IsTaken a p arrival number → IsPacket q → number_in method q ≡ get
@@ -138,9 +139,10 @@ TopsAreSet =
     → SetsTop a (after_answer a packet arrival).agent (bytes_in attribute_data packet)
     (bytes_in attribute_data (after_answer a packet arrival).packet)
 
--- an accepted Set of PortInfo sets the LID and the LMC of the port that it is about, if this port has a LID of its
--- own. The answer returns this LID and LMC, and the state in the Set unless that is 0 (no change). No other port
--- changes, and nothing in the agent changes except its ports. The request arrived at port 0 or a port of the node
+-- suppose a Set of PortInfo arrived at port 0 or a port of the node, and is accepted. If the port that the Set is
+-- about has a LID of its own, this port has the LID and the LMC of the Set, and the answer returns them. The answer
+-- also returns the state in the Set, unless that is 0 (no change). No other port changes, and nothing in the agent
+-- changes except its ports
 abbrev pub PortsAreSet : Type 0
 PortsAreSet =
     (a : Agent) (packet : List ℕ) (arrival port : ℕ) → arrival ≤ a.node.ports → IsTaken a packet arrival port_info
@@ -150,9 +152,9 @@ PortsAreSet =
 
 -- from outside ------------------------------------------------------------------------------
 
--- a fresh agent satisfies the invariant of agents (`IsAgent`) if its node can be built and has a description of 64
--- bytes. An agent keeps this invariant if a port from 1 on is wired or unwired, or a subnet manager is seated at a
--- port of an adapter
+-- if a node can be built and has a description of 64 bytes, the fresh agent of this node satisfies the invariant of
+-- agents (`IsAgent`). An agent keeps this invariant if a port other than port 0 is wired or unwired, or if a subnet
+-- manager is seated at a port of an adapter
 pub record AgentsAreMade : Type 0 where
   pub fresh : (node : AgentNode) → IsAgentNode node → length node.description ≡ 64 → IsAgent (fresh_agent node)
   pub wired : (a : Agent) (port : ℕ) (is_wired : Bool) → IsAgent a → 1 ≤ port

@@ -17,10 +17,10 @@ use std::marker::Model;
 #[derive(Drop)]
 pub struct Agent {
     pub(crate) node: AgentNode,
-    /// The ports, from port 0 on; an adapter's port 0 is not used.
+    /// The ports, starting at port 0; an adapter's port 0 is not used.
     pub(crate) ports: Vec<Port>,
-    /// The forwarding table, in whole blocks: for each LID the outgoing port, or 255 if it has none. An adapter's
-    /// table is empty.
+    /// The forwarding table, in whole blocks: for each LID the outgoing port, or 255 if the LID has none. An
+    /// adapter's table is empty.
     pub(crate) table: Vec<u8>,
     /// The greatest LID that a switch forwards; 0 if none was set.
     pub(crate) top: Lid,
@@ -140,8 +140,8 @@ impl Agent {
         self.port(port).base_lid
     }
 
-    /// Returns the LMC of `port`, or 0 if none was set or the node has no such port. A port with a LID has 2^LMC
-    /// LIDs, from its base LID on.
+    /// Returns the LMC of `port`, or 0 if none was set or the node has no such port. A port with a LID has the 2^LMC
+    /// LIDs that start at its base LID.
     pub fn lmc(&self, port: PortNum) -> Lmc
         ensures { result ≡ lmc_at self.now port }
     {

@@ -4,8 +4,8 @@ ghost use Rattle.node_agents.specs.AnswerLaws.{AnswersSay, GetsChangeNothing, Re
 ghost use Rattle.node_agents.specs.AnswerLaws.{GetsTellAsSets, BlocksAreSet, TopsAreSet, PortsAreSet};
 
 /// If a node can be built and has a description of 64 bytes, the agent that is made for it satisfies the invariant of
-/// agents (`IsAgent`). An agent keeps this invariant if a port from 1 on is wired or unwired, or if a subnet manager
-/// is seated at an adapter's port.
+/// agents (`IsAgent`). An agent keeps this invariant if a port other than port 0 is wired or unwired, or if a subnet
+/// manager is seated at an adapter's port.
 #[tactic(auto, using(crate::proofs::Made::agents_are_made))]
 pub fn agents_are_made()
     ensures { AgentsAreMade }

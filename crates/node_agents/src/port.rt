@@ -8,7 +8,7 @@ use smp_bytes::Lid;
 pub struct Port {
     /// The base LID of the port, or 0 if it has none.
     pub(crate) base_lid: Lid,
-    /// The LMC: a port with a LID has 2^LMC LIDs, from its base LID on.
+    /// The LMC: a port with a LID has the 2^LMC LIDs that start at its base LID.
     pub(crate) lmc: Lmc,
     /// The LID that was set at the port as the subnet manager's, or 0 if none was set.
     pub(crate) master_sm_lid: Lid,

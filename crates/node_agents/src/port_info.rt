@@ -77,7 +77,8 @@ fn port_meant(agent: &Agent, modifier: u32, arrival: PortNum) -> Option<PortNum>
     }
 }
 
-/// Returns the PortInfo of `port`, for a request that arrived at the port `arrival`.
+/// Returns the PortInfo of `port` for the answer to a request that arrived at the port `arrival`. The fields that an
+/// agent does not keep are 0.
 fn info_of(port: Port, arrival: PortNum) -> [u8; 64]
     ensures { result ≡ port_info_of port arrival }
 {
@@ -117,8 +118,8 @@ fn are_lids_taken(max_lmc: u8, info: &PortInfo) -> bool
     lmc.number() <= max_lmc && may_have(info.base_lid(), lmc)
 }
 
-/// Returns whether a port may have the LID `base` with `lmc`. It may if `base` is 0, which stands for none, or if
-/// `base` is a multiple of 2^LMC and there are 2^LMC unicast LIDs from `base` on.
+/// Returns whether a port may have the LID `base` with `lmc`: `base` is 0, which stands for no LID, or `base` is a
+/// multiple of 2^LMC and the 2^LMC LIDs that start at `base` are all unicast.
 fn may_have(base: Lid, lmc: Lmc) -> bool
     ensures { result ≡ may_have base lmc }
 {

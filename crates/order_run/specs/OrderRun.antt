@@ -12,24 +12,25 @@ use Rattle.sm_cli.specs.OrderText.{order_text}
 use Rattle.sm_cli.specs.InputTables.{AreNoTablesAndFiles, AreTablesAndFiles}
 use Rattle.sm_cli.specs.declared.fault.Fault.{Fault}
 use Rattle.sm_cli.specs.declared.input_tables.TablesAndFacts.{TablesAndFacts}
-use Rattle.audit_report.specs.RunAudit.{IsAnswerFault}
+use Rattle.audit_report.specs.AuditRun.{IsAnswerFault}
 
--- the GUIDs of the switches of an order, from the first switch on; `taken` has their indices, the last switch first.
--- Empty for None, which means that there is no order
+-- the GUIDs of the switches of an order, the first switch first; `taken` has the indices of the switches, the last
+-- switch first. Empty for None, which means that there is no order
 abbrev pub told_switches : Cells → Option (List ℕ) → List ℕ
 told_switches cells None = []
 told_switches cells (Some taken) = map (switch_at cells) (reverse taken)
 
--- `prints` holds of the order that the tables imply, and `has_order` says whether they imply one. Switches are taken
--- from the end of the order on; if several may be taken next, the one with the greatest GUID is taken
+-- the order that the tables imply, or nothing if they imply none, is printed, as `prints` says. `has_order` says
+-- whether the tables imply an order. Switches are taken one by one, the last of the order first; if several may be
+-- taken next, the one with the greatest GUID is taken
 pub record IsOrderAnswer (facts : Facts) (held : HeldPlan) (prints : List ℕ → Type 0) (has_order : Bool) : Type 0 where
   pub order : Option (List ℕ)
   pub told : IsImpliedOrder (cells_of facts) held (range_with_len 0 (length (switches (cells_of facts)))) order
   pub written : prints (order_text (told_switches (cells_of facts) order))
   pub judged : has_order ≡ is_some order
 
--- the tables and then the files were read, and `prints` holds of the order that the tables imply; `has_order` says
--- whether they imply one
+-- the tables and then the files were read. The order that the tables imply, or nothing if they imply none, is
+-- printed, as `prints` says. `has_order` says whether the tables imply an order
 pub record HasPrintedOrder {S : Type 0} (state : S → SourceState) (floor : ℕ) (olds news : List S)
     (prints : List ℕ → Type 0) (has_order : Bool) : Type 0 where
   pub read_are : TablesAndFacts
@@ -43,7 +44,7 @@ pub record FailsToTell {S : Type 0} (state : S → SourceState) (floor : ℕ) (o
   pub read : AreTablesAndFiles state floor olds news read_are
   pub why : IsAnswerFault sink_failed fault
 
--- a run over open inputs ends with `fault`: the inputs are not read, or the order is not written
+-- a run on open inputs ends with `fault`: the inputs are not read, or the order is not written
 abbrev pub IsOrderFault : {S : Type 0} → (S → SourceState) → ℕ → List S → List S → Bool → Fault → Type 0
 IsOrderFault state floor olds news sink_failed fault =
     AreNoTablesAndFiles state 0 olds news fault ⊎ FailsToTell state floor olds news sink_failed fault

@@ -5,7 +5,7 @@ ghost use Rattle.std.specs.Io.KnownBytes.{Appends};
 ghost use Rattle.std.specs.Option.{option_map};
 ghost use Rattle.fact_store.specs.View.{cells_of};
 ghost use Rattle.subnet_view.specs.Reading.{switches};
-ghost use Rattle.audit_report.specs.RunAudit.{IsAnswerFault};
+ghost use Rattle.audit_report.specs.AuditRun.{IsAnswerFault};
 ghost use Rattle.next_tables.specs.SwitchPositions.{switch_at};
 ghost use Rattle.told_order.specs.ToldOrder.{IsImpliedOrder};
 ghost use Rattle.order_run.specs.OrderRun.{HasPrintedOrder, IsOrderFault, IsOrderAnswer, told_switches};
@@ -19,9 +19,10 @@ use smp_bytes::{Generation, Guid};
 use std::alloc::{AllocError, Global};
 use told_order::told_order;
 
-/// Reads the tables from the first input, and then the files in order. There must be at least one input. Writes the
-/// usable switches in an order by which these tables send no packet for any LID down and then up, and flushes. Each
-/// switch has a line with `0x` and its GUID. Writes nothing if no such order exists. Returns whether one exists.
+/// Reads the tables from the first input, and then the files from the other inputs, one after the other. There must
+/// be at least one input. Returns whether there is an order of the usable switches according to which these tables
+/// send no packet for any LID down and then up. If so, writes such an order, with a line for each switch, `0x` and
+/// its GUID, and flushes. Otherwise writes nothing.
 ///
 /// # Errors
 ///
@@ -85,15 +86,15 @@ fn order_of(alloc: Global, network: &Network) -> Result<Option<Vec<usize>>, Allo
     told_order(alloc, network, &indices)
 }
 
-/// Returns the first `count` numbers, from 0 on.
+/// Returns the first `count` numbers, the first of which is 0.
 fn indices(alloc: Global, count: usize) -> Result<Vec<usize>, AllocError>
     ensures { IfOk result (λ indices. indices.items ≡ range_with_len 0 count) }
 {
     (0..count).collect(alloc)
 }
 
-/// Returns the GUIDs of the switches of `order` from the first one on, or an empty list if `order` is `None`. `order`
-/// has the indices of the switches, the last switch first.
+/// Returns the GUIDs of the switches of `order`, the first switch first, or an empty list if `order` is `None`.
+/// `order` has the indices of the switches, the last switch first.
 fn told_switches(
     alloc: Global,
     network: &Network,

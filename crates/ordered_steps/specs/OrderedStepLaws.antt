@@ -23,9 +23,9 @@ use Rattle.next_tables.specs.NextTables.{IsKept, by_order, next_tables, ordered_
 use Rattle.next_tables.specs.OrderRule.{IsChoice, IsNextByOrder, IsTriedByOrder, numbers_by}
 use Rattle.next_tables.specs.SwitchPositions.{IsOrder, AreApart, IsWired, Leads, is_up, switch_at, TurnsWell, AreRight, position_at}
 
--- no packet for `lid` goes down and then up, whatever the mixture is when the packet reaches a switch and whatever it
--- is when the packet leaves, if two conditions hold: the held tables and the goal are right by the order for `lid`; and
--- `next` is a choice between them
+-- if the held tables and the goal are right by the order for `lid`, and `next` is a choice between them, no packet
+-- for `lid` goes down and then up, whatever the mixture is when the packet reaches a switch and whatever the mixture
+-- is when the packet leaves the switch
 abbrev pub NoBadTurn : Type 0
 NoBadTurn =
     (cells : Cells) (q : ℕ → ℕ) (held goal next : HeldPlan) (lid : ℕ) → AreRight cells q held lid
@@ -40,7 +40,7 @@ NextAreRight =
     (cells : Cells) (q : ℕ → ℕ) (held goal next : HeldPlan) (lid : ℕ) → AreRight cells q held lid
     → AreRight cells q goal lid → IsChoice cells q held goal lid next → AreRight cells q next lid
 
--- `q` is an order, the held tables and the goal are right by it for every LID, and `next` is a choice between them
+-- `q` is an order, the held tables and the goal are right by `q` for every LID, and `next` is a choice between them
 pub record IsStep (cells : Cells) (q : ℕ → ℕ) (held goal next : HeldPlan) : Type 0 where
   pub order : IsOrder cells q
   pub held_right : (lid : ℕ) → 1 ≤ lid → AreRight cells q held lid
@@ -66,15 +66,15 @@ RuleIsChoice =
     (cells : Cells) (q : ℕ → ℕ) (held goal next : HeldPlan) (line : HeldLid) → IsNextByOrder cells q held goal line next
     → IsChoice cells q held goal line.lid next
 
--- the next entries by the order are the tried entries or, at a switch from which the packet does not arrive by these,
--- 255
+-- the next entries by the order are the tried entries or, at a switch from which the packet does not arrive along
+-- these, 255
 abbrev pub RuleIsTried : Type 0
 RuleIsTried =
     (cells : Cells) (q : ℕ → ℕ) (held goal next : HeldPlan) (line : HeldLid) → IsNextByOrder cells q held goal line next
     → IsTriedByOrder cells q held goal line next
 
 -- for the LID of `line`, the held tables and the goal are right by the order `q` and have the same owners. The next
--- entries are the tried ones; at a switch from which the packet does not arrive by these, 255 is possible too
+-- entries are the tried ones; at a switch from which the packet does not arrive along these, 255 is possible too
 pub record IsLineStep (cells : Cells) (q : ℕ → ℕ) (held goal : HeldPlan) (line : HeldLid) (next : HeldPlan) : Type 0
   where
     pub order : IsOrder cells q
@@ -84,7 +84,8 @@ pub record IsLineStep (cells : Cells) (q : ℕ → ℕ) (held goal : HeldPlan) (
     pub is_next : IsTriedByOrder cells q held goal line next
 
 -- in a step of a line by an order (`IsLineStep`), a packet that the held tables deliver at the end port is delivered
--- there by any loose mixtures of the held and the next tables, even if the mixture changes while the packet travels
+-- there under any loose mixtures of the held and the next tables, even if the mixture changes while the packet
+-- travels
 abbrev pub NoneIsLostByOrder : Type 0
 NoneIsLostByOrder =
     (cells : Cells) (q : ℕ → ℕ) (held goal next : HeldPlan) (line : HeldLid) → IsLineStep cells q held goal line next
@@ -96,10 +97,10 @@ NoneIsLostByOrder =
 abbrev pub DeliverFrom : Cells → HeldPlan → HeldLid → ℕ → Type 0
 DeliverFrom cells tables line i = IsEndOf (next_hops_of cells tables line.lid) (To i) (Some (Taken line.port))
 
--- `tables n` are the tables for the LID of `line` after n steps by the order `q` towards a goal. Two different switches
--- that a wire joins never have equal positions. The first tables and the goal are right by the order, and have the same
--- owners of the LID. If a switch forwards packets by the first tables to a switch from which the goal delivers, the
--- goal delivers from the former switch too
+-- `tables n` are the tables for the LID of `line` after n steps by the order `q` towards a goal. Two different
+-- switches that a wire joins never have equal positions. The first tables and the goal are right by the order, and
+-- have the same owners of the LID. If a switch forwards packets under the first tables to a switch from which the
+-- goal delivers, the goal delivers from the former switch too
 pub record AreStepsByOrder (cells : Cells) (q : ℕ → ℕ) (goal : HeldPlan) (line : HeldLid) (tables : ℕ → HeldPlan)
     : Type 0 where
   pub order : IsOrder cells q
@@ -111,17 +112,17 @@ pub record AreStepsByOrder (cells : Cells) (q : ℕ → ℕ) (goal : HeldPlan) (
       → DeliverFrom cells goal line i
   pub steps : (n : ℕ) → IsTriedByOrder cells q (tables n) goal line (tables (suc n))
 
--- `depth` bounds the number of steps after which a switch has the goal's entry. It is at least 1, and greater than the
--- depth of the next switch by the goal, if the goal delivers from there. If the goal's entry leads up, it is also
--- greater than the depth of each earlier switch with a wire to this one from which the goal delivers
+-- `depth` bounds the number of steps after which a switch has the goal's entry. It is at least 1, and greater than
+-- the depth of the next switch under the goal, if the goal delivers from there. If the goal's entry leads up, it is
+-- also greater than the depth of each earlier switch with a wire to this one from which the goal delivers
 pub record IsDepth (cells : Cells) (q : ℕ → ℕ) (goal : HeldPlan) (line : HeldLid) (depth : ℕ → ℕ) : Type 0 where
   pub first : (i : ℕ) → 1 ≤ depth i
   pub next : (i j : ℕ) → Leads cells goal line.lid i j → DeliverFrom cells goal line j → depth j < depth i
   pub earlier : (i j x : ℕ) → Leads cells goal line.lid i j → is_up q i j ≡ true → x < length (switches cells)
       → DeliverFrom cells goal line x → q x < q i → IsWired cells x i → depth x < depth i
 
--- in steps by an order, a switch from which the goal delivers has the goal's entry after as many steps as its depth or
--- more, and the tables then deliver from this switch
+-- in steps by an order, a switch from which the goal delivers has the goal's entry after at least as many steps as
+-- the switch's depth (`IsDepth`), and the tables then deliver from this switch
 abbrev pub EndInTheGoal : Type 0
 EndInTheGoal =
     (cells : Cells) (q : ℕ → ℕ) (goal : HeldPlan) (line : HeldLid) (tables : ℕ → HeldPlan)
@@ -130,8 +131,8 @@ EndInTheGoal =
     → (i g m : ℕ) → slice_get (switches cells) i ≡ Some g → DeliverFrom cells goal line i → depth i ≤ m
     → (entry_for (tables m) line.lid g ≡ entry_for goal line.lid g) × DeliverFrom cells (tables m) line i
 
--- in steps by an order, a switch from which the goal delivers has the goal's entry after 2n or more steps, for n
--- switches, and the tables then deliver from this switch
+-- in steps by an order, a switch from which the goal delivers has the goal's entry after 2n or more steps, where n is
+-- the number of switches, and the tables then deliver from this switch
 abbrev pub EndInTwiceAsMany : Type 0
 EndInTwiceAsMany =
     (cells : Cells) (q : ℕ → ℕ) (goal : HeldPlan) (line : HeldLid) (tables : ℕ → HeldPlan)
@@ -140,7 +141,8 @@ EndInTwiceAsMany =
     → 2 * length (switches cells) ≤ m
     → (entry_for (tables m) line.lid g ≡ entry_for goal line.lid g) × DeliverFrom cells (tables m) line i
 
--- in steps by an order, each packet that arrives by the goal arrives after 2n or more steps, for n switches
+-- in steps by an order, each packet that arrives under the goal arrives after 2n or more steps, where n is the number
+-- of switches
 abbrev pub HealByOrder : Type 0
 HealByOrder =
     (cells : Cells) (q : ℕ → ℕ) (goal : HeldPlan) (line : HeldLid) (tables : ℕ → HeldPlan)
@@ -149,9 +151,9 @@ HealByOrder =
     → (m : ℕ) → 2 * length (switches cells) ≤ m
     → IsBrought cells (tables m) line.lid source (Some (Taken line.port))
 
--- in steps by an order, each of which takes exactly the next entries, the tables after 2n or more steps, for n
--- switches, and at least one step, are right by each order by which the goal is right. The condition is that the goal
--- delivers from each switch that sends packets straight to the end port by the first tables
+-- suppose each step by an order takes exactly the next entries, and the goal delivers from each switch from which the
+-- first tables send packets straight to the end port. Then the tables after 2n or more steps (at least one), where n
+-- is the number of switches, are right by each order by which the goal is right
 abbrev pub EndRightByAny : Type 0
 EndRightByAny =
     (cells : Cells) (q : ℕ → ℕ) (goal : HeldPlan) (line : HeldLid) (tables : ℕ → HeldPlan)
@@ -162,9 +164,8 @@ EndRightByAny =
     → (other : ℕ → ℕ) → AreRight cells other goal line.lid
     → (m : ℕ) → 1 ≤ m → 2 * length (switches cells) ≤ m → AreRight cells other (tables m) line.lid
 
--- a packet for `lid`, wherever it is sent, ends by any mixtures of the held and the next tables, and does not loop
--- forever, if two conditions hold: the held tables and the goal are right by the order for `lid`; and `next` is a
--- choice between them
+-- if the held tables and the goal are right by the order for `lid`, and `next` is a choice between them, a packet for
+-- `lid`, wherever it is sent, ends under any mixtures of the held and the next tables, and does not loop forever
 abbrev pub AllEndByOrder : Type 0
 AllEndByOrder =
     (cells : Cells) (q : ℕ → ℕ) (held goal next : HeldPlan) (lid : ℕ) → IsOrder cells q → AreRight cells q held lid
@@ -172,8 +173,8 @@ AllEndByOrder =
     → (mixed : ℕ → HeldPlan) → ((k : ℕ) → IsMixed cells held next lid (mixed k))
     → (source : EndPort) → (last : End) × IsBroughtBy cells mixed lid source last
 
--- after a step by an order, for a LID with the same owners in the held tables and in the goal, each switch delivers the
--- packet by the next tables or has the entry 255
+-- if a LID has the same owners in the held tables and in the goal, each switch delivers a packet for the LID under
+-- the next tables of a step by an order, or has the entry 255
 abbrev pub NextDeliverOrDropByOrder : Type 0
 NextDeliverOrDropByOrder =
     (cells : Cells) (q : ℕ → ℕ) (held goal next : HeldPlan) (line : HeldLid)
@@ -203,10 +204,11 @@ AllFollowTheRule =
     (cells : Cells) (q : ℕ → ℕ) (held goal next : HeldPlan) (line : HeldLid) → AreNextByOrder cells q held goal next
     → IsKept held goal line → IsNextByOrder cells q held goal line next
 
--- in a step of a line by an order (`IsLineStep`), while switches change to the next tables, each at its own time, a
--- packet that the held tables deliver is delivered over at most 2n + 1 wires, for n usable switches. Its sender is an
--- end port that is joined to the end port `origin`. Premises: the LID is not 0; the facts describe all that is joined
--- to `origin`; and at first the end ports and switches there hold the tables
+-- suppose the facts describe all that is joined to the end port `origin`, at first the end ports and switches there
+-- hold the tables, and the LID of `line` is not 0. Then in a step of a line by an order (`IsLineStep`), while
+-- switches change to the next tables, each at its own time, a packet that an end port there sends and that the held
+-- tables deliver at the port of `line` is delivered there along at most 2n + 1 wires, where n is the number of usable
+-- switches
 abbrev pub PacketsArriveByOrder : Type 0
 PacketsArriveByOrder =
     (facts : Facts) (q : ℕ → ℕ) (held goal next : HeldPlan) (line : HeldLid) (before : Fabric) (origin : NodePort)

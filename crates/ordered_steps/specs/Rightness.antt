@@ -8,21 +8,21 @@ use Rattle.held_tables.specs.Held.{HeldPlan}
 use Rattle.packet_walks.specs.Edges.{edges_of, greatest_top}
 use Rattle.next_tables.specs.SwitchPositions.{AreRight, is_down, is_up}
 
--- by `edges`, packets leave the switch at index `j` on a channel up
+-- along `edges`, packets leave the switch at index `j` on a channel up
 abbrev pub leaves_up : (ℕ → ℕ) → List (Option Edge) → ℕ → Bool
 leaves_up q edges j = option_map_or (λ e. is_up q j e.to) (slice_index_or edges j None) false
 
--- by `edges`, no packet leaves the switch at index `i` on a channel down and then leaves the next switch on a channel
--- up
+-- along `edges`, no packet leaves the switch at index `i` on a channel down and then leaves the next switch on a
+-- channel up
 abbrev pub goes_well : (ℕ → ℕ) → List (Option Edge) → ℕ → Bool
 goes_well q edges i =
     option_map_or (λ e. not (is_down q i e.to && leaves_up q edges e.to)) (slice_index_or edges i None) true
 
--- by `edges`, no packet for the LID goes down and then up in the order `q`
+-- along `edges`, no packet for the LID goes down and then up in the order `q`
 abbrev pub is_right_column : (ℕ → ℕ) → List (Option Edge) → Bool
 is_right_column q edges = list_all (goes_well q edges) (range_with_len 0 (length edges))
 
--- by `tables`, no packet for a LID from 1 to the greatest top goes down and then up in the order `q`
+-- under `tables`, no packet for a LID from 1 to the greatest top goes down and then up in the order `q`
 abbrev pub are_right : Cells → (ℕ → ℕ) → HeldPlan → Bool
 are_right cells q tables =
     list_all (λ lid. is_right_column q (edges_of cells tables lid)) (range_with_len 1 (greatest_top cells tables))

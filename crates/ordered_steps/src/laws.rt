@@ -6,13 +6,13 @@ ghost use Rattle.ordered_steps.specs.Rightness.{RightnessIsTold};
 ghost use Rattle.ordered_steps.specs.OrderedStepLaws.{NumbersRiseByOrder, OrderedTablesAreNext, PacketsArriveByOrder};
 ghost use Rattle.ordered_steps.specs.OrderedStepLaws.{RuleIsChoice, RuleIsTried};
 
-/// No packet goes down and then up again, by any mixtures of the held and the next tables, if the held tables and the
-/// goal are right by the order.
+/// If the held tables and the goal are right by the order, no packet goes down and then up again under any mixtures
+/// of the held and the next tables.
 pub fn no_bad_turn()
     ensures law { NoBadTurn }
 {}
 
-/// If the held tables and the goal are right by the order, the next tables are right by it too.
+/// If the held tables and the goal are right by the order, the next tables are right by this order, too.
 pub fn next_are_right()
     ensures law { NextAreRight }
 {}
@@ -35,58 +35,58 @@ pub fn rule_is_choice()
     ensures law { RuleIsChoice }
 {}
 
-/// By the rule of an order, each next entry is the tried one, or 255 if the packet does not arrive from the switch by
-/// the tried entries.
+/// By the rule of an order, each next entry is the tried one, or 255 if the packet does not arrive from the switch
+/// along the tried entries.
 pub fn rule_is_tried()
     ensures law { RuleIsTried }
 {}
 
-/// A packet that the held tables deliver is delivered at the same end port by any loose mixtures (`IsLoose`) of the
-/// held and the next tables, if the held tables and the goal are right by the order for its LID and have the same
-/// owners of the LID. The mixture may change while the packet travels.
+/// If the held tables and the goal are right by the order for a LID and have the same owners of the LID, a packet for
+/// the LID that the held tables deliver is delivered at the same end port under any loose mixtures (`IsLoose`) of the
+/// held and the next tables. The mixture may change while the packet travels.
 pub fn none_is_lost_by_order()
     ensures law { NoneIsLostByOrder }
 {}
 
-/// In steps by an order (`AreStepsByOrder`), a switch from which the goal delivers has the goal's entry after as many
-/// steps as its depth (`IsDepth`) or more, and the tables then deliver from it.
+/// In steps by an order (`AreStepsByOrder`), a switch from which the goal delivers has the goal's entry after at
+/// least as many steps as the switch's depth (`IsDepth`), and the tables then deliver from the switch.
 pub fn end_in_the_goal()
     ensures law { EndInTheGoal }
 {}
 
-/// In steps by an order (`AreStepsByOrder`), each switch from which the goal delivers has the goal's entry after 2n or
-/// more steps, for n switches, and the tables then deliver from it.
+/// In steps by an order (`AreStepsByOrder`), each switch from which the goal delivers has the goal's entry after 2n
+/// or more steps, where n is the number of switches, and the tables then deliver from the switch.
 pub fn end_in_twice_as_many()
     ensures law { EndInTwiceAsMany }
 {}
 
-/// In steps by an order (`AreStepsByOrder`), each packet that arrives by the goal arrives after 2n or more steps, for n
-/// switches.
+/// In steps by an order (`AreStepsByOrder`), each packet that arrives under the goal arrives after 2n or more steps,
+/// where n is the number of switches.
 pub fn heal_by_order()
     ensures law { HealByOrder }
 {}
 
-/// In steps by an order (`AreStepsByOrder`), each of which takes exactly the next entries, the tables after 2n or more
-/// steps, for n switches, and at least one step, are right by every order by which the goal is right, if the goal
-/// delivers from each switch that sends packets straight to the end port by the first tables.
+/// If steps by an order (`AreStepsByOrder`) take exactly the next entries, and the goal delivers from each switch
+/// from which the first tables send packets straight to the end port, then the tables after 2n or more steps (at
+/// least one), where n is the number of switches, are right by every order by which the goal is right.
 pub fn end_right_by_any()
     ensures law { EndRightByAny }
 {}
 
 /// If the held tables and the goal are right by the order for a LID, every packet for the LID, wherever it is sent,
-/// ends by any mixtures of the held and the next tables: none loops.
+/// ends under any mixtures of the held and the next tables: none loops.
 pub fn all_end_by_order()
     ensures law { AllEndByOrder }
 {}
 
-/// If a LID has the same owners in the held tables and in the goal, each switch delivers packets for the LID by the
-/// next tables or has no entry (255) for it.
+/// If a LID has the same owners in the held tables and in the goal, each switch delivers packets for the LID under
+/// the next tables or has no entry (255) for it.
 pub fn next_deliver_or_drop_by_order()
     ensures law { NextDeliverOrDropByOrder }
 {}
 
 /// If the held tables and the goal are right by the order for every LID, the next tables for all LIDs, including LIDs
-/// that are new or gone, are a step by the order (`IsStep`) and are right by it.
+/// that are new or gone, are a step by the order (`IsStep`) and are right by the order.
 pub fn all_are_step()
     ensures law { AllAreStep }
 {}
@@ -108,11 +108,12 @@ pub fn all_follow_the_rule()
     ensures law { AllFollowTheRule }
 {}
 
-/// A packet that the held tables deliver is delivered at the same end port while the fabric's switches change to the
-/// next tables, each at its own time, if three conditions hold: the held tables and the goal are right by the order for
-/// the packet's LID and have the same owners of the LID; the facts describe a part of the fabric; and the part holds
-/// the held tables when the change begins. The part is all that is joined to some end port, and one of its end ports
-/// sends the packet. The packet takes at most 2n + 1 wires, for n usable switches.
+/// A packet for a LID other than 0 that the held tables deliver is delivered at the same end port while the fabric's
+/// switches change to the next tables, each at its own time, if three conditions hold: the held tables and the goal are
+/// right by the order for the packet's LID and have the same owners of the LID; the facts describe a part of the
+/// fabric; and the part holds the held tables when the change begins. The part is all that is joined to some end port,
+/// and one of the part's end ports sends the packet. The packet takes at most 2n + 1 wires, where n is the number of
+/// usable switches.
 pub fn packets_arrive_by_order()
     ensures law { PacketsArriveByOrder }
 {}

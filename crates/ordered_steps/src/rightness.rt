@@ -11,7 +11,7 @@ use port_graph::Edge;
 use smp_bytes::Lid;
 use std::alloc::{AllocError, Global};
 
-/// Returns whether no packet, for any LID, goes down and then up again by the tables of `held`, in the order that
+/// Returns whether no packet, for any LID, goes down and then up again under the tables of `held`, in the order that
 /// `positions` gives. `positions` has the position of each usable switch, in ascending order of GUID. Takes the time
 /// of `LidCursor::go_to` and `LidCursor::edges` for each LID up to the greatest top.
 pub fn are_right(alloc: Global, held: &Network, positions: &[usize]) -> Result<bool, AllocError>

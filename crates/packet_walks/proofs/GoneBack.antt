@@ -13,7 +13,7 @@ use Rattle.packet_walks.specs.declared.lid_set.LidSet.{LidSet}
 use Rattle.packet_walks.specs.declared.next_hop.NextHop.{NextHop}
 use Rattle.packet_walks.specs.declared.next_hop.NextHop.TheVariants.{To, Ends}
 use Rattle.packet_walks.specs.BlockDeliveries.{AreSeen, ComeFromEach, Comes, IsWithExit, IsWithHop, arrived_if, arrived_more, back_by, back_over, back_times, from_each, in_each, lids_at}
-use Rattle.packet_walks.specs.LidSets.{both, either, has, no_lids, with_lid}
+use Rattle.packet_walks.specs.LidSet.{both, either, has, no_lids, with_lid}
 use Rattle.packet_walks.specs.HopsByTables.{is_at}
 use Rattle.packet_walks.specs.EndsBySwitch.{IsEndOf, after, onward}
 use Rattle.packet_walks.proofs.Judged.{at_is}

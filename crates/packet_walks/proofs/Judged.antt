@@ -5,7 +5,7 @@ use Rattle.std.proofs.lemmas.Bool.{and_parts, eqb-true, eq-eqb}
 use Rattle.std.proofs.lemmas.Option.{same_Some}
 use Rattle.subnet_view.specs.declared.end_port.EndPort.{EndPort}
 use Rattle.fact_store.specs.View.{Facts, cells_of}
-use Rattle.subnet_view.specs.EndPorts.{end_ports, is_end_port}
+use Rattle.subnet_view.specs.EndPort.{end_ports, is_end_port}
 use Rattle.subnet_view.proofs.EndPortList.{end_ports_law}
 use Rattle.subnet_view.proofs.WireLaws.{end_port_law}
 use Rattle.subnet_view.proofs.Members.{contains_here, contains_later, list_any_true, list_any_at}

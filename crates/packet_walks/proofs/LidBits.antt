@@ -4,7 +4,7 @@ use Rattle.std.specs.Int.{bit_at}
 use Rattle.std.proofs.lemmas.Bool.{and_parts, eqb-true}
 use Rattle.spread_labels.proofs.TargetBits.{and_bit, no_bit, or_bit, with_bit}
 use Rattle.packet_walks.specs.declared.lid_set.LidSet.{LidSet}
-use Rattle.packet_walks.specs.LidSets.{both, either, has, no_lids, with_lid}
+use Rattle.packet_walks.specs.LidSet.{both, either, has, no_lids, with_lid}
 
 one_of : (a b : Bool) → (a || b) ≡ true → (a ≡ true) ⊎ (b ≡ true)
 one_of true b h = inl refl

@@ -8,7 +8,7 @@ use Rattle.std.proofs.lemmas.Option.{same_Some}
 use Rattle.smp_bytes.specs.NodeType.{is_switch}
 use Rattle.fact_store.specs.View.{Facts, cells_of, AreInRange}
 use Rattle.subnet_view.specs.declared.end_port.EndPort.{EndPort}
-use Rattle.subnet_view.specs.EndPorts.{end_ports}
+use Rattle.subnet_view.specs.EndPort.{end_ports}
 use Rattle.reply_facts.specs.Known.{cap_of}
 use Rattle.subnet_view.specs.Reading.{Cells, is_usable, is_switch_node, switches}
 use Rattle.subnet_view.specs.Wires.{across, attached}
@@ -26,7 +26,7 @@ use Rattle.subnet_view.specs.Routing.{Routing, Passes, FollowsRule}
 use Rattle.subnet_view.proofs.Components.{component_itself, component_symm, component_trans, joined, rooted}
 use Rattle.subnet_view.proofs.Graphs.{edge_is_wire, edge_to_usable, graph_law, wire_end}
 use Rattle.subnet_view.proofs.GraphSwitches.{graph_guids, switch_usable, usable_switch}
-use Rattle.lft_blocks.specs.Rules.{RuleValue}
+use Rattle.lft_blocks.specs.Rule.{RuleValue}
 use Rattle.lft_blocks.proofs.RulesRoute.{lids_are_routed}
 use Rattle.lft_blocks.specs.Entries.{attachment_of}
 use Rattle.lft_blocks.proofs.HeldEntries.{entry_of as planned_entry, entry_by_attachment}
@@ -34,8 +34,8 @@ use Rattle.lft_blocks.proofs.AttachmentSwitches.{attachment_is_switch}
 use Rattle.held_tables.specs.declared.held.HeldLid.{HeldLid}
 use Rattle.held_tables.specs.Held.{HeldPlan}
 use Rattle.held_tables.proofs.PlanRanges.{wire_small}
-use Rattle.packet_walks.specs.declared.packet_end.Cause.{Cause}
-use Rattle.packet_walks.specs.declared.packet_end.Cause.TheVariants.{NoLink, Foreign}
+use Rattle.packet_walks.specs.declared.cause.Cause.{Cause}
+use Rattle.packet_walks.specs.declared.cause.Cause.TheVariants.{NoLink, Foreign}
 use Rattle.packet_walks.specs.declared.packet_end.End.TheVariants.{Taken, Lost}
 use Rattle.held_tables.specs.declared.far_end.Far.TheVariants.{Nothing}
 use Rattle.packet_walks.specs.declared.next_hop.NextHop.{NextHop}

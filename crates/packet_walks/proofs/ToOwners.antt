@@ -6,7 +6,7 @@ use Rattle.std.proofs.lemmas.Bool.{and_parts, cases_lt, eqb-true, ltb-true}
 use Rattle.std.proofs.lemmas.List.{length-map}
 use Rattle.std.proofs.lemmas.Option.{same_Some, slice_get-get_or}
 use Rattle.subnet_view.specs.declared.end_port.EndPort.{EndPort}
-use Rattle.subnet_view.specs.EndPorts.{end_ports}
+use Rattle.subnet_view.specs.EndPort.{end_ports}
 use Rattle.subnet_view.specs.Reading.{Cells, switches}
 use Rattle.held_tables.specs.declared.held.HeldLid.{HeldLid}
 use Rattle.held_tables.specs.Held.{HeldPlan}
@@ -22,7 +22,7 @@ use Rattle.held_tables.specs.declared.owners.Owner.TheVariants.{Several}
 use Rattle.held_tables.specs.declared.senders.Sender.{Sender}
 use Rattle.packet_walks.specs.BlockDeliveries.{AreDelivered, hops_for, target_at}
 use Rattle.packet_walks.specs.Deliveries.{AreDeliveries, ComeToOwner}
-use Rattle.packet_walks.specs.LidSets.{has}
+use Rattle.packet_walks.specs.LidSet.{has}
 use Rattle.held_tables.specs.Switches.{all_begin, first_by, first_switch, is_among, node_of, sender_of}
 use Rattle.held_tables.specs.Blocks.{AreBlocks}
 use Rattle.packet_walks.specs.HopsByTables.{IsBrought, LineArrives, next_hop_of, next_hops_of, sent}

@@ -20,8 +20,8 @@ use Rattle.subnet_view.specs.Reading.{Cells, switches}
 use Rattle.subnet_view.specs.Wires.{across}
 use Rattle.subnet_view.specs.FabricAgreement.{Part, WholeFabric, IsEndPortIn}
 use Rattle.held_tables.specs.Held.{HeldPlan}
-use Rattle.packet_walks.specs.declared.packet_end.Cause.{Cause}
-use Rattle.packet_walks.specs.declared.packet_end.Cause.TheVariants.{NoLink, Foreign}
+use Rattle.packet_walks.specs.declared.cause.Cause.{Cause}
+use Rattle.packet_walks.specs.declared.cause.Cause.TheVariants.{NoLink, Foreign}
 use Rattle.packet_walks.specs.declared.packet_end.End.{End}
 use Rattle.packet_walks.specs.declared.packet_end.End.TheVariants.{Taken, Lost}
 use Rattle.held_tables.specs.declared.far_end.Far.{Far}

@@ -9,7 +9,7 @@ use Rattle.packet_walks.specs.declared.next_hop.NextHop.{NextHop}
 use Rattle.packet_walks.specs.declared.next_hop.NextHop.TheVariants.{To, Ends}
 use Rattle.held_tables.specs.declared.owners.Owner.{Owner}
 use Rattle.held_tables.specs.declared.owners.Owner.TheVariants.{Several}
-use Rattle.packet_walks.specs.LidSets.{both, either, has, no_lids, with_lid}
+use Rattle.packet_walks.specs.LidSet.{both, either, has, no_lids, with_lid}
 use Rattle.packet_walks.specs.HopsByTables.{is_at, next_hop_of}
 use Rattle.held_tables.specs.Owners.{sole_among}
 use Rattle.packet_walks.specs.EndsBySwitch.{IsEndOf, onward}
@@ -24,17 +24,17 @@ abbrev pub owners_in : Option EndPort → List EndPort
 owners_in None = []
 owners_in (Some port) = port ∷ []
 
--- the next hop of each of `nodes` for packets for `lid`, by the blocks `rows`, where only `target` holds `lid` or, if
--- `target` is None, no end port does
+-- the next hop of each of `nodes` for packets for `lid`, according to the blocks `rows`, where only `target` holds
+-- `lid` or, if `target` is None, no end port does
 abbrev pub hops_for : List AuditedSwitch → List (List ℕ) → ℕ → Option EndPort → List NextHop
 hops_for nodes rows lid target = map (next_hop_of (owners_in target) rows lid) nodes
 
--- the next hop of each of `nodes` for packets for the LID at `index` of the block `number`, by `rows`. If several end
--- ports hold the LID, the hops are as if no end port did
+-- the next hop of each of `nodes` for packets for the LID at `index` of the block `number`, according to `rows`. If
+-- several end ports hold the LID, the hops are as if no end port did
 abbrev pub hops_at : List AuditedSwitch → List Owner → List (List ℕ) → ℕ → ℕ → List NextHop
 hops_at nodes owners rows number index = hops_for nodes rows (64 * number + index) (target_at owners number index)
 
--- there is a `target`, and packets from `switch` reach it by `hops`
+-- there is a `target`, and packets from `switch` reach it along `hops`
 pub record Comes (hops : List NextHop) (target : Option EndPort) (switch : ℕ) : Type 0 where
   pub port : EndPort
   pub is_target : target ≡ Some port
@@ -54,8 +54,8 @@ pub record AreSeen (count : ℕ) (hops : ℕ → List NextHop) (target : ℕ →
   pub lead : (k index : ℕ) (exit : Exit) → slice_get exits k ≡ Some exit → has exit.lids index ≡ true
       → onward (hops index) (To exit.from) ≡ To exit.to
 
--- `AreSeen` for `nodes` and for the LIDs of the block `number`: the hops are by the blocks `rows`, and the target of
--- a LID is the only end port that holds it
+-- `AreSeen` for `nodes` and for the LIDs of the block `number`: the hops are according to the blocks `rows`, and the
+-- target of a LID is the only end port that holds it
 abbrev pub AreSeenBy : List AuditedSwitch → List Owner → List (List ℕ) → ℕ → List LidSet → List Exit → Type 0
 AreSeenBy nodes owners rows number arrived exits =
     AreSeen (length nodes) (hops_at nodes owners rows number) (target_at owners number) arrived exits

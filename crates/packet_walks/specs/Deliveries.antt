@@ -6,12 +6,13 @@ use Rattle.held_tables.specs.Held.{HeldPlan}
 use Rattle.packet_walks.specs.declared.block_deliveries.Deliveries.{Deliveries}
 use Rattle.packet_walks.specs.declared.packet_end.End.TheVariants.{Taken}
 use Rattle.packet_walks.specs.declared.next_hop.NextHop.TheVariants.{To}
-use Rattle.packet_walks.specs.LidSets.{has}
+use Rattle.packet_walks.specs.LidSet.{has}
 use Rattle.packet_walks.specs.HopsByTables.{next_hops_of}
 use Rattle.held_tables.specs.Tables.{owners_of}
 use Rattle.packet_walks.specs.EndsBySwitch.{IsEndOf}
 
--- whether `lid` is one of `deliveries`: it is in their block, and their set has its index in the block
+-- whether `lid` is one of `deliveries`: `lid` is in the block of `deliveries`, and the set of `deliveries` has the
+-- index of `lid` in this block
 abbrev pub is_delivered : Deliveries → ℕ → Bool
 is_delivered deliveries lid = lid / 64 == deliveries.number && has deliveries.lids (lid % 64)
 

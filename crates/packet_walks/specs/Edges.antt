@@ -21,13 +21,13 @@ edge_to port (Port e) = None
 abbrev pub switch_by : List Far → ℕ → Option ℕ
 switch_by row entry = if entry == 0 then None else switch_over (slice_index_or row entry Nothing)
 
--- the edge by the port `entry`; None if this port does not lead to a usable switch, or if `entry` is 0, by which the
--- switch keeps the packet
+-- if `entry` is not 0 and the port `entry` leads to a usable switch, the edge by this port; otherwise None. With the
+-- entry 0, a switch keeps the packet
 abbrev pub edge_by : List Far → ℕ → Option Edge
 edge_by row entry = if entry == 0 then None else edge_to entry (slice_index_or row entry Nothing)
 
--- for each usable switch, in ascending order of GUID, the edge by which it forwards packets for `lid`; None if it
--- does not forward them to a usable switch
+-- for each usable switch, in ascending order of GUID, the edge along which the switch forwards packets for `lid`;
+-- None if the switch does not forward these packets to a usable switch
 abbrev pub edges_of : Cells → HeldPlan → ℕ → List (Option Edge)
 edges_of cells held lid = map (λ g. edge_by (row_of cells g) (entry_for held lid g)) (switches cells)
 
@@ -35,7 +35,7 @@ edges_of cells held lid = map (λ g. edge_by (row_of cells g) (entry_for held li
 abbrev pub greatest_top : Cells → HeldPlan → ℕ
 greatest_top cells held = greatest (map (top_of held) (switches cells))
 
--- the edge by which the switch `node` forwards packets for `lid`, given by its effective entry in the blocks `rows`;
--- None if it does not forward them to a usable switch
+-- the edge along which the switch `node` forwards packets for `lid`, according to the effective entry of `node` in
+-- the blocks `rows`; None if `node` does not forward these packets to a usable switch
 abbrev pub edge_of : List (List ℕ) → ℕ → AuditedSwitch → Option Edge
 edge_of rows lid node = edge_by node.row (node_entry rows lid node)

@@ -1,4 +1,4 @@
--- Where packets for the LID of an end port end, by the walks from the switches.
+-- Where packets for the LID of an end port end, according to the walks from the switches.
 use Rattle.std.specs.Prelude.{◌≡◌, ℕ, Bool, false, ◌&&◌, List, Option, None, Some, length, map, slice_index_or}
 use Rattle.std.specs.List.{list_all}
 use Rattle.subnet_view.specs.declared.end_port.EndPort.{EndPort}
@@ -10,8 +10,8 @@ use Rattle.packet_walks.specs.HopsByTables.{first_hop, is_at}
 use Rattle.held_tables.specs.Owners.{is_sole}
 use Rattle.packet_walks.specs.EndsBySwitch.{end_of, onward}
 
--- the ends of the packets that end ports send for the LID of `port`, one for each end port, in order; None for a packet
--- that loops forever
+-- the ends of the packets that end ports send for the LID of `port`, one for each end port, in the order of the end
+-- ports; None for a packet that loops forever
 pub record Ended : Type 0 where
   pub port : EndPort
   pub ends : List (Option End)
@@ -26,7 +26,7 @@ abbrev pub arrivals : EndPort → List NextHop → List Bool
 arrivals port walks = map (λ walk. is_at port (end_of walk)) walks
 
 -- whether the walk from the switch at the given index ends at the port, as `arrive` says; false if there is no index,
--- or if it is past the end of `arrive`
+-- or if the index is past the end of `arrive`
 abbrev pub comes_by : Option ℕ → List Bool → Bool
 comes_by None arrive = false
 comes_by (Some index) arrive = slice_index_or arrive index false

@@ -1,4 +1,4 @@
--- Walks of packets from switch to switch, by their next hops.
+-- Walks of packets from switch to switch, along the next hops of the switches.
 use Rattle.std.specs.Prelude.{◌≡◌, ◌⊎◌, ◌<◌, ℕ, zero, suc, Bool, true, false, List, Option, None, Some, length, slice_index_or}
 use Rattle.packet_walks.specs.declared.packet_end.End.{End}
 use Rattle.packet_walks.specs.declared.next_hop.NextHop.{NextHop}
@@ -15,7 +15,7 @@ abbrev pub after : ℕ → List NextHop → NextHop → NextHop
 after zero steps s = s
 after (suc n) steps s = after n steps (onward steps s)
 
--- the walk from `s` by `steps` ends at the given end; if the end is None, the walk goes on forever
+-- the walk from `s` along `steps` ends at the given end; if the end is None, the walk goes on forever
 abbrev pub IsEndOf : List NextHop → NextHop → Option End → Type 0
 IsEndOf steps s (Some e) = (n : ℕ) × (after n steps s ≡ Ends e)
 IsEndOf steps s None = (n : ℕ) → (i : ℕ) × (after n steps s ≡ To i)
@@ -30,18 +30,18 @@ abbrev pub end_of : NextHop → Option End
 end_of (To i) = None
 end_of (Ends e) = Some e
 
--- `ends` has the end of the walk from each switch by `steps`, or a hop to a switch if the walk goes on forever
+-- `ends` has the end of the walk from each switch along `steps`, or a hop to a switch if the walk goes on forever
 pub record HaveEnded (steps ends : List NextHop) : Type 0 where
   pub as_many : length ends ≡ length steps
   pub ended : (s : NextHop) → IsEndOf steps s (end_of (onward ends s))
 
--- each of `jumps` is the step that is reached from its switch after `n` steps by `steps`
+-- for each switch, `jumps` has the step that is reached from this switch after `n` steps along `steps`
 pub record AreAfter (steps jumps : List NextHop) (n : ℕ) : Type 0 where
   pub as_many : length jumps ≡ length steps
   pub onward_is : (s : NextHop) → onward jumps s ≡ after n steps s
 
--- in `new`, the walk from switch `i` has gone on from the switch that it had reached in `old`: to where the walk from
--- that switch was in `old` or, if that switch comes before `i`, to where it is in `new`
+-- let `s` be the switch that the walk from switch `i` had reached in `old`. In `new`, the walk from `i` has gone on
+-- to where the walk from `s` was in `old` or, if `s` comes before `i`, to where the walk from `s` is in `new`
 abbrev pub IsFurther : List NextHop → List NextHop → ℕ → Type 0
 IsFurther old new i =
     (onward new (To i) ≡ onward old (onward old (To i)))

@@ -16,9 +16,10 @@ use Rattle.packet_walks.specs.declared.packet_end.End.TheVariants.{Taken, Lost}
 use Rattle.packet_walks.specs.HopsByTables.{IsBrought}
 use Rattle.held_tables.specs.Tables.{owners_of, is_owner, counted, entry_for}
 
--- each end port owns exactly the LIDs, from 1 on, that the held tables give to it. The effective entry of each
--- switch, by the top and the table of its agent, is the effective entry by the held tables: 255 for LIDs above the
--- top and in blocks that are not held. The other entries of the table of its agent may be anything
+-- each end port owns, of the LIDs other than 0, exactly those that the held tables give to the end port. The
+-- effective entry of each switch, according to the top and the table of the switch's agent, is the effective entry
+-- under the held tables: 255 for LIDs above the top and in blocks that are not held. The other entries of the agent's
+-- table may be anything
 pub record HoldsTables (held : HeldPlan) (f : Fabric) : Type 0 where
   pub lids : (port : NodePort) (node : Node) (lid : ℕ) → IsNodeAt f port.node node → IsEndPort f port → 1 ≤ lid
       → owns f port lid ≡ is_owner (owners_of held lid) (record { node = node.guid; port = port.port })
@@ -31,8 +32,8 @@ pub record IsSeen (cells : Cells) (held : HeldPlan) (f : Fabric) : Type 0 where
   pub agrees : AgreesOn WholeFabric cells f
   pub holds : HoldsTables held f
 
--- each end port of `part` owns exactly the LIDs, from 1 on, that the held tables give to it, and each switch there
--- has the effective entries of the held tables
+-- each end port of `part` owns, of the LIDs other than 0, exactly those that the held tables give to the end port,
+-- and each switch there has the effective entries of the held tables
 pub record HoldsTablesIn (part : Part) (held : HeldPlan) (f : Fabric) : Type 0 where
   pub lids : (port : NodePort) (node : Node) (lid : ℕ) → IsEndPortIn part f port node → 1 ≤ lid
       → owns f port lid ≡ is_owner (owners_of held lid) (record { node = node.guid; port = port.port })
@@ -45,8 +46,8 @@ pub record IsSeenIn (part : Part) (cells : Cells) (held : HeldPlan) (f : Fabric)
   pub covers : Covers part cells f
   pub holds : HoldsTablesIn part held f
 
--- the packet for `lid` from `source` is delivered at the port that `end` names. If `end` is a loss, or None for a
--- packet that loops forever, the packet is lost
+-- if `end` is a delivery, the packet for `lid` from `source` is delivered at the port that `end` names. If `end` is a
+-- loss, or None for a packet that loops forever, the packet is lost
 abbrev pub EndsAs : Fabric → ℕ → NodePort → Option End → Type 0
 EndsAs f lid source (Some (Taken e)) =
     (hops : List Hop) × (target : NodePort) × IsPortNamed f e.node e.port target × IsDelivered f lid source hops target
@@ -62,8 +63,8 @@ PacketsEndAsTold = (facts : Facts) (held : HeldPlan) (f : Fabric) → IsSeen (ce
     → IsBrought (cells_of facts) held lid (record { node = node.guid; port = source.port }) end
     → EndsAs f lid source end
 
--- if the facts describe the part that is joined to the end port `origin` and this part holds the tables, packets in
--- it end as facts and tables say. The packets are those that an end port of the part sends for a LID other than 0
+-- if the facts describe the part that is joined to the end port `origin` and this part holds the tables, a packet
+-- that an end port of the part sends for a LID other than 0 ends as facts and tables say
 abbrev pub PacketsEndAsToldInParts : Type 0
 PacketsEndAsToldInParts = (facts : Facts) (held : HeldPlan) (f : Fabric) (origin : NodePort) → IsEndPort f origin
     → IsSeenIn (IsJoinedTo f origin) (cells_of facts) held f

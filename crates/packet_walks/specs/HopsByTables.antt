@@ -5,9 +5,9 @@ use Rattle.subnet_view.specs.declared.end_port.EndPort.{EndPort}
 use Rattle.subnet_view.specs.Reading.{Cells, is_usable, port_count_of, switches}
 use Rattle.held_tables.specs.declared.held.HeldLid.{HeldLid}
 use Rattle.held_tables.specs.Held.{HeldPlan}
-use Rattle.subnet_view.specs.EndPorts.{end_ports}
-use Rattle.packet_walks.specs.declared.packet_end.Cause.{Cause}
-use Rattle.packet_walks.specs.declared.packet_end.Cause.TheVariants.{AboveTop, NoEntry, NoPort, NoLink, Foreign}
+use Rattle.subnet_view.specs.EndPort.{end_ports}
+use Rattle.packet_walks.specs.declared.cause.Cause.{Cause}
+use Rattle.packet_walks.specs.declared.cause.Cause.TheVariants.{AboveTop, NoEntry, NoPort, NoLink, Foreign}
 use Rattle.packet_walks.specs.declared.packet_end.End.{End}
 use Rattle.packet_walks.specs.declared.packet_end.End.TheVariants.{Taken, Lost}
 use Rattle.held_tables.specs.declared.far_end.Far.{Far}
@@ -21,27 +21,27 @@ use Rattle.held_tables.specs.Switches.{row_of, sender_of}
 use Rattle.held_tables.specs.Tables.{owners_of, is_owner, is_same_end, counted, entry_for, top_of}
 use Rattle.packet_walks.specs.EndsBySwitch.{IsEndOf, after, end_of}
 
--- the end of a packet that reaches the port `e`: it is delivered there if `e` is one of `owners`, the end ports that
--- hold its LID, and lost otherwise
+-- the end of a packet that reaches the port `e`: the packet is delivered there if `e` is one of `owners`, the end
+-- ports that hold the packet's LID, and lost otherwise
 abbrev pub at_port : List EndPort → EndPort → End
 at_port owners e = if is_owner owners e then Taken e else Lost e.node Foreign
 
--- the next hop of a packet that leaves node `g` over a wire to the given far end, for a LID that `owners` hold; if
+-- the next hop of a packet that leaves node `g` along a wire to the given far end, for a LID that `owners` hold; if
 -- there is no wire, the packet is lost for `cause`
 abbrev pub over : List EndPort → ℕ → Cause → Far → NextHop
 over owners g cause Nothing = Ends (Lost g cause)
 over owners g cause (Switch index) = To index
 over owners g cause (Port e) = Ends (at_port owners e)
 
--- the cause for which a switch with `ports` ports and the top `top` does not forward a packet for `lid` by `entry`:
--- the first cause that applies
+-- the cause for which a switch with `ports` ports, the top `top` and the entry `entry` does not forward a packet for
+-- `lid`: the first cause that applies
 abbrev pub cause_by : ℕ → ℕ → ℕ → ℕ → Cause
 cause_by ports top lid entry =
     if nat_lt top lid then AboveTop else
     (if entry == 255 then NoEntry else (if nat_lt ports entry then NoPort else NoLink))
 
--- the cause for which switch `g` of the facts does not forward a packet for `lid` by the held tables; it has no meaning
--- if `g` forwards the packet
+-- the cause for which switch `g` of the facts does not forward a packet for `lid` under the held tables; it has no
+-- meaning if `g` forwards the packet
 abbrev pub cause_of : Cells → HeldPlan → ℕ → ℕ → Cause
 cause_of cells held lid g = cause_by (port_count_of cells g) (top_of held g) lid (entry_for held lid g)
 
@@ -70,11 +70,12 @@ node_entry rows lid node = counted lid node.top (entry_among rows node.index lid
 abbrev pub next_hop_by : List EndPort → ℕ → AuditedSwitch → ℕ → NextHop
 next_hop_by owners lid node entry = by_entry owners node.guid (cause_by node.ports node.top lid entry) node.row entry
 
--- the next hop of the switch `node` for packets for `lid`, by its effective entry in the blocks `rows`
+-- the next hop of the switch `node` for packets for `lid`, according to the effective entry of `node` in the blocks
+-- `rows`
 abbrev pub next_hop_of : List EndPort → List (List ℕ) → ℕ → AuditedSwitch → NextHop
 next_hop_of owners rows lid node = next_hop_by owners lid node (node_entry rows lid node)
 
--- switch `g` with its effective entry for `lid` by the held tables, and its next hop
+-- switch `g` with its effective entry for `lid` under the held tables, and its next hop
 abbrev pub switch_step : Cells → HeldPlan → ℕ → ℕ → SwitchStep
 switch_step cells held lid g = record {
   switch = g;
@@ -93,7 +94,7 @@ switch_step_of owners rows lid node = switch_step_by owners lid node (node_entry
 
 -- the first hop of a packet that `e` sends. If the node of `e` is the usable switch at the given index, the packet is
 -- at this switch. If there is no index, the packet is delivered at `e` if `e` is one of `owners`, and otherwise
--- leaves over the wire of `e`
+-- leaves along the wire of `e`
 abbrev pub sent : List EndPort → EndPort → Option ℕ → Far → NextHop
 sent owners e (Some index) far = To index
 sent owners e None far = if is_owner owners e then Ends (Taken e) else over owners e.node NoLink far
@@ -108,7 +109,7 @@ IsBrought cells held lid e end =
     IsEndOf (next_hops_of cells held lid) (first_hop (owners_of held lid) (sender_of cells e)) end
 
 -- the end that a packet that `e` sends for `lid` reaches within as many steps as there are usable switches; None if
--- it reaches no end by then
+-- the packet reaches no end by then
 abbrev pub end_for : Cells → HeldPlan → ℕ → EndPort → Option End
 end_for cells held lid e =
     end_of (after (length (switches cells)) (next_hops_of cells held lid)
@@ -119,11 +120,11 @@ abbrev pub EndsAreFound : Type 0
 EndsAreFound = (cells : Cells) (held : HeldPlan) (lid : ℕ) (e : EndPort) (end : Option End)
     → IsBrought cells held lid e end ↔ (end ≡ end_for cells held lid e)
 
--- the effective entry by which the usable switch `g` forwards packets for `lid`; None if `g` is not a usable switch
+-- if `g` is a usable switch, its effective entry for `lid`; otherwise None
 abbrev pub entry_by : Cells → HeldPlan → ℕ → ℕ → Option ℕ
 entry_by cells held g lid = if is_usable cells g then Some (entry_for held lid g) else None
 
--- `ends` has, for each end port in order, the end of its packet for `lid`
+-- `ends` has, for each end port, in the order of the end ports, the end of its packet for `lid`
 pub record AreBrought (cells : Cells) (held : HeldPlan) (lid : ℕ) (ends : List (Option End)) : Type 0 where
   pub as_many : length ends ≡ length (end_ports cells)
   pub brought : (k : ℕ) (e : EndPort) (end : Option End) → slice_get (end_ports cells) k ≡ Some e → slice_get ends k

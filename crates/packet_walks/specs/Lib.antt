@@ -3,7 +3,7 @@ pub mod Deliveries
 pub mod EndsBySender
 pub mod Edges
 pub mod Fabrics
-pub mod LidSets
+pub mod LidSet
 pub mod Network
 pub mod HopsByTables
 pub mod EndsBySwitch

@@ -2,7 +2,7 @@
 ghost use Rattle.std.specs.Prelude.{◌≡◌, ◌<◌, ◌+◌, ◌*◌, [], IfOk, IfSome, OnOk, length, replicate, slice_set};
 ghost use Rattle.packet_walks.specs.BlockDeliveries.{AreAfterRounds, AreDelivered, AreSeenBy, IsExit, IsWithExit};
 ghost use Rattle.packet_walks.specs.BlockDeliveries.{IsWithHop, arrived_more, back_by, from_each, lids_at};
-ghost use Rattle.packet_walks.specs.LidSets.{no_lids};
+ghost use Rattle.packet_walks.specs.LidSet.{no_lids};
 ghost use Rattle.packet_walks.specs.Deliveries.{is_delivered};
 
 use crate::hops_by_tables::{entry_of, next_hop_at, switch_by};
@@ -43,8 +43,8 @@ pub(crate) struct Exit {
 /// What is known so far about packets for the LIDs of a block.
 #[derive(Drop)]
 pub(crate) struct BlockWalks {
-    /// For each switch, a set of LIDs. Exactly one end port holds each of these LIDs, and packets for the LID are
-    /// seen to reach this end port from the switch.
+    /// For each switch, the LIDs that exactly one end port holds and whose packets are seen to reach that end port
+    /// from the switch.
     pub(crate) arrived: Vec<LidSet>,
     /// The exits: which switch forwards packets to which next switch, and for which LIDs.
     pub(crate) exits: Vec<Exit>,
@@ -52,17 +52,16 @@ pub(crate) struct BlockWalks {
     slots: Vec<usize>,
 }
 
-/// Blocks from this number on have no LIDs.
+/// Blocks with this number or a greater one have no LIDs.
 const NUMBERS: u16 = 0x400;
 
 /// The maximum number of rounds in which arrivals are carried back. If a walk has more switches, arrivals may be
 /// missed, depending on the order of its exits.
 const MOST_ROUNDS: usize = 64;
 
-/// Returns the LIDs of the block `number` for which the following holds: exactly one end port holds the LID, and
-/// packets for the LID reach this end port from every switch. Can miss such LIDs if a walk has over 64 switches.
-/// Returns the empty set if there is no switch. `rows` has the block `number` of each held switch, and `owners` says
-/// who holds each LID.
+/// Returns the LIDs of the block `number` that exactly one end port holds and whose packets reach this end port from
+/// every switch. Can miss such LIDs if a walk has more than 64 switches. Returns the empty set if there is no switch.
+/// `rows` has the block `number` of each held switch, and `owners` says who holds each LID.
 pub(crate) fn delivered(
     alloc: Global,
     nodes: &[AuditedSwitch],
@@ -84,7 +83,7 @@ pub(crate) fn delivered(
 }
 
 impl BlockWalks {
-    /// Returns the walks over `count` switches, with nothing seen yet.
+    /// Returns the walks from `count` switches, with nothing seen yet.
     fn none(alloc: Global, count: usize) -> Result<Self, AllocError>
         ensures arrived { IfOk result (λ walks. walks.arrived.items ≡ replicate count no_lids) }
         ensures exits { IfOk result (λ walks. walks.exits.items ≡ []) }
@@ -273,7 +272,7 @@ fn put_lids(arrived: &mut Vec<LidSet>, switch: usize, lids: LidSet)
 }
 
 /// Carries arrivals back along the exits, in rounds, until nothing changes or 64 rounds are done. If packets arrive
-/// from a switch, they also arrive from each switch that forwards them there.
+/// from a switch, they also arrive from each switch that forwards them to that switch.
 fn go_back(arrived: &mut Vec<LidSet>, exits: &[Exit])
     ensures { AreAfterRounds exits.now arrived.old.items arrived.new.items }
 {

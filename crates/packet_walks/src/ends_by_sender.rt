@@ -15,13 +15,14 @@ use std::alloc::{AllocError, Global};
 use std::marker::Model;
 use subnet_view::EndPort;
 
-/// For each source in order, the end of its packet for the same LID.
+/// For each source, in the order of the sources, the end of the source's packet for the same LID.
 #[derive(Drop)]
 pub struct Ends<'a> {
     /// The end port that the packets should reach.
     port: EndPort,
     sources: &'a [Sender],
-    /// For each source, the index of the first switch that its packet reaches, or `None` if there is none.
+    /// For each source, the index of the first switch that the source's packet reaches, or `None` if the packet
+    /// reaches no switch.
     firsts: &'a [Option<usize>],
     /// The end ports that hold the LID.
     owners: Vec<EndPort>,
@@ -50,8 +51,9 @@ impl<'a> Model for Ends<'a> {
 
 impl<'a> Ends<'a> {
     /// Builds the ends of the packets of `sources`. `owners` are the end ports that hold the LID, and `walks` has the
-    /// end of the walk from each switch. `firsts` must have, for each source, the index of the first switch that its
-    /// packet reaches, if there is one. `begin` must say whether each of `firsts` is the index of one of `walks`.
+    /// end of the walk from each switch. `firsts` must have, for each source, the index of the first switch that the
+    /// source's packet reaches, or `None` if the packet reaches no switch. `begin` must say whether each of `firsts`
+    /// is the index of one of `walks`.
     pub(crate) fn new(
         alloc: Global,
         port: EndPort,
@@ -90,7 +92,7 @@ impl<'a> Ends<'a> {
     }
 
     /// Returns whether the packet of the source at `index` is delivered at `self.port`. Returns false if there is no
-    /// such source. Takes constant time if the packet is delivered there over a switch and no other end port holds the
+    /// such source. Takes constant time if the packet is delivered there via a switch and no other end port holds the
     /// LID.
     pub fn arrives(&self, index: usize) -> bool
         ensures { result ≡ is_at self.now.port (slice_index_or self.now.ends index None) }

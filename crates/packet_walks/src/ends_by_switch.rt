@@ -6,7 +6,7 @@ ghost use Rattle.packet_walks.specs.EndsBySwitch.{AreFurther, HaveEnded, end_of,
 use crate::next_hop::NextHop;
 use crate::packet_end::End;
 
-/// Returns, for each switch, the end of the walk from there by `steps`, or a hop to a switch if the walk goes on
+/// Returns, for each switch, the end of the walk from there along `steps`, or a hop to a switch if the walk goes on
 /// forever. `steps` has the next hop of each switch. Each round takes time linear in the number of switches. There
 /// are at most as many rounds as the length of the longest walk has binary digits, and one more if some walk goes on
 /// forever.

@@ -1,12 +1,13 @@
 //! What becomes of packets for the same LID at each switch, and at the port that sends them.
 ghost use Rattle.std.specs.Prelude.{◌≡◌, IfOk, map};
-ghost use Rattle.packet_walks.specs.HopsByTables.{at_port, cause_by, entry_among, first_hop, next_hop_by, next_hop_of};
+ghost use Rattle.packet_walks.specs.HopsByTables.{at_port, entry_among, first_hop, next_hop_by, next_hop_of};
 ghost use Rattle.packet_walks.specs.HopsByTables.{node_entry, over, switch_step_of};
 ghost use Rattle.packet_walks.specs.Edges.{edge_of, switch_by};
 ghost use Rattle.held_tables.specs.Tables.{counted, is_owner};
 
+use crate::cause::{Cause, cause_by};
 use crate::next_hop::{NextHop, SwitchStep};
-use crate::packet_end::{Cause, End};
+use crate::packet_end::End;
 use held_tables::{AuditedSwitch, Far, Sender};
 use port_graph::Edge;
 use smp_bytes::{Guid, Lid, NO_ENTRY, PortNum};
@@ -73,8 +74,8 @@ fn next_hop_by(owners: &[EndPort], lid: Lid, node: &AuditedSwitch, entry: u8) ->
     }
 }
 
-/// Returns, for each of `nodes`, its effective entry for `lid` and its next hop by this entry. `owners` are the end
-/// ports that hold `lid`. `rows` has, for each held switch, the block with the entries for `lid`.
+/// Returns, for each of `nodes`, its effective entry for `lid` and its next hop according to this entry. `owners` are
+/// the end ports that hold `lid`. `rows` has, for each held switch, the block with the entries for `lid`.
 pub(crate) fn switch_steps(
     alloc: Global,
     nodes: &[AuditedSwitch],
@@ -90,8 +91,8 @@ pub(crate) fn switch_steps(
         .collect(alloc)
 }
 
-/// Returns the effective entry of the switch `node` for `lid`, and its next hop by this entry. `owners` are the end
-/// ports that hold `lid`. `rows` has, for each held switch, the block with the entries for `lid`.
+/// Returns the effective entry of the switch `node` for `lid`, and its next hop according to this entry. `owners` are
+/// the end ports that hold `lid`. `rows` has, for each held switch, the block with the entries for `lid`.
 fn switch_step_at(
     owners: &[EndPort],
     rows: &[[u8; 64]],
@@ -105,22 +106,6 @@ fn switch_step_at(
         switch: node.guid,
         entry,
         hop: next_hop_by(owners, lid, node, entry),
-    }
-}
-
-/// Returns why a switch with `ports` ports and the top `top` does not forward a packet for `lid` by `entry`: the first
-/// cause that applies.
-fn cause_by(ports: u8, top: Lid, lid: Lid, entry: u8) -> Cause
-    ensures { result ≡ cause_by ports top lid entry }
-{
-    if top < lid {
-        Cause::AboveTop
-    } else if entry == NO_ENTRY {
-        Cause::NoEntry
-    } else if ports < entry {
-        Cause::NoPort
-    } else {
-        Cause::NoLink
     }
 }
 
@@ -197,7 +182,7 @@ pub(crate) fn edges(
     Ok(edges)
 }
 
-/// Returns the index of the usable switch to which the switch `node` forwards packets by `entry`. Returns `None` if
+/// Returns the index of the usable switch to which the port `entry` of the switch `node` leads. Returns `None` if
 /// `entry` is 0, or does not lead to a usable switch.
 pub(crate) fn switch_by(node: &AuditedSwitch, entry: u8) -> Option<usize>
     ensures { result ≡ switch_by node.now.row entry }
@@ -208,8 +193,8 @@ pub(crate) fn switch_by(node: &AuditedSwitch, entry: u8) -> Option<usize>
     node.row.switch(entry)
 }
 
-/// Returns what becomes of a packet that leaves `node` over a wire to `far`, for a LID that `owners` hold. If there is
-/// no wire, the packet is lost for `cause`.
+/// Returns what becomes of a packet that leaves `node` along a wire to `far`, for a LID that `owners` hold. If there
+/// is no wire, the packet is lost for `cause`.
 fn over(owners: &[EndPort], node: Guid, cause: Cause, far: Far) -> NextHop
     ensures { result ≡ over owners.now node cause far }
 {
@@ -234,7 +219,7 @@ fn at_port(owners: &[EndPort], port: &EndPort) -> End
 
 /// Returns the first hop of a packet that `source` sends for a LID that `owners` hold. If the node of `source` is a
 /// usable switch, the packet is at this switch. Otherwise, if the port of `source` is one of `owners`, the packet is
-/// delivered at once. Otherwise it leaves over the wire of `source`, or is lost if there is no wire.
+/// delivered at once. Otherwise the packet leaves along the wire of `source`, or is lost if there is no wire.
 pub(crate) fn first_hop(owners: &[EndPort], source: &Sender) -> NextHop
     ensures { result ≡ first_hop owners.now source.now }
 {

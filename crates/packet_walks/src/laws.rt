@@ -1,9 +1,9 @@
-//! Laws about where packets end by the held tables.
+//! Laws about where packets end under the held tables.
 ghost use Rattle.packet_walks.specs.Fabrics.{PacketsEndAsTold, PacketsEndAsToldInParts};
 ghost use Rattle.packet_walks.specs.HopsByTables.{EndsAreFound};
 ghost use Rattle.held_tables.specs.Owners.{SoleOwnersAreAlone};
 
-/// A packet that an end port sends for a LID has exactly one end by the held tables: the end that it has reached
+/// A packet that an end port sends for a LID has exactly one end under the held tables: the end that it has reached
 /// after as many steps as there are usable switches, or a loop forever if it has reached no end by then.
 pub fn ends_are_found()
     ensures law { EndsAreFound }
@@ -23,8 +23,8 @@ pub fn packets_end_as_told_in_parts()
     ensures law { PacketsEndAsToldInParts }
 {}
 
-/// If an end port owns a LID by the tables, each owner of the LID is this end port exactly when the list of owners has
-/// this end port once and nothing else. Lines may repeat the LID with the end port.
+/// If an end port owns a LID under the tables, each owner of the LID is this end port exactly when the list of owners
+/// has this end port once and nothing else. Lines may repeat the LID with the end port.
 pub fn sole_owners_are_alone()
     ensures law { SoleOwnersAreAlone }
 {}

@@ -2,6 +2,7 @@
 #![tactic(auto)]
 
 mod block_deliveries;
+mod cause;
 mod ends_by_sender;
 pub mod ends_by_switch;
 mod entry;
@@ -13,9 +14,10 @@ mod network;
 mod next_hop;
 mod packet_end;
 
+pub use cause::Cause;
 pub use ends_by_sender::Ends;
 pub use held_tables::{Far, Sender, is_same_end};
 pub use lid_cursor::LidCursor;
 pub use network::Network;
 pub use next_hop::{NextHop, SwitchStep};
-pub use packet_end::{Cause, End, is_at};
+pub use packet_end::{End, is_at};

@@ -21,7 +21,7 @@ use std::marker::Model;
 use subnet_view::EndPort;
 
 /// A network at one LID. Keeps the held blocks that have the entries for the LID, since LIDs are mostly visited in
-/// order and a block has entries for 64 of them.
+/// ascending order and a block has entries for 64 of them.
 #[derive(Drop)]
 pub struct LidCursor<'n> {
     network: &'n Network<'n>,
@@ -138,8 +138,8 @@ impl<'n> LidCursor<'n> {
         self.network.edges(alloc, &self.blocks, self.lid)
     }
 
-    /// Returns, for each usable switch in ascending order of GUID, its effective entry for the LID and its next hop by
-    /// this entry.
+    /// Returns, for each usable switch in ascending order of GUID, its effective entry for the LID and its next hop
+    /// according to this entry.
     pub fn switch_steps(&self, alloc: Global) -> Result<Vec<SwitchStep>, AllocError>
         ensures { IfOk result (λ steps. steps.items
             ≡ map (switch_step (cells_of self.now.seen.facts) self.now.seen.held self.now.lid)
@@ -148,8 +148,8 @@ impl<'n> LidCursor<'n> {
         self.network.switch_steps(alloc, &self.blocks, self.lid)
     }
 
-    /// Returns, for each end port in order, the end of the packet that it sends for the LID, or `None` if the packet
-    /// loops forever. The result also says which of these packets are delivered at `port`.
+    /// Returns, for each end port, in the order of the end ports, the end of the packet that it sends for the LID, or
+    /// `None` if the packet loops forever. The result also says which of these packets are delivered at `port`.
     pub fn ends(&self, alloc: Global, port: EndPort) -> Result<Ends<'n>, AllocError>
         ensures { IfOk result (λ ended.
             AreBrought (cells_of self.now.seen.facts) self.now.seen.held self.now.lid ended.ends
@@ -160,7 +160,7 @@ impl<'n> LidCursor<'n> {
 
     /// Returns true only if exactly one end port holds the LID, and packets for the LID from every usable switch
     /// reach this end port. Can return false although these packets arrive, if the cursor does not look for
-    /// deliveries or if a walk has over 64 switches. Takes constant time.
+    /// deliveries or if a walk has more than 64 switches. Takes constant time.
     pub fn is_delivered(&self) -> bool
         ensures { result ≡ true
             → ComeToOwner (cells_of self.now.seen.facts) self.now.seen.held self.now.lid }

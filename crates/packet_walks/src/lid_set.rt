@@ -1,6 +1,6 @@
 //! A set of LIDs of one block.
 ghost use Rattle.std.specs.Prelude.{◌≡◌, ◌<◌};
-ghost use Rattle.packet_walks.specs.LidSets.{both, either, has, no_lids, with_lid};
+ghost use Rattle.packet_walks.specs.LidSet.{both, either, has, no_lids, with_lid};
 
 /// A set of LIDs of the same block. The bit at the index of a LID in the block is 1 if the set has the LID.
 #[derive(Clone, Copy, Debug, PartialEq, Eq)]

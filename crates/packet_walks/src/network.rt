@@ -1,7 +1,7 @@
 ghost use Rattle.std.specs.Prelude.{◌≡◌, ◌<◌, ◌/◌, IfOk, length, map, slice_get, true};
 ghost use Rattle.std.specs.Option.{option_map_or};
 ghost use Rattle.fact_store.specs.View.{cells_of};
-ghost use Rattle.subnet_view.specs.EndPorts.{end_ports};
+ghost use Rattle.subnet_view.specs.EndPort.{end_ports};
 ghost use Rattle.lid_assign.specs.Lids.{greatest};
 ghost use Rattle.subnet_view.specs.Reading.{switches};
 ghost use Rattle.packet_walks.specs.Deliveries.{AreDeliveries};
@@ -61,7 +61,7 @@ impl<'a> Model for Network<'a> {
 #[derive(Drop)]
 pub(crate) struct Blocks {
     pub(crate) number: u16,
-    /// For each held switch in order, the entries of its block with the number `number`.
+    /// For each held switch, in the order of the held switches, the entries of its block with the number `number`.
     pub(crate) rows: Vec<[u8; 64]>,
 }
 
@@ -84,8 +84,9 @@ impl<'a> Network<'a> {
         })
     }
 
-    /// Returns the held blocks with the number `number`, which have the entries for the 64 LIDs from 64 * `number`
-    /// on. Takes time linear in the number of held switches, plus the number of held blocks with the number `number`.
+    /// Returns the held blocks with the number `number`, which have the entries for 64 consecutive LIDs, the first of
+    /// which is 64 * `number`. Takes time linear in the number of held switches, plus the number of held blocks with
+    /// the number `number`.
     pub(crate) fn blocks(&self, alloc: Global, number: u16) -> Result<Blocks, AllocError>
         ensures { IfOk result (λ blocks. AreBlocks self.now.held blocks.number blocks.rows.items
             × (blocks.number ≡ number)) }
@@ -94,9 +95,9 @@ impl<'a> Network<'a> {
         Ok(Blocks { number, rows })
     }
 
-    /// Returns, for each end port in order, the end of the packet that it sends for `lid`, or `None` if the packet
-    /// loops forever. The result also says which of these packets are delivered at `port`. `blocks` must be the held
-    /// blocks of this network that have the entries for `lid`.
+    /// Returns, for each end port, in the order of the end ports, the end of the packet that it sends for `lid`, or
+    /// `None` if the packet loops forever. The result also says which of these packets are delivered at `port`.
+    /// `blocks` must be the held blocks of this network that have the entries for `lid`.
     pub(crate) fn ends(
         &self,
         alloc: Global,
@@ -123,8 +124,8 @@ impl<'a> Network<'a> {
         )
     }
 
-    /// Returns, for each usable switch in ascending order of GUID, its effective entry for `lid` and its next hop by
-    /// this entry. `blocks` must be the held blocks of this network that have the entries for `lid`.
+    /// Returns, for each usable switch in ascending order of GUID, its effective entry for `lid` and its next hop
+    /// according to this entry. `blocks` must be the held blocks of this network that have the entries for `lid`.
     pub(crate) fn switch_steps(
         &self,
         alloc: Global,
@@ -156,9 +157,9 @@ impl<'a> Network<'a> {
         entries(alloc, &self.nodes, &blocks.rows, lid)
     }
 
-    /// Returns the LIDs of the block of `blocks` for which the following holds: exactly one end port holds the LID,
-    /// and packets for the LID reach this end port from every usable switch. Can miss such LIDs if a walk has over 64
-    /// switches. `blocks` must be held blocks of this network.
+    /// Returns the LIDs of the block of `blocks` that exactly one end port holds and whose packets reach this end
+    /// port from every usable switch. Can miss such LIDs if a walk has more than 64 switches. `blocks` must be held
+    /// blocks of this network.
     pub(crate) fn deliveries(
         &self,
         alloc: Global,
@@ -289,7 +290,7 @@ impl<'a> Network<'a> {
         self.subnet.far(number)
     }
 
-    /// Returns the end ports as senders, in their order.
+    /// Returns the end ports as senders, in the order of `Subnet::end_ports`.
     pub fn sources(&self) -> &[Sender]
         ensures { result.now ≡ map (sender_of (cells_of self.now.facts)) (end_ports (cells_of self.now.facts)) }
     {

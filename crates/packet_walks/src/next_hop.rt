@@ -9,7 +9,8 @@ pub enum NextHop {
     Ends(End),
 }
 
-/// The entry of a usable switch for a LID, and what becomes of packets for the LID at the switch by this entry.
+/// The entry of a usable switch for a LID, and what becomes of packets for the LID at the switch according to this
+/// entry.
 #[derive(Clone, Copy, Debug, PartialEq, Eq)]
 pub struct SwitchStep {
     pub switch: Guid,

@@ -1,5 +1,5 @@
 pub mod Listing
 pub mod Pages
-pub mod Rest
+pub mod Iter
 pub mod Split
 pub mod Starts

@@ -1,8 +1,8 @@
 ghost use Rattle.std.specs.Iterator.{YieldsFirst, item_count};
 ghost use Rattle.page_list.specs.Pages.{items_of};
-ghost use Rattle.page_list.specs.Rest.{rest_of};
+ghost use Rattle.page_list.specs.Iter.{rest_of};
 
-/// An iterator over the items of a list, in order.
+/// An iterator over the items of a list, from the first to the last.
 #[derive(Drop)]
 pub struct Iter<'a, T> {
     /// The remaining items of the current page.

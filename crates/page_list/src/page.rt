@@ -21,9 +21,9 @@ pub(crate) fn insert_within<T>(page: &mut Vec<T>, index: usize, item: T)
     }
 }
 
-/// Moves the second half of the full page `page` to the empty page `tail`, and inserts `item` at `index`, counted over
-/// both pages. Returns the number of items that `page` has then. `index` must be at most `PAGE`. Each of the two pages
-/// must have room for `PAGE` items.
+/// Moves the second half of the full page `page` to the empty page `tail`, and inserts `item` at `index`, counted
+/// across both pages. Returns the number of items that `page` has then. `index` must be at most `PAGE`. Each of the
+/// two pages must have room for `PAGE` items.
 pub(crate) fn insert_halved<T: Copy>(
     page: &mut Vec<T>,
     tail: &mut Vec<T>,
@@ -55,8 +55,9 @@ pub(crate) fn insert_halved<T: Copy>(
     page.len()
 }
 
-/// Adds empty pages, each with room for `PAGE` items, to `spare` until `spare` has at least `n` pages. If memory runs
-/// out, returns an error and keeps the pages that were added.
+/// Adds empty pages, each with room for `PAGE` items, to `spare` until `spare` has at least `n` pages. `spare` must
+/// have only empty pages with room for `PAGE` items. If memory runs out, returns an error and keeps the pages that
+/// were added.
 pub(crate) fn fill<T: Copy>(
     spare: &mut Vec<Vec<T>>,
     alloc: Global,

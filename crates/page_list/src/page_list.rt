@@ -1,6 +1,6 @@
 ghost use Rattle.std.specs.Prelude.{◌≡◌, ◌+◌, ◌^◌, ◌<◌, ◌≤◌, [], ◌∷◌, ◌++◌, OnOk, OnErr, IfOk, IfSome, length};
 ghost use Rattle.std.specs.Prelude.{option_copied, slice_get, slice_set, take, drop, insert};
-ghost use Rattle.page_list.specs.Rest.{rest_of};
+ghost use Rattle.page_list.specs.Iter.{rest_of};
 ghost use Rattle.page_list.specs.Listing.{Listing};
 
 use crate::iter::Iter;
@@ -14,7 +14,7 @@ use std::marker::Model;
 /// is room.
 #[derive(Drop)]
 pub struct PageList<T> {
-    /// The pages that have the items, in order.
+    /// The pages that have the items, in the order of the list.
     pub(crate) pages: Vec<Vec<T>>,
     /// The index of each page's first item.
     pub(crate) starts: Starts,
@@ -96,7 +96,7 @@ impl<T: Copy> PageList<T> {
         if index < self.len { Some(index) } else { None }
     }
 
-    /// Returns an iterator over the items in order.
+    /// Returns an iterator over the items, from the first to the last.
     pub fn iter(&self) -> Iter<'_, T>
         ensures items { rest_of result ≡ self.now.items }
         ensures countable { length self.now.items < 2 ^ 64 }

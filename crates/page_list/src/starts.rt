@@ -10,8 +10,8 @@ use std::marker::Model;
 /// The number of indices in a group.
 const GROUP: usize = 64;
 
-/// The indices of the pages' first items, in order, in groups of 64. Incrementing all indices from some page on changes
-/// only the indices of that page's group and one number for each later group.
+/// The index of each page's first item, from the first page to the last, in groups of 64. Incrementing the indices of
+/// a page and of all later pages changes only the indices of that page's group and one number for each later group.
 #[derive(Drop)]
 pub(crate) struct Starts {
     /// The index of each page's first item, less the number that `added` has for the page's group.
@@ -62,8 +62,8 @@ impl Starts {
         self.starts[page] + self.added[page / GROUP]
     }
 
-    /// Adds 1 to each index from page `from` on. All sums must fit in 64 bits. Changes at most the indices of one
-    /// group, and one number for each later group.
+    /// Adds 1 to the indices of page `from` and of all later pages. Each index of the list must be at most 2^64 - 2.
+    /// Changes at most the indices of one group, and one number for each later group.
     pub(crate) fn shift(&mut self, from: usize)
         requires fits { All (λ start. start + 1 < 2 ^ 64) self.old.items }
         ensures items { self.new.items

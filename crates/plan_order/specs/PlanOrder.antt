@@ -5,10 +5,10 @@ use Rattle.subnet_view.specs.SwitchEdges.{SwitchEdges}
 use Rattle.subnet_view.specs.Graph.{graph_of, guids_of}
 use Rattle.updown_routes.specs.Ranks.{is_before, rank_of}
 use Rattle.spread_labels.specs.Orders.{position_of}
-use Rattle.lft_blocks.specs.Rules.{RuleValue, order_of, spread_in, up_and_down}
+use Rattle.lft_blocks.specs.Rule.{RuleValue, order_of, spread_in, up_and_down}
 
--- the position of switch `b` in order of rank: the number of switches that have a lesser rank, or an equal rank and a
--- lesser GUID
+-- the position of switch `b` in the order by rank: the number of switches that have a lesser rank, or an equal rank
+-- and a lesser GUID
 abbrev pub rank_position : List SwitchEdges → ℕ → ℕ
 rank_position graph b = count_by (λ a. is_before graph a b) (guids_of graph)
 

@@ -2,8 +2,8 @@
 ghost use Rattle.std.specs.Prelude.{◌≡◌, IfOk, map};
 ghost use Rattle.fact_store.specs.View.{cells_of};
 ghost use Rattle.spread_labels.specs.Orders.{position_of};
-ghost use Rattle.lft_blocks.specs.Rules.{order_of, spread_in, up_and_down, value_of};
-ghost use Rattle.spread_routes.specs.SwitchOrders.{order_value_of};
+ghost use Rattle.lft_blocks.specs.Rule.{order_of, spread_in, up_and_down, value_of};
+ghost use Rattle.spread_routes.specs.SwitchOrder.{order_value_of};
 ghost use Rattle.plan_order.specs.PlanOrder.{positions_by};
 
 use crate::rank_positions::rank_positions;
@@ -16,7 +16,8 @@ use subnet_view::{SwitchGraph, Wires};
 use updown_routes::Graph;
 
 /// Returns the position of each usable switch of `store`, in ascending order of GUID, in the order that `rule` plans
-/// by. Up/down routing orders switches by rank and then by GUID. A rule that spreads has its own order.
+/// by. Up/down routing orders switches by rank and then by GUID. A rule that spreads has its own order. Returns an
+/// error if memory runs out.
 pub fn plan_positions(alloc: Global, store: &Store, rule: &Rule) -> Result<Vec<usize>, Refused>
     ensures { IfOk result (λ positions.
         positions.items ≡ positions_by (value_of rule.now) (cells_of store.now)) }
@@ -28,7 +29,7 @@ pub fn plan_positions(alloc: Global, store: &Store, rule: &Rule) -> Result<Vec<u
     }
 }
 
-/// Returns the position of each usable switch, in ascending order of GUID, in order of rank and then of GUID.
+/// Returns the position of each usable switch, in ascending order of GUID, in the order by rank and then by GUID.
 fn by_rank(alloc: Global, wires: &Wires) -> Result<Vec<usize>, Refused>
     ensures { IfOk result (λ positions.
         positions.items ≡ positions_by up_and_down (cells_of wires.now)) }

@@ -7,8 +7,9 @@ use smp_bytes::Guid;
 use std::alloc::{AllocError, Global};
 use updown_routes::Graph;
 
-/// Returns, for each switch in ascending order of GUID, how many switches come before it, in order of rank and then
-/// of GUID. A missing rank counts as 0. Besides looking up the ranks, takes time quadratic in the number of switches.
+/// Returns, for each switch in ascending order of GUID, how many switches come before it in the order by rank and
+/// then by GUID. A missing rank counts as 0. Besides looking up the ranks, takes time quadratic in the number of
+/// switches.
 pub(crate) fn rank_positions(alloc: Global, graph: &Graph) -> Result<Vec<usize>, AllocError>
     ensures { IfOk result (λ positions.
         positions.items ≡ map (rank_position graph.now) (guids_of graph.now)) }

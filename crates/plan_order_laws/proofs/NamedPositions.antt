@@ -4,10 +4,10 @@ use Rattle.subnet_view.specs.SwitchEdges.{SwitchEdges}
 use Rattle.subnet_view.specs.Graph.{guids_of}
 use Rattle.subnet_view.specs.GraphLaws.{IsGraph, IsSwitch}
 use Rattle.spread_labels.specs.Orders.{position_of}
-use Rattle.spread_labels.specs.declared.vertex_key.VertexKey.{VertexKey}
+use Rattle.spread_labels.specs.declared.key_order.VertexKey.{VertexKey}
 use Rattle.spread_routes.specs.Rule.{order_by_keys, position}
 use Rattle.spread_routes.specs.Spread.{keys_by, switches_in_order}
-use Rattle.spread_routes.specs.SwitchOrders.{OrderValue, switches_by_keys}
+use Rattle.spread_routes.specs.SwitchOrder.{OrderValue, switches_by_keys}
 use Rattle.spread_routes.proofs.Indices.{as_many, index_within, switch_of_index}
 use Rattle.spread_routes.proofs.OrderLaws.{below, same_number}
 

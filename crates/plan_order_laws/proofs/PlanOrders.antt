@@ -19,9 +19,9 @@ use Rattle.subnet_view.proofs.Graphs.{graph_law, wire_is_edge}
 use Rattle.subnet_view.proofs.GraphSwitches.{graph_guids, switch_usable}
 use Rattle.spread_labels.specs.Orders.{grown_behind, next_placed, numbers_from, without}
 use Rattle.spread_labels.specs.KeyOrder.{before_by}
-use Rattle.spread_labels.specs.declared.vertex_key.VertexKey.{VertexKey}
+use Rattle.spread_labels.specs.declared.key_order.VertexKey.{VertexKey}
 use Rattle.spread_routes.specs.Rule.{by_index, position, switch_there}
-use Rattle.spread_routes.specs.SwitchOrders.{OrderValue}
+use Rattle.spread_routes.specs.SwitchOrder.{OrderValue}
 use Rattle.spread_routes.proofs.Indices.{as_many, distinct}
 use Rattle.spread_routes.proofs.Names.{all_positioned, position_within, switch_at_position}
 use Rattle.updown_routes.specs.Ranks.{is_before}

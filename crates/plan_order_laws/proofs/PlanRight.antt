@@ -10,11 +10,11 @@ use Rattle.subnet_view.specs.Wires.{across}
 use Rattle.subnet_view.specs.Graph.{graph_of}
 use Rattle.subnet_view.specs.Routing.{Routing}
 use Rattle.lid_assign.specs.Lids.{greatest, lids, top_of, IsNoRoom}
-use Rattle.lft_blocks.specs.Rules.{routing_by, spread_in}
+use Rattle.lft_blocks.specs.Rule.{routing_by, spread_in}
 use Rattle.lft_blocks.specs.Plan.{plan_of, lid_routing}
 use Rattle.held_tables.specs.PlanTables.{held_plan}
-use Rattle.spread_labels.specs.declared.vertex_key.VertexKey.{VertexKey}
-use Rattle.spread_routes.specs.SwitchOrders.{OrderValue}
+use Rattle.spread_labels.specs.declared.key_order.VertexKey.{VertexKey}
+use Rattle.spread_routes.specs.SwitchOrder.{OrderValue}
 use Rattle.held_tables.specs.Held.{HeldPlan, nothing_held}
 use Rattle.spread_routes.specs.Adapters.{adapters_of}
 use Rattle.spread_routes.specs.Rule.{position, by_positions}

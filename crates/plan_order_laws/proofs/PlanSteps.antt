@@ -8,9 +8,9 @@ use Rattle.subnet_view.proofs.Graphs.{graph_law}
 use Rattle.subnet_view.proofs.GraphSwitches.{graph_guids}
 use Rattle.spread_labels.specs.Orders.{position_of}
 use Rattle.spread_routes.specs.Adapters.{adapters_of}
-use Rattle.spread_routes.specs.SwitchOrders.{OrderValue}
+use Rattle.spread_routes.specs.SwitchOrder.{OrderValue}
 use Rattle.lft_blocks.specs.Plan.{plan_of}
-use Rattle.lft_blocks.specs.Rules.{order_of, spread_in, up_and_down}
+use Rattle.lft_blocks.specs.Rule.{order_of, spread_in, up_and_down}
 use Rattle.plan_order.specs.PlanOrder.{rank_position}
 use Rattle.held_tables.specs.Held.{HeldPlan}
 use Rattle.held_tables.specs.PlanTables.{held_plan}

@@ -5,7 +5,7 @@ use Rattle.std.specs.Option.{option_map_or}
 use Rattle.std.proofs.lemmas.Bool.{eqb-true}
 use Rattle.fact_store.specs.View.{Facts, cells_of, AreInRange}
 use Rattle.port_graph.specs.declared.edge.Edge.{Edge}
-use Rattle.subnet_view.specs.EndPorts.{end_ports}
+use Rattle.subnet_view.specs.EndPort.{end_ports}
 use Rattle.subnet_view.specs.Reading.{Cells, switches}
 use Rattle.subnet_view.specs.SwitchEdges.{SwitchEdges}
 use Rattle.subnet_view.specs.Graph.{graph_of, edges_at as wires_at}
@@ -18,7 +18,7 @@ use Rattle.subnet_view.proofs.Graphs.{graph_law}
 use Rattle.subnet_view.proofs.Members.{contains_none}
 use Rattle.lid_assign.specs.Lids.{IsNoRoom, lids, owner_of, top_of}
 use Rattle.lft_blocks.specs.Entries.{attachment_of, port_to}
-use Rattle.lft_blocks.specs.Rules.{RuleValue}
+use Rattle.lft_blocks.specs.Rule.{RuleValue}
 use Rattle.lft_blocks.proofs.RulesRoute.{lids_are_routed}
 use Rattle.held_tables.specs.declared.held.HeldLid.{HeldLid}
 use Rattle.held_tables.specs.Held.{HeldPlan, nothing_held}

@@ -15,7 +15,7 @@ use Rattle.subnet_view.proofs.Components.{walk_joins, joined, component_symm, co
 use Rattle.subnet_view.proofs.EdgeLists.{has_end}
 use Rattle.subnet_view.proofs.Graphs.{graph_law, wire_is_edge}
 use Rattle.subnet_view.proofs.GraphSwitches.{graph_guids, switch_usable}
-use Rattle.lft_blocks.specs.Rules.{up_and_down}
+use Rattle.lft_blocks.specs.Rule.{up_and_down}
 use Rattle.lft_blocks.specs.Plan.{plan_of}
 use Rattle.held_tables.specs.Held.{HeldPlan}
 use Rattle.held_tables.specs.PlanTables.{held_plan}

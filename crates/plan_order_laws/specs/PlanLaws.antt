@@ -2,11 +2,11 @@
 -- in the plan.
 use Rattle.std.specs.Prelude.{◌≡◌, ◌≤◌, ◌<◌, ◌*◌, ℕ, suc, Contains, Some, length, slice_get}
 use Rattle.fact_store.specs.View.{Facts, cells_of, AreInRange}
-use Rattle.subnet_view.specs.EndPorts.{end_ports}
+use Rattle.subnet_view.specs.EndPort.{end_ports}
 use Rattle.subnet_view.specs.Reading.{Cells, switches}
 use Rattle.lid_assign.specs.Lids.{IsNoRoom}
 use Rattle.lft_blocks.specs.Plan.{plan_of}
-use Rattle.lft_blocks.specs.Rules.{RuleValue, routing_by}
+use Rattle.lft_blocks.specs.Rule.{RuleValue, routing_by}
 use Rattle.plan_order.specs.PlanOrder.{positions_by}
 use Rattle.held_tables.specs.declared.held.HeldLid.{HeldLid}
 use Rattle.held_tables.specs.Held.{HeldPlan}
@@ -17,7 +17,7 @@ use Rattle.next_tables.specs.SwitchPositions.{AreApart, AreRight, IsOrder, IsWir
 use Rattle.next_tables.specs.Mixtures.{RiseInStep}
 use Rattle.ordered_steps.specs.OrderedStepLaws.{AreNextByOrder, DeliverFrom}
 
--- if facts are in range and have room, and their plan sends packets for a LID over two channels one after the other,
+-- if facts are in range and have room, and their plan sends packets for a LID along two channels one after the other,
 -- the rule's number of the second is greater than that of the first
 abbrev pub PlanTurnsRise : Type 0
 PlanTurnsRise =
@@ -46,8 +46,8 @@ PlanOrdersAreOrders =
     → IsOrder (cells_of facts) (plan_position rule (cells_of facts))
     × AreApart (cells_of facts) (plan_position rule (cells_of facts))
 
--- for the LID of an end port of the facts, if their plan delivers from a switch, it delivers from each usable switch
--- with a wire to that one. The facts must be in range and have room
+-- suppose facts are in range and have room. For a LID that their plan gives to one of their end ports, if the plan
+-- delivers from a switch, the plan delivers from each usable switch with a wire to that one
 abbrev pub PlansCover : Type 0
 PlansCover =
     (rule : RuleValue) (lmc : ℕ) (facts : Facts) → AreInRange facts → ¬ (IsNoRoom lmc (cells_of facts))
@@ -57,8 +57,9 @@ PlansCover =
     → DeliverFrom (cells_of facts) (held_plan (plan_of rule lmc (cells_of facts))) line j
     → DeliverFrom (cells_of facts) (held_plan (plan_of rule lmc (cells_of facts))) line i
 
--- in a step towards the plan of facts, for all LIDs, the channels' numbers by the plan's positions rise, and the next
--- tables are right by these positions, if the held tables are right by them. The facts must be in range and have room
+-- suppose facts are in range and have room, and the held tables are right by the positions of the plan's rule. Then
+-- in a step towards the plan of these facts, for all LIDs, the channels' numbers by these positions rise, and the
+-- next tables are right by these positions
 abbrev pub StepsTowardsPlans : Type 0
 StepsTowardsPlans =
     (rule : RuleValue) (lmc : ℕ) (facts : Facts) → AreInRange facts → ¬ (IsNoRoom lmc (cells_of facts))
@@ -69,10 +70,10 @@ StepsTowardsPlans =
     → RiseInStep (cells_of facts) held next (numbers_by (cells_of facts) (plan_position rule (cells_of facts)))
     × ((lid : ℕ) → 1 ≤ lid → AreRight (cells_of facts) (plan_position rule (cells_of facts)) next lid)
 
--- in steps by the plan's order towards the plan of facts, after 2n or more steps, for n switches, each switch from
--- which the plan delivers to the end port of `line` has the plan's entry, and the tables deliver from this switch. The
--- first tables must be right by the plan's positions and have the plan's owners for the LID; the facts must be in
--- range and have room
+-- suppose facts are in range and have room, and for the LID of `line`, which is not 0, the first tables are right by
+-- the plan's positions and have the plan's owners. Then after 2n or more steps by the plan's order towards the plan
+-- of these facts, where n is the number of switches, each switch from which the plan delivers to the end port of
+-- `line` has the plan's entry, and the tables deliver from this switch
 abbrev pub StepsEndInPlans : Type 0
 StepsEndInPlans =
     (rule : RuleValue) (lmc : ℕ) (facts : Facts) → AreInRange facts → ¬ (IsNoRoom lmc (cells_of facts))

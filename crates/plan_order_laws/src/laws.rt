@@ -2,13 +2,13 @@
 ghost use Rattle.plan_order_laws.specs.PlanLaws.{PlanOrdersAreOrders, PlanTurnsRise, PlansAreRight, PlansCover};
 ghost use Rattle.plan_order_laws.specs.PlanLaws.{StepsEndInPlans, StepsTowardsPlans};
 
-/// If the plan of a view with room sends packets for a LID over two channels one after the other, the rule's number of
-/// the second channel is greater than that of the first.
+/// If the plan of a view with room sends packets for a LID along two channels one after the other, the rule's number
+/// of the second channel is greater than that of the first.
 pub fn plan_turns_rise()
     ensures law { PlanTurnsRise }
 {}
 
-/// The plan of a view with room is right for every LID by the positions of its rule, by each rule and under each LMC.
+/// The plan of a view with room is right for every LID by the positions of its rule, under each rule and each LMC.
 pub fn plans_are_right()
     ensures law { PlansAreRight }
 {}
@@ -30,10 +30,10 @@ pub fn steps_towards_plans()
     ensures law { StepsTowardsPlans }
 {}
 
-/// After 2n or more steps by the plan's order towards the plan of a view with room, for n switches, each switch from
-/// which the plan delivers for a LID has the plan's entry, and the tables deliver from this switch, if two conditions
-/// hold: the first tables are right by the plan's order for the LID; and the LID has the same owners in the first
-/// tables as in the plan.
+/// If the first tables are right by the plan's order for a LID of the plan of a view with room, and the LID has the
+/// same owners in the first tables as in the plan, then after 2n or more steps by the plan's order towards the plan,
+/// where n is the number of switches, each switch from which the plan delivers for the LID has the plan's entry, and
+/// the tables deliver from this switch.
 pub fn steps_end_in_plans()
     ensures law { StepsEndInPlans }
 {}

@@ -14,14 +14,14 @@ use Rattle.lid_assign.specs.Lids.{IsNoRoom, count_up, end_of, is_lid, lids, risi
 use Rattle.lid_assign.proofs.FreeLids.{room_at_most}
 use Rattle.lid_assign.proofs.LidLaws.{lids_law}
 use Rattle.lid_assign.proofs.Tops.{top_below}
-use Rattle.lft_blocks.specs.Rules.{RuleValue}
+use Rattle.lft_blocks.specs.Rule.{RuleValue}
 use Rattle.lft_blocks.specs.Entries.{block_count}
 use Rattle.lft_blocks.specs.Plan.{SwitchTable, plan_of, switches_of}
 use Rattle.sweep.specs.Sweep.{Sweep}
 use Rattle.plan_steps.specs.Bound.{PhaseBoundLaw}
-use Rattle.plan_steps.specs.LidSets.{owner_step}
-use Rattle.plan_steps.specs.States.{state_step, state_steps, wired_port, wired_ports}
-use Rattle.plan_steps.specs.TableSets.{block_step, switch_steps, top_step, top_steps}
+use Rattle.plan_steps.specs.LidSteps.{owner_step}
+use Rattle.plan_steps.specs.StateSteps.{state_step, state_steps, wired_port, wired_ports}
+use Rattle.plan_steps.specs.BlockSteps.{block_step, switch_steps, top_step, top_steps}
 
 -- lists ------------------------------------------------------------------------------------------
 

@@ -10,12 +10,12 @@ use Rattle.fact_store.specs.View.{cells_of}
 use Rattle.subnet_view.specs.declared.end_port.EndPort.{EndPort}
 use Rattle.reply_facts.specs.Known.{port_guid_of}
 use Rattle.subnet_view.specs.Reading.{Cells}
-use Rattle.subnet_view.specs.EndPorts.{comes_before, ComesBefore}
+use Rattle.subnet_view.specs.EndPort.{comes_before, ComesBefore}
 use Rattle.subnet_view.proofs.EndPortList.{end_ports_law}
 use Rattle.subnet_view.proofs.Members.{contains_here, contains_later, contains_cases, contains_none}
 use Rattle.lid_assign.specs.Lids.{lids}
 use Rattle.lid_assign.proofs.LidLaws.{ports-lids}
-use Rattle.plan_steps.specs.LidSets.{is_own_port, own_lid, IsOwnPort, IsOwnLidOr0, OwnLidLaw}
+use Rattle.plan_steps.specs.LidSteps.{is_own_port, own_lid, IsOwnPort, IsOwnLidOr0, OwnLidLaw}
 
 -- the order of end ports of one GUID and number ----------------------------------------------
 

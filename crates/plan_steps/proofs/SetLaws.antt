@@ -25,11 +25,11 @@ use Rattle.plan_steps.specs.declared.step.Step.{Step}
 use Rattle.attr_codec.proofs.PortStates.{state_small}
 use Rattle.plan_steps.specs.Carried.{Change, carried_port, carried_switch, copied, link_local_prefix, or_default}
 use Rattle.plan_steps.specs.Carried.{port_changes, switch_changes, mtu_of, port_read}
-use Rattle.plan_steps.specs.LidSets.{port_data}
-use Rattle.plan_steps.specs.States.{is_due, state_data, vertex_port}
+use Rattle.plan_steps.specs.LidSteps.{port_data}
+use Rattle.plan_steps.specs.StateSteps.{is_due, state_data, vertex_port}
 use Rattle.plan_steps.specs.Step.{step_at}
 use Rattle.plan_steps.specs.SetLaws.{CarriesPort, CarriesSwitch, LidAndStateAgree, SaysPort, SaysTop, SetsChangeNothingElse, SetsSayThePlan}
-use Rattle.plan_steps.specs.TableSets.{top_data}
+use Rattle.plan_steps.specs.BlockSteps.{top_data}
 use Rattle.plan_steps.proofs.Changed.{AllFit, Fits, bits_in-changed, bits_in-changed_apart, bits_in-with_number, number_in-changed_apart, whole-changed}
 use Rattle.plan_steps.proofs.Whole.{IsWhole, copied_is, copied_whole, whole-with_bits, whole-with_number, whole_zeros}
 use Rattle.plan_steps.specs.declared.carried.PortRead.{PortRead}

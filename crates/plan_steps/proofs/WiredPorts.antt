@@ -23,7 +23,7 @@ use Rattle.subnet_view.proofs.EndPorts.{true_from}
 use Rattle.subnet_view.proofs.Members.{contains_none, contains_cases}
 use Rattle.subnet_view.proofs.Taken.{taken_from, is_taken, found_in, all_from}
 use Rattle.sweep.specs.Order.{is_before}
-use Rattle.plan_steps.specs.States.{wired_port, wired_ports, WiredPortsLaw}
+use Rattle.plan_steps.specs.StateSteps.{wired_port, wired_ports, WiredPortsLaw}
 
 -- each comes from its own key -------------------------------------------------------------
 

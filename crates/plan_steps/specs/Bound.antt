@@ -4,10 +4,10 @@ use Rattle.std.specs.List.{AllByRecursion}
 use Rattle.fact_store.specs.View.{Facts, cells_of}
 use Rattle.subnet_view.specs.Reading.{Cells, switches}
 use Rattle.lid_assign.specs.Lids.{IsNoRoom}
-use Rattle.lft_blocks.specs.Rules.{RuleValue}
+use Rattle.lft_blocks.specs.Rule.{RuleValue}
 use Rattle.lft_blocks.specs.Plan.{plan_of}
 use Rattle.sweep.specs.Sweep.{Sweep}
-use Rattle.plan_steps.specs.Phases.{phases_by}
+use Rattle.plan_steps.specs.Phase.{phases_by}
 
 -- a bound on the steps of a phase: one step for each number below 0xC000, one for each block of these numbers at each
 -- usable switch, and one for each cell

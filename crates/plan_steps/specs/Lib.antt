@@ -1,8 +1,8 @@
 pub mod Step
 pub mod Carried
-pub mod LidSets
-pub mod TableSets
-pub mod States
-pub mod Phases
+pub mod LidSteps
+pub mod BlockSteps
+pub mod StateSteps
+pub mod Phase
 pub mod Bound
 pub mod SetLaws

@@ -13,9 +13,9 @@ use Rattle.sweep.specs.Sweep.{Sweep}
 use Rattle.plan_steps.specs.declared.step.Step.{Step}
 use Rattle.plan_steps.specs.declared.carried.PortRead.{PortRead}
 use Rattle.plan_steps.specs.Carried.{Change, link_local_prefix, or_default, port_changes, switch_changes}
-use Rattle.plan_steps.specs.LidSets.{lid_step, port_data}
-use Rattle.plan_steps.specs.States.{state_step}
-use Rattle.plan_steps.specs.TableSets.{top_data}
+use Rattle.plan_steps.specs.LidSteps.{lid_step, port_data}
+use Rattle.plan_steps.specs.StateSteps.{state_step}
+use Rattle.plan_steps.specs.BlockSteps.{top_data}
 
 -- what the plan asks for ---------------------------------------------------------------------------
 
@@ -32,7 +32,7 @@ pub record SaysTop (top : ℕ) (payload : List ℕ) : Type 0 where
   pub whole : length payload ≡ 64
   pub top_is : number_in linear_fdb_top payload ≡ top
 
--- whatever was read, a Set says what the plan asks for, if the LIDs, the LMC and the top fit in their fields
+-- if the LIDs, the LMC and the top fit in their fields, a Set says what the plan asks for, whatever was read
 pub record SetsSayThePlan : Type 0 where
   pub port : (read : Option PortRead) (range : ℕ × ℕ) (master : ℕ) (state : PortState)
       → range.0 < 2 ^ 16 → range.1 < 8 → master < 2 ^ 16

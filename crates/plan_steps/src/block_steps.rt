@@ -1,6 +1,6 @@
 ghost use Rattle.std.specs.Prelude.{◌≡◌, ◌++◌, ◌<◌, IfOk, OnOk};
-ghost use Rattle.plan_steps.specs.TableSets.{block_step, block_steps, switch_steps};
-ghost use Rattle.plan_steps.specs.TableSets.{top_data, top_step, top_steps};
+ghost use Rattle.plan_steps.specs.BlockSteps.{block_step, block_steps, switch_steps};
+ghost use Rattle.plan_steps.specs.BlockSteps.{top_data, top_step, top_steps};
 ghost use Rattle.std.specs.List.{filter_map};
 ghost use Rattle.lft_blocks.specs.Plan.{switches_of};
 

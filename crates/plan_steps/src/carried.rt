@@ -40,8 +40,8 @@ pub struct PortRead {
     pub far: Option<PortInfo>,
 }
 
-/// Returns the PortInfo that was read of `port` of the node `guid` and, if the port is on a wire, of the far end.
-/// Returns `None` if the port's own PortInfo is not kept.
+/// Returns the PortInfo that was read from `port` of the node `guid`, and that of the far end, if the port is on a
+/// wire and the far end's PortInfo is kept. Returns `None` if the port's own PortInfo is not kept.
 pub(crate) fn port_read(store: &Store, sweep: &Sweep, guid: Guid, port: PortNum) -> Option<PortRead>
     ensures { result ≡ port_read (cells_of store.now) sweep.now guid port }
 {
@@ -96,8 +96,8 @@ fn carried_port_of(own: &[u8; 64], far: Option<PortInfo>) -> [u8; 64]
     bytes
 }
 
-/// Returns the lesser of the MTUCaps in `own` and `far`, if `far` is not `None` and neither is 0. Otherwise returns
-/// the NeighborMTU in `own`.
+/// Returns the lesser of the MTUCaps in `own` and `far`, if `far` is not `None` and neither MTUCap is 0. Otherwise
+/// returns the NeighborMTU in `own`.
 fn mtu_of(own: &[u8; 64], far: Option<PortInfo>) -> u8
     ensures value { result ≡ mtu_of own.now far }
     ensures fits { result < 16 }

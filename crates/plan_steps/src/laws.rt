@@ -1,8 +1,8 @@
 //! Laws of the steps of a plan.
 ghost use Rattle.plan_steps.specs.Bound.{PhaseBoundLaw};
-ghost use Rattle.plan_steps.specs.LidSets.{OwnLidLaw};
+ghost use Rattle.plan_steps.specs.LidSteps.{OwnLidLaw};
 ghost use Rattle.plan_steps.specs.SetLaws.{LidAndStateAgree, SetsChangeNothingElse, SetsSayThePlan};
-ghost use Rattle.plan_steps.specs.States.{WiredPortsLaw};
+ghost use Rattle.plan_steps.specs.StateSteps.{WiredPortsLaw};
 
 /// If every end port finds a LID, the manager's LID is that of the end port with the manager's port GUID and port
 /// number, or 0 if there is no such end port. If several have them, it is that of the one with the least node GUID.
@@ -22,9 +22,9 @@ pub fn phases_are_bounded()
     ensures { PhaseBoundLaw }
 {}
 
-/// Whatever was read of a port or a switch, a Set contains the values that the plan asks for, if they fit in their
-/// fields. For a port, these are the LID, the LMC, the manager's LID and the state. For a switch, it is the greatest
-/// LID.
+/// If the values that the plan asks for fit in their fields, a Set contains them, whatever was read of the port or
+/// the switch. For a port, these are the LID, the LMC, the manager's LID and the state. For a switch, it is the
+/// greatest LID.
 pub fn sets_say_the_plan()
     ensures { SetsSayThePlan }
 {}

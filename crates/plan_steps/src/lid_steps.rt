@@ -1,7 +1,7 @@
 ghost use Rattle.std.specs.Prelude.{◌≡◌, IfOk};
 ghost use Rattle.fact_store.specs.View.{cells_of};
-ghost use Rattle.plan_steps.specs.LidSets.{is_own_port, own_lid, port_data};
-ghost use Rattle.plan_steps.specs.LidSets.{lid_step, lid_steps, owner_step};
+ghost use Rattle.plan_steps.specs.LidSteps.{is_own_port, own_lid, port_data};
+ghost use Rattle.plan_steps.specs.LidSteps.{lid_step, lid_steps, owner_step};
 
 use crate::carried::{PortRead, carried_port, port_read};
 use crate::step::{Step, step_at};

@@ -1,6 +1,6 @@
 ghost use Rattle.std.specs.Prelude.{◌≡◌, IfOk};
 ghost use Rattle.fact_store.specs.View.{cells_of};
-ghost use Rattle.plan_steps.specs.Phases.{phases_by, phases_of};
+ghost use Rattle.plan_steps.specs.Phase.{phases_by, phases_of};
 
 use crate::block_steps::{block_steps, top_steps};
 use crate::lid_steps::{lid_steps, own_lid};
@@ -25,14 +25,14 @@ pub struct Phase {
 }
 
 impl Model for Phase {
-    ghost use Rattle.plan_steps.specs.Phases.{Phase};
+    ghost use Rattle.plan_steps.specs.Phase.{Phase};
 
     ghost Value = { Phase };
 
     ghost view = { λ a. record { counts = a.counts; steps = a.steps.items } };
 }
 
-/// Builds the phases in which a manager writes a plan over the paths of its last sweep: LIDs, forwarding blocks, the
+/// Builds the phases in which a manager writes a plan along the paths of its last sweep: LIDs, forwarding blocks, the
 /// greatest LID at each switch, and then the states of ports on wires, first Armed and then Active (subnet
 /// management, initialization). The manager is at the port with the number `port` and the GUID `port_guid`. Leaves
 /// out agents that the sweep did not reach.

@@ -3,8 +3,8 @@ ghost use Rattle.std.specs.List.{filter_map};
 ghost use Rattle.std.specs.Option.{option_map_or};
 ghost use Rattle.fact_store.specs.View.{cells_of};
 ghost use Rattle.sweep.specs.Sweep.{seen_state};
-ghost use Rattle.plan_steps.specs.States.{is_due, state_data, state_step, vertex_port};
-ghost use Rattle.plan_steps.specs.States.{wired_port, wired_ports};
+ghost use Rattle.plan_steps.specs.StateSteps.{is_due, state_data, state_step, vertex_port};
+ghost use Rattle.plan_steps.specs.StateSteps.{wired_port, wired_ports};
 
 use crate::carried::{PortRead, port_read};
 use crate::lid_steps::port_data;
@@ -30,8 +30,7 @@ pub(crate) fn wired_ports(alloc: Global, store: &Store) -> Result<Vec<(Guid, Por
     Ok(ports)
 }
 
-/// Returns the port that `sighting` is about, or `None` if `sighting` is not about the link of a port, or if that
-/// port is not on a wire.
+/// If `sighting` is about the link of a port, and this port is on a wire, returns the port. Otherwise returns `None`.
 fn wired_port(store: &Store, sighting: &Sighting) -> Option<(Guid, PortNum)>
     ensures { result ≡ wired_port (cells_of store.now) sighting.now }
 {
@@ -47,9 +46,9 @@ fn wired_port(store: &Store, sighting: &Sighting) -> Option<(Guid, PortNum)>
     }
 }
 
-/// Builds a step for each of `ports`, in their order, that sets `state` there. Leaves out a port that the sweep did
-/// not see in Initialize or, if `state` is Active, in Armed. Also leaves out a port whose vertex the sweep did not
-/// reach. Builds no step if `state` is neither Armed nor Active.
+/// Builds a step for each of `ports`, in the order of `ports`, that sets `state` there. Leaves out a port that the
+/// sweep did not see in Initialize or, if `state` is Active, in Armed. Also leaves out a port whose vertex the sweep
+/// did not reach. Builds no step if `state` is neither Armed nor Active.
 #[tactic(auto, using(crate::proofs::Walked::walked_some, crate::proofs::Walked::walked_none))]
 pub(crate) fn state_steps(
     alloc: Global,

@@ -4,7 +4,7 @@ ghost use Rattle.plan_steps.specs.Step.{set_packet, step_at};
 use smp_bytes::{AttributeId, Guid, Method, Path, PortNum, Smp};
 use sweep::Sweep;
 
-/// An attribute to be set at an agent over a directed route (subnet management, SubnSet).
+/// An attribute to be set at an agent along a directed route (subnet management, SubnSet).
 #[derive(Debug, Drop)]
 pub struct Step {
     /// The path to the agent.
@@ -33,7 +33,7 @@ impl Step {
     }
 }
 
-/// Builds the step that sets `payload` as the attribute over the path that first reached the vertex of the node
+/// Builds the step that sets `payload` as the attribute along the path that first reached the vertex of the node
 /// `guid` with the port `vertex`. This port is 0 for a switch. Returns `None` if the sweep did not reach the vertex.
 pub(crate) fn step_at(
     sweep: &Sweep,

@@ -8,7 +8,7 @@ use Rattle.smp_bytes.proofs.Members.{contains_here, contains_later}
 use Rattle.port_graph.specs.declared.edge.Edge.{Edge}
 use Rattle.port_graph.specs.Slopes.{next_port}
 use Rattle.port_graph.specs.NextPorts.{indexed, AreNextPorts}
-use Rattle.port_graph.specs.Lanes.{at, port_in, target_in, AreRouted}
+use Rattle.port_graph.specs.ByteLanes.{at, port_in, target_in, AreRouted}
 
 -- what was made of the items so far, with what is made of those to come, is made of all
 abbrev pub IsMapped : {X Y : Type 0} → (X → Y) → List X → List Y → ℕ → Type 0

@@ -15,15 +15,16 @@ heads edges a = map (λ e. e.to) (edges_at edges a)
 abbrev pub LeadToVertices : List (List Edge) → Type 0
 LeadToVertices edges = (a : ℕ) (e : Edge) → Contains (edges_at edges a) e → e.to < length edges
 
--- `distances` has, for each vertex, the length of a shortest walk to it from vertex `from`. None if no walk leads there
--- that has fewer edges than the graph has vertices
+-- `distances` has, for each vertex, the length of a shortest walk to it from vertex `from`. None if no walk that has
+-- fewer edges than the graph has vertices leads there
 pub record AreDistances (edges : List (List Edge)) (from : ℕ) (distances : List (Option ℕ)) : Type 0 where
   pub all : length distances ≡ length edges
   pub shortest : (a : ℕ) → a < length edges → slice_index_or distances a None
       ≡ shortest (heads edges) (length edges) from a
 
--- if all edges lead to vertices and `from` is a vertex, each number of `distances` (`AreDistances`) is the length of a
--- shortest walk from `from`. If it is None, no walk leads to that vertex
+-- suppose that all edges lead to vertices, that `from` is a vertex, and that `distances` are the distances from it
+-- (`AreDistances`). Then each distance is the length of a shortest walk from `from`, and no walk leads from `from` to
+-- a vertex whose distance is None
 abbrev pub DistancesLaw : Type 0
 DistancesLaw = (edges : List (List Edge)) (from : ℕ) (distances : List (Option ℕ)) → LeadToVertices edges → from
     < length edges → AreDistances edges from distances

@@ -1,5 +1,5 @@
+pub mod ByteLanes
 pub mod Heads
-pub mod Lanes
 pub mod NextPorts
 pub mod Routes
 pub mod Searches

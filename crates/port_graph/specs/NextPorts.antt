@@ -1,4 +1,4 @@
--- Slopes of vertices that are numbered from 0 on, and their costs and next ports.
+-- Slopes of vertices that are numbered from 0, and their costs and next ports.
 use Rattle.std.specs.Prelude.{◌≡◌, ◌<◌, ℕ, suc, List, [], ◌∷◌, length, map, Contains, Option, None, Some, is_some}
 use Rattle.std.specs.Prelude.{option_map, slice_index_or, if◌then◌else◌}
 use Rattle.std.specs.List.{filter_map, find}
@@ -7,7 +7,7 @@ use Rattle.port_graph.specs.Heads.{edges_at, heads}
 use Rattle.port_graph.specs.Slopes.{Slope, least_of, same_number, cost, next_port}
 use Rattle.port_graph.specs.Routes.{Way}
 
--- the slopes of vertices that are numbered from `first` on, with the edges up `ups` and the edges down `downs`. There
+-- the slopes of vertices whose numbers start at `first`, with the edges up `ups` and the edges down `downs`. There
 -- are as many slopes as the shorter of the two lists has items
 abbrev pub indexed_from : ℕ → List (List Edge) → List (List Edge) → List Slope
 indexed_from first [] downs = []
@@ -15,7 +15,7 @@ indexed_from first (u ∷ ups) [] = []
 indexed_from first (u ∷ ups) (d ∷ downs) =
     record { guid = first; ups = u; downs = d } ∷ indexed_from (suc first) ups downs
 
--- the slopes of vertices numbered from 0 on, with the edges up `ups` and the edges down `downs`
+-- the slopes of vertices whose numbers start at 0, with the edges up `ups` and the edges down `downs`
 abbrev pub indexed : List (List Edge) → List (List Edge) → List Slope
 indexed ups downs = indexed_from 0 ups downs
 
@@ -74,8 +74,8 @@ pub record AreNextPorts (ups downs : List (List Edge)) (target : ℕ) (ports : L
 abbrev pub ports_between : List (List Edge) → List (List Edge) → List ℕ → List (List (Option ℕ))
 ports_between ups downs vertices = map (λ t. map (λ s. next_port (indexed ups downs) s t) vertices) vertices
 
--- if the edges are slopes (`AreSlopes`) and a vertex `s` has the cost `n` to a vertex `t`, next ports lead from `s` to
--- `t` over `n` edges, first up and then down
+-- if the edges are slopes (`AreSlopes`) and a vertex `s` has the cost `n` to a vertex `t`, next ports lead from `s`
+-- to `t` along `n` edges, first up and then down
 abbrev pub WaysLaw : Type 0
 WaysLaw = (ups downs : List (List Edge)) → AreSlopes ups downs → (s t n : ℕ) → t < length ups
     → cost (indexed ups downs) s t ≡ Some n → Way (indexed ups downs) s t n

@@ -68,8 +68,8 @@ CostsFall slopes t n [] = Unit {0}
 CostsFall slopes t zero (e ∷ es) = ⊥
 CostsFall slopes t (suc n) (e ∷ es) = (cost slopes e.to t ≡ Some n) × CostsFall slopes t n es
 
--- a way from `s` to `t` by next ports, first up and then down, over `n` wires. Each wire leads to a switch whose cost
--- is one less
+-- a way from `s` to `t` along next ports, first up and then down. It takes `n` wires, and each wire leads to a switch
+-- whose cost is one less
 pub record Way (slopes : List Slope) (s t n : ℕ) : Type 0 where
   pub ups : List Edge
   pub downs : List Edge

@@ -25,8 +25,8 @@ downs_at (s ∷ slopes) a = if s.guid == a then s.downs else downs_at slopes a
 abbrev pub below : List Slope → ℕ → List ℕ
 below slopes a = map (λ e. e.to) (downs_at slopes a)
 
--- the down distance from `s` to `t`: the length of a shortest walk down. None if no walk down leads there that has
--- fewer edges than there are switches
+-- the down distance from `s` to `t`: the length of a shortest walk down. None if no walk down that has fewer edges
+-- than there are switches leads there
 abbrev pub down_distance : List Slope → ℕ → ℕ → Option ℕ
 down_distance slopes s t = shortest (below slopes) (length slopes) s t
 
@@ -40,9 +40,9 @@ abbrev pub least_of : List ℕ → Option ℕ
 least_of [] = None
 least_of (n ∷ ns) = Some (lesser n (least_of ns))
 
--- the cost from `s` to `t` over at most a given number of wires up. It is the down distance, if there is one. Otherwise
--- it is one more than the least cost, with one wire up fewer, of the switches that wires up lead to. None if there is
--- no such cost
+-- the cost from `s` to `t` along at most a given number of wires up. It is the down distance, if there is one.
+-- Otherwise it is one more than the least cost, with one wire up fewer, of the switches that wires up lead to. None
+-- if there is no such cost
 abbrev pub cost_within : List Slope → ℕ → ℕ → ℕ → Option ℕ
 cost_within slopes zero s t = down_distance slopes s t
 cost_within slopes (suc climbs) s t = let down = down_distance slopes s t in

@@ -49,7 +49,7 @@ impl Adjacency {
         self.spans.len()
     }
 
-    /// Adds a vertex with `edges`, in their order. If memory runs out, returns an error, and nothing changes.
+    /// Adds a vertex with `edges`, in the order given. If memory runs out, returns an error, and nothing changes.
     pub fn push_vertex(&mut self, edges: &[Edge]) -> Result<(), AllocError>
         ensures added { OnOk result (self.new ≡ self.old ++ edges.now ∷ []) }
         ensures unchanged { OnErr result (self.new ≡ self.old) }
@@ -61,8 +61,8 @@ impl Adjacency {
         Ok(())
     }
 
-    /// Returns the edges of `vertex` in their order, or no edges if `vertex` is not a vertex of the graph. Takes
-    /// constant time.
+    /// Returns the edges of `vertex` in the order in which they were given, or no edges if `vertex` is not a vertex
+    /// of the graph. Takes constant time.
     pub fn at(&self, vertex: usize) -> &[Edge]
         ensures { result.now ≡ slice_index_or self.now vertex [] }
     {

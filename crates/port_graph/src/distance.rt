@@ -8,8 +8,8 @@ use std::alloc::{AllocError, Global};
 use std::collections::VecDeque;
 
 /// Returns for each vertex the length of a shortest walk from `from`, or `None` if no walk leads from `from` to the
-/// vertex. `from` must be a vertex, and all edges must lead to vertices. Searches breadth first, in time linear in the
-/// number of vertices and edges.
+/// vertex. `from` must be a vertex, and all edges must lead to vertices. Searches breadth first, in time linear in
+/// the number of vertices and edges. Returns an error if memory runs out.
 pub fn distances(
     alloc: Global,
     edges: &Adjacency,

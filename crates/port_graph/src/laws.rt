@@ -8,8 +8,8 @@ pub fn distances_law()
     ensures { DistancesLaw }
 {}
 
-/// If the edges are slopes (`AreSlopes`), next ports lead to the target from each vertex that has a cost to it, over as
-/// many edges as the cost. They lead first up and then down.
+/// If the edges are slopes (`AreSlopes`), next ports lead to the target from each vertex that has a cost to it, along
+/// as many edges as the cost. They lead first up and then down.
 pub fn ways_law()
     ensures { WaysLaw }
 {}

@@ -2,10 +2,10 @@
 #![tactic(auto)]
 
 mod adjacency;
+mod byte_lanes;
 mod cost;
 mod distance;
 mod edge;
-mod lanes;
 pub mod laws;
 mod next_port;
 mod side_by_side;

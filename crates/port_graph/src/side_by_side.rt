@@ -1,21 +1,21 @@
 ghost use Rattle.std.specs.Prelude.{◌≡◌, ◌==◌, ◌<◌, true, All, IfOk, MatchOption, length, map, slice_index};
 ghost use Rattle.std.specs.Prelude.{slice_index_or};
 ghost use Rattle.port_graph.specs.NextPorts.{AreSlopes, indexed, ports_between};
-ghost use Rattle.port_graph.specs.Lanes.{AnyLane, EachLane, AreRouted, IsBlock, IsStepDown, IsStepUp, at, nearest_by};
-ghost use Rattle.port_graph.specs.Lanes.{port_in, target_in};
+ghost use Rattle.port_graph.specs.ByteLanes.{AnyLane, EachLane, AreRouted, IsBlock, IsStepDown, IsStepUp, at, nearest_by};
+ghost use Rattle.port_graph.specs.ByteLanes.{port_in, target_in};
 ghost use Rattle.port_graph.specs.Slopes.{next_port};
 
 use crate::adjacency::Adjacency;
+use crate::byte_lanes::{Hops, LANES, fill_in, nearest, one_more, port_in, set_at_target};
 use crate::edge::Edge;
-use crate::lanes::{Hops, LANES, fill_in, nearest, one_more, port_in, set_at_target};
 use crate::next_port::next_ports;
 use smp_bytes::PortNum;
 use std::alloc::{AllocError, Global};
 
 /// Returns the next ports between `vertices`: row `i` has the next port of each of `vertices` towards `vertices[i]`.
-/// The edges must be slopes (`AreSlopes`), and each of `vertices` must be a vertex. Goes over all vertices and edges
-/// once down and once up for every 16 targets. If a number that this computes does not fit in a lane, also searches the
-/// graph for each of these 16 targets. Returns an error if memory runs out.
+/// The edges must be slopes (`AreSlopes`), and each of `vertices` must be a vertex. Visits all vertices and edges
+/// once down and once up for every 16 targets. If a number that this computes does not fit in a lane, also searches
+/// the graph for each of these 16 targets. Returns an error if memory runs out.
 pub fn next_ports_between(
     alloc: Global,
     ups: &Adjacency,
@@ -40,8 +40,8 @@ pub fn next_ports_between(
     Ok(rows)
 }
 
-/// Returns the targets of the lanes: `vertices` from index `first` on. `first` must be an index of `vertices`. A lane
-/// for which no vertex is left gets the last of `vertices`.
+/// Returns the targets of the lanes: `vertices[first]` and the vertices after it. `first` must be an index of
+/// `vertices`. A lane for which no vertex is left gets the last of `vertices`.
 fn targets_from(vertices: &[usize], first: usize) -> [usize; LANES]
     requires { first < length vertices.now }
     ensures { EachLane (λ k. slice_index result k ≡ target_in vertices.now first k) }
@@ -94,9 +94,9 @@ impl Block {
         self.is_routed = route_in_lanes(ups, downs, &targets, &mut self.numbers, &mut self.ports);
     }
 
-    /// Returns the next ports of `vertices` towards the target of `lane`. The block must be for this graph, `lane` must
-    /// be less than 16, its target must be a vertex, and so must each of `vertices`. Returns an error if memory runs
-    /// out.
+    /// Returns the next ports of `vertices` towards the target of `lane`. The edges must be slopes (`AreSlopes`), and
+    /// the block must be for these edges (`IsBlock`). `lane` must be less than 16. The target of `lane` must be a
+    /// vertex, and so must each of `vertices`. Returns an error if memory runs out.
     fn row(
         &self,
         alloc: Global,
@@ -178,9 +178,9 @@ fn route_in_lanes(
     true
 }
 
-/// Returns the down distances of `vertex` and its ports down, for each lane. `downs` are its edges down, and `numbers`
-/// must have the down distances of the vertices that these lead to. Returns `None` if the least of these is 254 in a
-/// lane, since one more is too great for a lane.
+/// Returns the down distances of `vertex` and its ports down, for each lane. `downs` are the edges down of `vertex`,
+/// and `numbers` must have the down distances of the vertices that `downs` lead to. A lane whose target is `vertex`
+/// gets 0. Returns `None` if the least of these distances is 254 in a lane, since one more is too great for a lane.
 fn down_from(
     downs: &[Edge],
     numbers: &[[u8; LANES]],
@@ -201,10 +201,10 @@ fn down_from(
     })
 }
 
-/// Returns the hops of a vertex with the edges up `ups`. A lane in which `down` has a down distance keeps this distance
-/// and its port. Any other lane gets one more than the least cost of the vertices that `ups` lead to. Its port is that
-/// of the first edge to a vertex of that cost. `numbers` must have the costs of these vertices. Returns `None` if the
-/// least of these is 254 in a lane, since one more is too great for a lane.
+/// Returns the hops of a vertex with the edges up `ups`. A lane in which `down` has a down distance keeps this
+/// distance and its port. Any other lane gets one more than the least cost of the vertices that `ups` lead to. Its
+/// port is that of the first edge to a vertex of that cost. `numbers` must have the costs of these vertices. Returns
+/// `None` if the least of these costs is 254 in a lane, since one more is too great for a lane.
 fn up_from(ups: &[Edge], numbers: &[[u8; LANES]], down: Hops) -> Option<Hops>
     requires { All (λ edge. edge.to < length numbers.now) ups.now }
     ensures { MatchOption result (AnyLane (λ k. (nearest_by (λ a. at numbers.now a k) ups.now).0 ≡ 254))
@@ -221,8 +221,8 @@ fn up_from(ups: &[Edge], numbers: &[[u8; LANES]], down: Hops) -> Option<Hops>
     Some(hops)
 }
 
-/// Returns the ports of `vertices` in `lane`. The port is `None` if the vertex is the target of the lane or has no
-/// route. `lane` must be less than 16, and `numbers` and `ports` must have an entry for each of `vertices`.
+/// Returns, for each of `vertices`, its port in `lane`, or `None` if the vertex is the lane's target or has no route.
+/// `lane` must be less than 16, and `numbers` and `ports` must have an entry for each of `vertices`.
 fn ports_in_lane(
     alloc: Global,
     numbers: &[[u8; LANES]],
@@ -243,7 +243,7 @@ fn ports_in_lane(
     Ok(found)
 }
 
-/// Returns the entries of `ports` for `vertices`. `ports` must have an entry for each of these.
+/// Returns the entries of `ports` for `vertices`. `ports` must have an entry for each of `vertices`.
 fn ports_at(
     alloc: Global,
     ports: &[Option<PortNum>],

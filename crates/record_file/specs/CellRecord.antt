@@ -28,7 +28,7 @@ value_bytes (Up up) = flag_byte up ∷ []
 value_bytes (Lid lid) = to_be_bytes w16 lid
 value_bytes (Count count) = to_be_bytes w16 count
 
--- the value bytes of a cell, without padding; none if it is disputed
+-- the value bytes of a cell, without padding; none if the cell is disputed
 abbrev pub cell_value_bytes : Cell Value → List ℕ
 cell_value_bytes (Known generation value) = value_bytes value
 cell_value_bytes (Disputed generation) = []
@@ -73,8 +73,8 @@ abbrev pub state_of : Key → ℕ → ℕ → List ℕ → Option (Cell Value)
 state_of key state generation bytes =
     if state == 1 then option_map (Known generation) (value_of key bytes) else Some (Disputed generation)
 
--- the key and the cell that a record spells, whatever its other bytes are. None if its kind is reserved, or if it is of
--- a known node whose type is reserved
+-- the key and the cell that a record spells, whatever its other bytes are. None if the record's kind is reserved, or
+-- if the record is of a known node whose type is reserved
 abbrev pub candidate : List ℕ → Option (Key × Cell Value)
 candidate bytes =
     option_and_then (λ key. option_map (λ cell. (key, cell))
@@ -89,6 +89,6 @@ if_sighting e = if is_sighting e then Some e else None
 abbrev pub if_spelled : List ℕ → Key × Cell Value → Option (Key × Cell Value)
 if_spelled bytes e = if bytes_eq (record_bytes e) bytes then Some e else None
 
--- the sighting whose record is `bytes`; None if `bytes` are not the record of any sighting
+-- if `bytes` are the record of a sighting, this sighting; otherwise None
 unfoldable pub cell_of : List ℕ → Option (Key × Cell Value)
 cell_of bytes = option_and_then (if_spelled bytes) (option_and_then if_sighting (candidate bytes))

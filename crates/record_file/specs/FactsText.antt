@@ -46,10 +46,11 @@ fact_text cell = key_text cell.0 ++ codes " " ++ cell_text cell.1
 abbrev pub line_text : Key × Cell Value → List ℕ
 line_text cell = fact_text cell ++ codes "\n"
 
--- the line of `floor`; empty if it is at most 1
+-- the line of `floor`; empty if `floor` is at most 1
 abbrev pub floor_line : ℕ → List ℕ
 floor_line floor = if nat_le floor 1 then [] else codes "floor " ++ decimal floor ++ codes "\n"
 
--- the text of `facts`: the line of their floor, if the floor is over 1, and a line for each cell, in the order of keys
+-- the text of `facts`: the line of their floor, if the floor is above 1, and a line for each cell, in the order of
+-- keys
 abbrev pub facts_text : Facts → List ℕ
 facts_text facts = floor_line facts.floor ++ flat_map line_text (cells_of facts)

@@ -114,7 +114,8 @@ pub record WantsMemory (fed piece : List ℕ) (old new : Facts) : Type 0 where
   pub held : new ≡ merge old (view_at (floor_behind fed piece) sightings)
 
 -- feeding `piece` after the bytes `fed` stops with `fault`. Either memory ran out for a record that `piece` completes,
--- or all these bytes together have this fault. The sightings that `piece` adds before it were merged into the store
+-- or `fed` and `piece` together have this fault. In both cases, the sightings that `piece` adds up to there were merged
+-- into the store
 abbrev pub StopsWith : FileFault → List ℕ → List ℕ → Facts → Facts → Type 0
 StopsWith fault fed piece old new =
     ((fault ≡ Memory) × WantsMemory fed piece old new)
@@ -181,7 +182,7 @@ abbrev pub TakesTo : List ℕ → List ℕ → Result Awaited FileFault → List
 TakesTo fed piece (Ok next) part old new = Awaits next part (fed ++ piece) × AddsSightings fed piece old new
 TakesTo fed piece (Err fault) part old new = StopsWith fault fed piece old new
 
--- taking `piece` leads to `answer` if the bytes `part` of the awaited part have come (`Awaits`), whatever bytes were
+-- if the bytes `part` of the awaited part have come (`Awaits`), taking `piece` leads to `answer`, whatever bytes were
 -- fed before
 abbrev pub TakesPiece : Awaited → List ℕ → List ℕ → Result Awaited FileFault → List ℕ → Facts → Facts → Type 0
 TakesPiece awaited part piece answer part' old new =

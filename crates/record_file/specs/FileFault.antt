@@ -16,7 +16,7 @@ fault_words Memory = codes "out of memory"
 fault_words TooLong = codes "too long"
 fault_words BadFloor = codes "bad floor"
 
--- the offset in a fault, or the index of the record that it names; None if it has neither
+-- the offset in a fault, or the index of the record that the fault names; None if the fault has neither
 abbrev pub fault_number : FileFault → Option ℕ
 fault_number (Truncated offset) = Some offset
 fault_number (BadReport index fault) = Some index

@@ -49,7 +49,7 @@ floor_of (Cells head_floor) = unwrap_or head_floor 1
 abbrev pub if_header : List ℕ → ℕ → Option ℕ
 if_header bytes floor = if is_generation floor && bytes_eq (header floor) bytes then Some floor else None
 
--- the floor whose header is `bytes`; None if `bytes` are not a header
+-- if `bytes` are a header, its floor; otherwise None
 abbrev pub floor_told : List ℕ → Option ℕ
 floor_told bytes = if_header bytes (from_be_bytes w32 (take 4 bytes))
 

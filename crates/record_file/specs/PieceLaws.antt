@@ -39,8 +39,8 @@ CutsChangeNothing =
     → ReadsPieces pieces answer old new
     → ReadsPieces (concat pieces ∷ []) whole_answer old whole_new → (answer ≡ whole_answer) × (new ≡ whole_new)
 
--- if `bytes` have a fault so far, they still have it when any `rest` follows. The sightings that are kept and the floor
--- are those of `bytes` alone
+-- if `bytes` have a fault, no bytes that follow them matter: `bytes ++ rest` has the same fault, and the sightings that
+-- are kept and the floor are those of `bytes`
 abbrev pub FaultsStay : Type 0
 FaultsStay =
     (bytes rest : List ℕ) (fault : FileFault) → fault_so_far bytes ≡ Some fault

@@ -49,7 +49,7 @@ abbrev pub judged : Format → Option Key → List ℕ → Judgement
 judged Reports last bytes = of_report (report_judged bytes)
 judged (Cells head_floor) last bytes = of_cell head_floor last (cell_of bytes)
 
--- the key of the cell that a record spells; None for a report, or if the record does not spell a cell
+-- if a record of a store file spells a cell, the cell's key; otherwise None
 abbrev pub key_in : Format → List ℕ → Option Key
 key_in Reports bytes = None
 key_in (Cells head_floor) bytes = option_map (λ e. e.0) (cell_of bytes)

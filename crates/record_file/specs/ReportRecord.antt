@@ -11,7 +11,7 @@ use Rattle.reply_facts.specs.declared.report_fault.ReportFault.{ReportFault}
 use Rattle.reply_facts.specs.declared.report_fault.ReportFault.TheVariants as fault
 use Rattle.reply_facts.specs.Report.{report_fault, sightings_of}
 
--- the context that `byte`, `port` and `guid` spell; None if they do not spell a context
+-- if `byte`, `port` and `guid` spell a context, this context; otherwise None
 abbrev pub context_of : ℕ → ℕ → ℕ → Option Context
 context_of byte port guid =
     if byte == 0 then (if (port == 0) && (guid == 0) then Some Start else None)

@@ -28,20 +28,20 @@ pub record IsStoreFile (head_floor : Option ℕ) (bytes : List ℕ) (facts : Fac
   pub in_range : AreInRange facts
   pub short : length bytes < 2 ^ 40
 
--- bytes have the head of a store file and are accepted exactly when they are the store file of some facts
+-- bytes have the head of a store file and are accepted exactly when they are the store file of some set of facts
 -- (`IsStoreFile`)
 abbrev pub StoreFilesAreAccepted : Type 0
 StoreFilesAreAccepted =
     (head_floor : Option ℕ) (bytes : List ℕ) → ((format_in bytes ≡ Ok (Cells head_floor)) × (outcome bytes ≡ Ok tt))
     ↔ ((facts : Facts) × IsStoreFile head_floor bytes facts)
 
--- `bytes` are accepted, reading them keeps the cells of `facts`, and they contain these facts
+-- `bytes` are accepted, reading `bytes` keeps the cells of `facts`, and `bytes` contain these facts
 pub record IsReadBack (bytes : List ℕ) (facts : Facts) : Type 0 where
   pub accepted : outcome bytes ≡ Ok tt
   pub cells : kept bytes ≡ cells_of facts
   pub says : facts_in bytes ≡ facts
 
--- reading the store file of any facts gives these facts
+-- reading the store file of any set of facts gives this set
 abbrev pub FactsAreReadBack : Type 0
 FactsAreReadBack = (head_floor : Option ℕ) (bytes : List ℕ) (facts : Facts) → IsStoreFile head_floor bytes facts
     → IsReadBack bytes facts
@@ -51,7 +51,7 @@ pub record IsFlooredFile (bytes : List ℕ) : Type 0 where
   pub accepted : outcome bytes ≡ Ok tt
   pub begins : starts_with nat_eq bytes floored_magic ≡ true
 
--- if two accepted files have floors in their heads and contain equal facts, the files are equal
+-- if two accepted files have floors in their heads and contain equal sets of facts, the files are equal
 abbrev pub FactsHaveOneSpelling : Type 0
 FactsHaveOneSpelling = (bytes others : List ℕ) → IsFlooredFile bytes → IsFlooredFile others → facts_in bytes
     ≡ facts_in others → bytes ≡ others

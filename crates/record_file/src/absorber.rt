@@ -80,8 +80,9 @@ impl Absorber {
     }
 }
 
-/// Takes the bytes of `piece` up to the file's 2^40th byte. Returns the part that is awaited after these bytes, or the
-/// first fault. If the file reaches its 2^40th byte without another fault, the fault is `TooLong`.
+/// Takes the bytes of `piece` up to the file's 2^40th byte. Returns the part that is awaited after these bytes, or
+/// the first fault. If the file reaches its 2^40th byte without another fault, the fault is `TooLong`. `part` must
+/// not be complete, and fewer than 2^40 bytes may have come so far.
 fn take_piece(
     awaited: Awaited,
     part: &mut Part,

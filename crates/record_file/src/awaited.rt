@@ -3,10 +3,10 @@ ghost use Rattle.std.specs.Prelude.{◌≡◌, length, None};
 ghost use Rattle.record_file.specs.Feeding.{TakesAwaited, behind_magic as behind_magic_of};
 ghost use Rattle.record_file.specs.Head.{format_in};
 
+use crate::absorb_record::absorb_record;
 use crate::file_fault::FileFault;
 use crate::format::Format;
 use crate::head::{HEADER_LEN, MAGIC_LEN, floor_told};
-use crate::record::absorb_record;
 use fact_store::{Key, Store};
 
 /// The next part of a file.
@@ -95,8 +95,8 @@ impl Awaited {
     }
 }
 
-/// `front` must be the first 8 bytes of a file. Returns the part that is awaited after these bytes, or the fault
-/// `Magic` if they are not a magic.
+/// Returns the part that is awaited after `front`, the first 8 bytes of a file, or the fault `Magic` if these bytes
+/// are not a magic. `front` must have 8 bytes.
 fn behind_magic(front: &[u8]) -> Result<Awaited, FileFault>
     requires { length front.now ≡ 8 }
     ensures { result ≡ behind_magic_of (format_in front.now) }

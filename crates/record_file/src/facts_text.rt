@@ -1,4 +1,5 @@
-//! The facts of a store as text. The text has a line for the floor, if the floor is over 1, and a line for each cell.
+//! The facts of a store as text. The text has a line for the floor, if the floor is above 1, and a line for each
+//! cell.
 ghost use Rattle.std.specs.Prelude.{◌≡◌, IsTrue, OnOk};
 ghost use Rattle.byte_io.specs.Writes.{Writes};
 ghost use Rattle.fact_store.specs.View.{AreInRange};
@@ -94,7 +95,7 @@ pub fn write_cell<W: Sink>(sink: &mut W, cell: &Sighting) -> Result<(), WriteFau
     }
 }
 
-/// Writes the line of a floor over 1: `floor`, and its number. Writes no bytes for floor 1.
+/// Writes the line of a floor above 1: `floor`, and the number of the floor. Writes no bytes for floor 1.
 fn write_floor<W: Sink>(sink: &mut W, floor: Generation) -> Result<(), WriteFault>
     ensures writes { Writes W.written W.has_failed result sink.old sink.new (floor_line floor) }
 {
@@ -107,8 +108,8 @@ fn write_floor<W: Sink>(sink: &mut W, floor: Generation) -> Result<(), WriteFaul
     sink.write(b"\n")
 }
 
-/// Writes the line of the floor, if the floor is over 1, and the line of each cell in the order of keys. Then flushes.
-/// Does not allocate.
+/// Writes the line of the floor, if the floor is above 1, and the line of each cell in the order of keys. Then
+/// flushes. Does not allocate.
 pub fn write_facts<W: Sink>(sink: &mut W, store: &Store) -> Result<(), WriteFault>
     ensures writes { Writes W.written W.has_failed result sink.old sink.new (facts_text store.now) }
     ensures flushed { OnOk result (IsTrue (W.is_flushed sink.new)) }

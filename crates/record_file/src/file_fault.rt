@@ -24,8 +24,7 @@ pub enum FileFault {
     Read,
     #[error("out of memory")]
     Memory,
-    /// 2^40 bytes were read and the file had not ended, or 2^40 calls were made, each of which gave bytes or was
-    /// interrupted.
+    /// The file had not ended after 2^40 bytes, or after 2^40 calls that gave bytes or were interrupted.
     #[error("too long")]
     TooLong,
     /// The header of a store file has floor 0, or has a byte other than 0 after the floor.

@@ -1,6 +1,6 @@
 //! The formats of files. The head of a file gives its format.
 use crate::head::{HEADER_LEN, MAGIC_LEN};
-use crate::{report_record, store_file};
+use crate::{cell_record, report_record};
 use smp_bytes::Generation;
 
 /// The format of a file, which determines its records.
@@ -34,7 +34,7 @@ impl Format {
     {
         match self {
             Format::Reports => report_record::RECORD_LEN,
-            Format::Cells { .. } => store_file::RECORD_LEN,
+            Format::Cells { .. } => cell_record::RECORD_LEN,
         }
     }
 }

@@ -26,7 +26,8 @@ pub fn first_bad_record_is_told()
     ensures { FirstBadRecordIsTold }
 {}
 
-/// If a report fits in a record, 272 bytes spell this report exactly when they are the bytes that are written for it.
+/// If a report fits in a record, 272 bytes spell this report exactly when they are the bytes that are written for the
+/// report.
 pub fn reports_have_one_spelling()
     ensures { ReportsHaveOneSpelling }
 {}
@@ -42,24 +43,25 @@ pub fn records_are_spellings()
 {}
 
 /// Bytes with the head of a store file are accepted exactly when they are fewer than 2^40, and are the store file of
-/// some facts in range. These facts have the floor in the head, or floor 1 if the head has no floor.
+/// some set of facts in range. This set has the floor in the head, or floor 1 if the head has no floor.
 pub fn store_files_are_accepted()
     ensures { StoreFilesAreAccepted }
 {}
 
-/// If the store file of facts in range has fewer than 2^40 bytes, it is read back as these facts. Their floor is the
-/// floor in the head, or 1 if the head has no floor.
+/// If the store file of a set of facts in range has fewer than 2^40 bytes, it is read back as this set. The floor of
+/// the set is the floor in the head, or 1 if the head has no floor.
 pub fn facts_are_read_back()
     ensures { FactsAreReadBack }
 {}
 
-/// If two store files are accepted, have a floor in their heads, and contain equal facts, they are equal.
+/// If two store files are accepted, have a floor in their heads, and contain equal sets of facts, the files are
+/// equal.
 pub fn facts_have_one_spelling()
     ensures { FactsHaveOneSpelling }
 {}
 
-/// If an empty store absorbs the store file of some facts without a fault, from a source whose bytes are known, the
-/// store then has these facts.
+/// If an empty store absorbs the store file of a set of facts without a fault, from a source whose bytes are known,
+/// the store then has this set.
 pub fn absorbing_reads_back<S: Source>()
     ensures { AbsorbingReadsBack S.state }
 {}

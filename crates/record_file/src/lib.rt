@@ -2,8 +2,10 @@
 #![tactic(auto)]
 
 mod absorb_all;
+mod absorb_record;
 mod absorber;
 mod awaited;
+mod cell_record;
 mod facts_text;
 mod file_fault;
 mod format;
@@ -11,7 +13,6 @@ mod head;
 pub mod laws;
 mod line;
 mod numbers;
-mod record;
 mod report_record;
 mod store_file;
 mod whole;

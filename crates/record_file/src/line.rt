@@ -4,8 +4,8 @@ ghost use Rattle.std.specs.Prelude.{◌≡◌, [], false};
 use arrayvec::ArrayVec;
 use byte_io::{Sink, WriteFault};
 
-/// A sink over the bytes of a line, at most 64. A write that does not fit writes nothing and fails. Every later call
-/// fails too.
+/// A sink that collects the bytes of a line, at most 64. A write that does not fit writes nothing and fails. Every
+/// later call fails too.
 #[derive(Drop)]
 pub(crate) struct Line {
     bytes: ArrayVec<u8, 64>,

@@ -10,7 +10,7 @@ use Rattle.reply_facts.specs.declared.key.Key.{Key}
 use Rattle.reply_facts.specs.declared.key.Key.TheVariants.{Node, PortGuid, Link, Port, Claim, Cap}
 use Rattle.reply_facts.specs.declared.value.Value.{Value}
 use Rattle.reply_facts.specs.declared.value.Value.TheVariants.{Kind, Guid, Peer, Up, Lid, Count}
-use Rattle.reply_facts.specs.CellForms.{IsSpelled, cell_in, form_of, key_in, number_of, other_of}
+use Rattle.reply_facts.specs.CellForm.{IsSpelled, cell_in, form_of, key_in, number_of, other_of}
 use Rattle.reply_facts.specs.Key.{key_guid, key_port}
 use Rattle.reply_facts.specs.Sighting.{IsSighting, is_cell_of, is_generation, is_key}
 

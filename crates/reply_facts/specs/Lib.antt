@@ -1,4 +1,4 @@
-pub mod CellForms
+pub mod CellForm
 pub mod Key
 pub mod Known
 pub mod Report

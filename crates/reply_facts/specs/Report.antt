@@ -31,7 +31,7 @@ abbrev pub or_else : Option ReportFault → Option ReportFault → Option Report
 or_else None next = next
 or_else (Some first) next = Some first
 
--- the first reason why `packet` is not a GetResp with status 0 that has come back over a directed route; None if
+-- the first reason why `packet` is not a GetResp with status 0 that has come back along a directed route; None if
 -- `packet` is such an answer
 abbrev pub answer_fault : List ℕ → Option ReportFault
 answer_fault packet =
@@ -41,8 +41,8 @@ answer_fault packet =
     else if not (status packet == done) then Some fault.Status
     else None
 
--- whether the context fits an answer with NodeInfo over `hops` hops. `Start`, the sender's own node, fits 0 hops. `Via`
--- fits 1 hop or more. `About` does not fit any answer with NodeInfo
+-- whether the context fits an answer with NodeInfo to a request of `hops` hops. `Start`, the sender's own node, fits
+-- 0 hops. `Via` fits 1 hop or more. `About` does not fit any answer with NodeInfo
 abbrev pub fits_node_info : Context → ℕ → Bool
 fits_node_info Start hops = hops == 0
 fits_node_info (Via guid port) hops = nat_lt 0 hops
@@ -62,8 +62,8 @@ are_ports_in_range context kind info =
     is_cabled_port info.num_ports && nat_le info.local_port_num info.num_ports
     && may_be_asked_by context kind info.local_port_num
 
--- the fault of an answer with NodeInfo. The type is reserved, for which None is given here, or a port is out of range.
--- None if neither is the case
+-- the fault of an answer with NodeInfo: `NodeType` if the type is None, which stands for a reserved type; otherwise
+-- `Port` if a port is out of range; None if neither is the case
 abbrev pub kind_fault : Context → NodeInfo → Option NodeType → Option ReportFault
 kind_fault context info None = Some fault.NodeType
 kind_fault context info (Some kind) = if are_ports_in_range context kind info then None else Some fault.Port
@@ -103,8 +103,8 @@ port_info_fault context packet =
     or_else (about_fault context) (if nat_lt 254 (number_in attribute_modifier packet) then Some fault.Modifier else
     None)
 
--- the first fault of an answer by its attribute: an attribute other than NodeInfo, PortInfo and SwitchInfo, or a fault
--- of an answer with that attribute. None if the answer has no fault
+-- the first fault of an answer according to its attribute: an attribute other than NodeInfo, PortInfo and SwitchInfo,
+-- or a fault of an answer with that attribute. None if the answer has no fault
 abbrev pub attribute_fault : Context → List ℕ → Option ReportFault
 attribute_fault context packet =
     if number_in attribute_id packet == node_info then node_info_fault context packet
@@ -116,13 +116,13 @@ attribute_fault context packet =
 abbrev pub packet_fault : List ℕ → Option ReportFault
 packet_fault packet = or_else (option_map fault.Smp (fault_of packet)) (answer_fault packet)
 
--- the first fault of the reply `packet`, as an answer and then by its attribute; None if the reply has no fault.
--- `packet` must be a packet
+-- the first fault of the reply `packet`, as an answer and then according to its attribute; None if the reply has no
+-- fault. `packet` must be a packet
 abbrev pub reply_fault : Context → List ℕ → Option ReportFault
 reply_fault context packet = or_else (answer_fault packet) (attribute_fault context packet)
 
--- the first fault of a report: generation 0, then a fault of its packet, then a fault by its attribute; None if the
--- report has no fault
+-- the first fault of a report: generation 0, then a fault of its packet, then a fault according to its attribute;
+-- None if the report has no fault
 abbrev pub report_fault : Report → Option ReportFault
 report_fault report =
     if report.generation == 0 then Some fault.Generation
@@ -148,7 +148,7 @@ sightings_of_link generation Start info = []
 sightings_of_link generation (About guid) info = []
 
 -- the facts of an answer with the NodeInfo `info`: the type and port count of the node, a port's GUID and, if the
--- context is `Via`, the link. None of these if the type is reserved, for which None is given here
+-- context is `Via`, the link. No facts if the type is None, which stands for a reserved type
 abbrev pub sightings_of_kind : ℕ → Context → NodeInfo → Option NodeType → Sightings
 sightings_of_kind generation context info None = []
 sightings_of_kind generation context info (Some kind) =
@@ -157,7 +157,7 @@ sightings_of_kind generation context info (Some kind) =
     ∷ sightings_of_link generation context info
 
 -- the facts of an answer with NodeInfo: the type and port count of the node, a port's GUID and, if the context is
--- `Via`, the link over which the request came. No facts if the type is reserved
+-- `Via`, the link by which the request came. No facts if the type is reserved
 abbrev pub sightings_by_node_info : ℕ → Context → List ℕ → Sightings
 sightings_by_node_info generation context packet =
     sightings_of_kind generation context (node_info_of packet) (type_of_number (node_info_of packet).node_type)
@@ -195,7 +195,8 @@ sightings_by_switch_info generation (About node) packet =
 sightings_by_switch_info generation Start packet = []
 sightings_by_switch_info generation (Via guid port) packet = []
 
--- the facts of an answer by its attribute. An answer that has neither NodeInfo nor PortInfo is read as SwitchInfo
+-- the facts of an answer according to its attribute. An answer that has neither NodeInfo nor PortInfo is read as
+-- SwitchInfo
 abbrev pub sightings_by_packet : ℕ → Context → List ℕ → Sightings
 sightings_by_packet generation context packet =
     if number_in attribute_id packet == node_info then sightings_by_node_info generation context packet

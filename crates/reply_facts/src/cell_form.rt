@@ -1,7 +1,7 @@
 //! The form of a cell: one byte in which a sighting stores the kind of its key and a part of its cell. This part is a
 //! node type, a port's state, or that the cell is disputed.
 ghost use Rattle.std.specs.Prelude.{◌≡◌};
-ghost use Rattle.reply_facts.specs.CellForms.{disputed_form, form_kind, form_of, known_form};
+ghost use Rattle.reply_facts.specs.CellForm.{disputed_form, form_kind, form_of, known_form};
 
 use crate::key::Key;
 use crate::value::Value;

@@ -3,7 +3,7 @@ ghost use Rattle.std.specs.Prelude.{◌≡◌};
 use smp_bytes::{Guid, PortNum};
 use std::cmp::Ordering;
 
-/// The subject of a fact. Keys are in the order of kind, as listed here, then of GUID, then of port.
+/// The subject of a fact. Keys are ordered by kind, as listed here, then by GUID, and then by port.
 #[derive(Clone, Copy, Debug)]
 pub enum Key {
     /// A node, by its GUID.

@@ -3,13 +3,14 @@ ghost use Rattle.reply_facts.specs.Sighting.{is_guid};
 
 use smp_bytes::{Guid, PortNum};
 
-/// What a manager knows about the node that a reply came from. `Start` says that this node is the manager's own. `Via`
-/// has the last node that the request's path leaves, and the port by which the path leaves it. `About` has the GUID of
-/// the node that the reply came from.
+/// What a manager knows about the node that a reply came from.
 #[derive(Clone, Copy, Debug, PartialEq, Eq)]
 pub enum Context {
+    /// The node is the manager's own.
     Start,
+    /// The last hop of the request's path left this node by this port.
     Via(Guid, PortNum),
+    /// The node has this GUID.
     About(Guid),
 }
 

@@ -59,7 +59,7 @@ pub fn sightings_in(
     }
 }
 
-/// Returns the first reason why `smp` is not a successful answer that came back over a directed route, or `None` if
+/// Returns the first reason why `smp` is not a successful answer that came back along a directed route, or `None` if
 /// `smp` is one.
 pub fn answer_fault(smp: &Smp) -> Option<ReportFault>
     ensures { result ≡ answer_fault smp.now }
@@ -122,7 +122,7 @@ fn sightings_by_node_info(
 }
 
 /// Returns the facts that an answer with NodeInfo contains about a node of type `kind`: its type and number of ports,
-/// and a port GUID. If the context is `Via`, the facts include both directions of the link over which the request came.
+/// and a port GUID. If the context is `Via`, the facts include both directions of the link by which the request came.
 /// The ports must be in range.
 fn sightings_of_kind(
     generation: Generation,
@@ -154,7 +154,7 @@ fn sightings_of_kind(
     sightings
 }
 
-/// Returns whether an answer with NodeInfo to a request over `hops` hops can have this `context`.
+/// Returns whether an answer with NodeInfo to a request of `hops` hops can have this `context`.
 fn fits_node_info(context: &Context, hops: u8) -> bool
     ensures { result ≡ fits_node_info context.now hops }
 {

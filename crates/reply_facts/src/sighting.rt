@@ -1,6 +1,6 @@
 ghost use Rattle.std.specs.Prelude.{◌≡◌, ◌↔◌, IsTrue, IsSome, IfSome, Some};
 ghost use Rattle.fact_join.specs.declared.cell.Cell.TheVariants.{Known, Disputed};
-ghost use Rattle.reply_facts.specs.CellForms.{number_of, other_of};
+ghost use Rattle.reply_facts.specs.CellForm.{number_of, other_of};
 ghost use Rattle.reply_facts.specs.Key.{key_cmp};
 ghost use Rattle.reply_facts.specs.Known.{value_in};
 
@@ -33,8 +33,8 @@ impl Model for Sighting {
     ghost use Rattle.fact_join.specs.Cell.{generation_of};
     ghost use Rattle.reply_facts.specs.declared.key.Key.{Key};
     ghost use Rattle.reply_facts.specs.declared.value.Value.{Value as FactValue};
-    ghost use Rattle.reply_facts.specs.CellForms.{IsSpelled, cell_in, form_of, key_in, number_of, other_of};
-    ghost use Rattle.reply_facts.specs.CellForms.{same_form, same_generation, same_guid};
+    ghost use Rattle.reply_facts.specs.CellForm.{IsSpelled, cell_in, form_of, key_in, number_of, other_of};
+    ghost use Rattle.reply_facts.specs.CellForm.{same_form, same_generation, same_guid};
     ghost use Rattle.reply_facts.specs.Key.{key_guid, key_port};
     ghost use Rattle.reply_facts.specs.Sighting.{IsSighting};
 

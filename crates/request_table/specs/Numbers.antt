@@ -26,7 +26,7 @@ with_number number n requests = find (λ r. number r == n) requests
 abbrev pub without_number : {T : Type 0} → (T → ℕ) → ℕ → List T → List T
 without_number number n requests = filter (λ r. not (number r == n)) requests
 
--- if an index is given, it is the index of the request in `found`; it is None only if `found` is None
+-- if there is an index, the request at this index is the one in `found`; if there is none, `found` is None
 abbrev pub IsIndexFor : {T : Type 0} → Option T → List T → Option ℕ → Type 0
 IsIndexFor found requests None = found ≡ None
 IsIndexFor {T} found requests (Some index) = (r : T) × (slice_get requests index ≡ Some r) × (found ≡ Some r)

@@ -8,7 +8,8 @@ abbrev pub AreOrdered : {T : Type 0} → (T → T → Type 0) → List T → Typ
 AreOrdered R [] = Unit {0}
 AreOrdered R (x ∷ xs) = AllByRecursion (R x) xs × AreOrdered R xs
 
--- `test` is true of all items before `index`, and false of all items from `index` on
+-- each item before `index` passes `test`, and neither the item at `index` nor any later item does. `index` is at most
+-- the number of items
 pub record IsIndex {T : Type 0} (test : T → Bool) (items : List T) (index : ℕ) : Type 0 where
   pub within : index ≤ length items
   pub parts : IsPartitionPoint (λ x. test x ≡ true) (λ x. test x ≡ false) items index

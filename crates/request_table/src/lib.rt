@@ -1,4 +1,4 @@
-//! Requests that wait for their answers, in the order of their numbers.
+//! Outstanding requests, in ascending order of their numbers.
 #![tactic(auto)]
 
 mod numbered;

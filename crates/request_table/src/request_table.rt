@@ -52,7 +52,7 @@ impl<T: Numbered + Drop> RequestTable<T> {
         self.next
     }
 
-    /// Returns the number of waiting requests.
+    /// Returns the number of outstanding requests.
     pub fn len(&self) -> usize
         ensures count { result ≡ length self.now.requests }
         ensures numbered { AreNumbered T.number self.now.requests self.now.next }
@@ -60,7 +60,7 @@ impl<T: Numbered + Drop> RequestTable<T> {
         self.requests.len()
     }
 
-    /// Returns whether no request is waiting.
+    /// Returns whether no request is outstanding.
     pub fn is_empty(&self) -> bool
         ensures { IsTrue result ↔ (self.now.requests ≡ []) }
     {

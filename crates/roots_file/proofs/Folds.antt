@@ -9,10 +9,10 @@ use Rattle.roots_file.specs.Line.{root_on}
 use Rattle.roots_file.specs.Reading.{is_among, is_root, more_by, names, roots_of, then_from, with_line, with_lines, wrong_below}
 use Rattle.roots_file.specs.RootsTextFault.{Reads}
 use Rattle.roots_file.specs.RootsTextFault.{RootsTextFault}
-use Rattle.text_words.specs.declared.fault.LinesFault.TheVariants.{Line, Memory}
+use Rattle.text_words.specs.declared.lines_fault.LinesFault.TheVariants.{Line, Memory}
 use Rattle.roots_file.specs.RootsTextFault.{RootsLineFault}
-use Rattle.roots_file.specs.declared.fault.RootsTextError.{RootsTextError}
-use Rattle.roots_file.specs.declared.fault.RootsTextError.TheVariants.{Repeated}
+use Rattle.roots_file.specs.declared.roots_text_fault.RootsTextError.{RootsTextError}
+use Rattle.roots_file.specs.declared.roots_text_fault.RootsTextError.TheVariants.{Repeated}
 
 -- the roots so far, with the lines to come, are what the text says
 pub record HasRead (text rest roots : List ℕ) (number : ℕ) : Type 0 where

@@ -1,10 +1,10 @@
 -- GUIDs as the numbers of words are read.
 use Rattle.std.proofs.Common.{◌≡◌, ℕ, ◌-◌, ◌==◌, ◌<◌, ◌≤◌, ◌^◌, true, false, leb, List, ◌++◌, length, min, None, Some, Option, Ok, Err, refl, ◌∙◌, arith}
 use Rattle.std.specs.Prelude.{codes, option_map}
-use Rattle.text_words.specs.Number.{number_of, guid_of}
+use Rattle.text_words.specs.Numbers.{number_of, guid_of}
 use Rattle.text_words.proofs.Digits.{guid_is, is_within, not_within}
 use Rattle.roots_file.specs.Line.{guid_by}
-use Rattle.roots_file.specs.declared.fault.RootsTextError.TheVariants as wrong
+use Rattle.roots_file.specs.declared.roots_text_fault.RootsTextError.TheVariants as wrong
 
 -- up to sixteen digits are a number
 digits_are : (digits : List ℕ) (n : ℕ) → length digits ≤ 16 → Some n ≡ option_map (min (2 ^ 64 - 1)) (number_of 16 digits) → Some n ≡ number_of 16 digits

@@ -2,16 +2,16 @@
 use Rattle.std.specs.Prelude.{ℕ, List, [], ◌∷◌, Option, None, Some, Result, Ok, Err, take, drop, length, codes, not, nat_le, ◌==◌, ◌&&◌, if◌then◌else◌}
 use Rattle.std.specs.Str.{bytes_eq}
 use Rattle.text_words.specs.Text.{words}
-use Rattle.text_words.specs.Number.{number_of}
-use Rattle.roots_file.specs.declared.fault.RootsTextError.{RootsTextError}
-use Rattle.roots_file.specs.declared.fault.RootsTextError.TheVariants as wrong
+use Rattle.text_words.specs.Numbers.{number_of}
+use Rattle.roots_file.specs.declared.roots_text_fault.RootsTextError.{RootsTextError}
+use Rattle.roots_file.specs.declared.roots_text_fault.RootsTextError.TheVariants as wrong
 
 -- the digits of a word: what follows `0x` if `word` begins with `0x`, and otherwise `word` itself
 abbrev pub digits_of : List ℕ → List ℕ
 digits_of word = if bytes_eq (take 2 word) (codes "0x") then drop 2 word else word
 
--- the root that `digits` spell, given the number that they spell in hex. The fault is `Syntax` if they do not spell a
--- number, for which None is given, and `Guid` if there are over sixteen digits or the number is 0
+-- the root that `digits` spell, given the number that they spell in hex. The fault is `Syntax` if the number is None,
+-- since `digits` spell none, and `Guid` if there are over sixteen digits or the number is 0
 abbrev pub guid_by : List ℕ → Option ℕ → Result ℕ RootsTextError
 guid_by digits None = Err wrong.Syntax
 guid_by digits (Some n) = if nat_le (length digits) 16 && not (n == 0) then Ok n else Err wrong.Guid

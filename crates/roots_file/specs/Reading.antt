@@ -1,9 +1,9 @@
--- What a text of roots says: the roots that its lines name, in their order, or its first fault.
+-- What a text of roots says: the roots that its lines name, in the order of the lines, or its first fault.
 use Rattle.std.specs.Prelude.{ℕ, ◌+◌, ◌==◌, Bool, false, List, [], ◌∷◌, ◌++◌, Option, None, Some, Result, Ok, Err, if◌then◌else◌}
 use Rattle.std.specs.List.{list_any}
 use Rattle.text_words.specs.Text.{lines}
-use Rattle.roots_file.specs.declared.fault.RootsTextError.{RootsTextError}
-use Rattle.roots_file.specs.declared.fault.RootsTextError.TheVariants.{Repeated}
+use Rattle.roots_file.specs.declared.roots_text_fault.RootsTextError.{RootsTextError}
+use Rattle.roots_file.specs.declared.roots_text_fault.RootsTextError.TheVariants.{Repeated}
 use Rattle.roots_file.specs.RootsTextFault.{RootsLineFault}
 use Rattle.roots_file.specs.Line.{root_on}
 

@@ -1,10 +1,10 @@
 -- The faults of a text of roots: their words, and what reading such a text returns.
 use Rattle.std.specs.Prelude.{◌≡◌, ℕ, List, Result, Ok, Err, codes}
-use Rattle.text_words.specs.declared.fault.LineFault.{LineFault}
-use Rattle.text_words.specs.declared.fault.LinesFault.{LinesFault}
-use Rattle.text_words.specs.declared.fault.LinesFault.TheVariants.{Line, Memory}
-use Rattle.roots_file.specs.declared.fault.RootsTextError.{RootsTextError}
-use Rattle.roots_file.specs.declared.fault.RootsTextError.TheVariants.{Syntax, Guid, Repeated}
+use Rattle.text_words.specs.declared.lines_fault.LineFault.{LineFault}
+use Rattle.text_words.specs.declared.lines_fault.LinesFault.{LinesFault}
+use Rattle.text_words.specs.declared.lines_fault.LinesFault.TheVariants.{Line, Memory}
+use Rattle.roots_file.specs.declared.roots_text_fault.RootsTextError.{RootsTextError}
+use Rattle.roots_file.specs.declared.roots_text_fault.RootsTextError.TheVariants.{Syntax, Guid, Repeated}
 
 -- the fault of a line of a text of roots, with the line's number
 abbrev pub RootsLineFault : Type 0

@@ -1,10 +1,10 @@
 //! The text of roots: GUIDs of switches, one on each line.
 #![tactic(auto)]
 
-mod fault;
 mod line;
+mod reading;
 mod roots;
-mod text;
+mod roots_text_fault;
 
-pub use fault::{RootsLineFault, RootsTextError, RootsTextFault};
-pub use text::parse;
+pub use reading::parse;
+pub use roots_text_fault::{RootsLineFault, RootsTextError, RootsTextFault};

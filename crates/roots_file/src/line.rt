@@ -1,11 +1,12 @@
 ghost use Rattle.std.specs.Prelude.{◌≡◌};
 ghost use Rattle.roots_file.specs.Line.{digits_of, root_of, root_on};
 
-use crate::fault::RootsTextError;
+use crate::roots_text_fault::RootsTextError;
 use smp_bytes::Guid;
 use text_words::{number, split_word};
 
-/// Returns the root that `line` names, or `None` if `line` has no word. Returns the fault of `line` if there is one.
+/// Returns the root in the only word of `line`, or `None` if `line` has no word. Returns `Syntax` if `line` has more
+/// than one word, and otherwise the fault of its word, if the word has one (`root`).
 #[tactic(auto, unfolding(crate::specs::Line::root_on))]
 pub(crate) fn root_on(line: &[u8]) -> Result<Option<Guid>, RootsTextError>
     ensures { result ≡ root_on line.now }

@@ -2,7 +2,7 @@ ghost use Rattle.std.specs.Prelude.{◌≡◌, []};
 ghost use Rattle.roots_file.specs.Reading.{root_more};
 ghost use Rattle.roots_file.specs.RootsTextFault.{Reads};
 
-use crate::fault::{RootsLineFault, RootsTextError, RootsTextFault};
+use crate::roots_text_fault::{RootsLineFault, RootsTextError, RootsTextFault};
 use smp_bytes::Guid;
 use std::alloc::Global;
 use std::collections::BTreeSet;

@@ -18,8 +18,8 @@ use Rattle.fabric_sim.specs.FabricFault.{fabric_fault_name}
 use Rattle.fabric_sim.specs.Simulation.{Simulation, is_seat_at}
 use Rattle.fabric_sim.specs.declared.delivered.Delivered.{Delivered}
 use Rattle.fabric_sim.specs.declared.delivered.Delivered.TheVariants as delivered_is
-use Rattle.fabric_sim.specs.declared.fault.FabricFault.{FabricFault}
-use Rattle.fabric_sim.specs.declared.fault.FabricFault.TheVariants.{NoSuchPacket}
+use Rattle.fabric_sim.specs.declared.fabric_fault.FabricFault.{FabricFault}
+use Rattle.fabric_sim.specs.declared.fabric_fault.FabricFault.TheVariants.{NoSuchPacket}
 use Rattle.fabric_sim.specs.declared.flight.Flight.{Flight}
 use Rattle.lft_blocks.specs.Plan.{PlanValue}
 use Rattle.sm_manager.specs.Election.{after_handover, handover_fault, poll_fault, after_poll}

@@ -4,7 +4,7 @@ use Rattle.fabric_model.specs.declared.cable.NodePort.{NodePort}
 use Rattle.fabric_sim.specs.Simulation.{Simulation}
 use Rattle.fact_store.specs.View.{cells_of}
 use Rattle.subnet_view.specs.Reading.{Cells}
-use Rattle.lft_blocks.specs.Rules.{RuleValue}
+use Rattle.lft_blocks.specs.Rule.{RuleValue}
 use Rattle.lft_blocks.specs.Plan.{PlanValue, plan_of}
 use Rattle.manager_laws.specs.Pings.{EachPingArrives}
 use Rattle.manager_laws.proofs.PlannedPings.{pings_arrive}

@@ -13,7 +13,7 @@ use Rattle.schedule_file.specs.declared.command.Which.{Which}
 use Rattle.fabric_sim.specs.Delivery.{after_deliver}
 use Rattle.fabric_sim.specs.declared.delivered.Delivered.{Delivered}
 use Rattle.fabric_sim.specs.declared.delivered.Delivered.TheVariants as delivered_is
-use Rattle.fabric_sim.specs.declared.fault.FabricFault.{FabricFault}
+use Rattle.fabric_sim.specs.declared.fabric_fault.FabricFault.{FabricFault}
 use Rattle.fabric_sim.specs.declared.packet.Packet.{Packet}
 use Rattle.reply_facts.specs.Report.{Sightings}
 use Rattle.fact_store.specs.View.{view_at}
@@ -105,7 +105,7 @@ told_by_command w accounts (command.Packet which fate.Deliver) = told_by_deliver
 told_by_command w accounts (command.Drain most) = told_by_drain w accounts most
 told_by_command w accounts command = accounts
 
--- the accounts after lines of a schedule that run in turn, from the world `w` on
+-- the accounts after lines of a schedule that run in turn, starting in the world `w`
 abbrev pub told_by_commands : List Node → WorldValue → Accounts → List SeatCommand → Accounts
 told_by_commands nodes w accounts [] = accounts
 told_by_commands nodes w accounts (command ∷ later) =
@@ -129,7 +129,8 @@ KnowWhatTheyTookIn w accounts =
     (seat : ℕ) (s : SeatedValue) → slice_get w.managers seat ≡ Some s → s.manager.store
     ≡ view_at (accounts seat).floor (accounts seat).told
 
--- after every run, the store of each manager is the view of what it took in, at its greatest floor
+-- after every run, the store of each manager is the view of what the manager took in, at the greatest floor that it
+-- was given, or 1
 abbrev pub RunsAreAccountedFor : Type 0
 RunsAreAccountedFor = (planning : Planning) (topology : Layout) (script : Script)
     → KnowWhatTheyTookIn (world_after planning topology script) (account_after planning topology script)

@@ -12,7 +12,8 @@ use Rattle.sm_manager.specs.declared.progress.Progress.TheVariants.{Done}
 use Rattle.sm_manager.specs.Writing.{is_written}
 use Rattle.manager_laws.specs.Complete.{IsWhole}
 use Rattle.schedule_lines.specs.Lines.{progress_line, silent_line, written_line}
-use Rattle.schedule_world.specs.Commands.{after_commands, script_text, shown_of}
+use Rattle.schedule_world.specs.Commands.{after_commands, shown_of}
+use Rattle.schedule_world.specs.RunText.{script_text}
 use Rattle.schedule_world.specs.World.{SeatedValue, WorldValue}
 use Rattle.run_laws.specs.Accounts.{account_after, world_after}
 
@@ -33,8 +34,8 @@ pub record TellTheSame (one other : WorldValue) (seat seat' : ℕ) : Type 0 wher
   pub facts : shown_of one seat Facts ≡ shown_of other seat' Facts
   pub plan : shown_of one seat Plan ≡ shown_of other seat' Plan
 
--- two managers, of one run or of two with the same rule of routing and LMC, print the same facts and plan, if they took
--- in the same sightings, in any order and each any number of times, and have the same greatest floor
+-- if two managers, of one run or of two with the same rule of routing and LMC, took in the same sightings, in any
+-- order and each any number of times, and have the same greatest floor, they print the same facts and plan
 abbrev pub SameTakenInSameLines : Type 0
 SameTakenInSameLines =
     (planning : Planning) (topology topology' : Layout) (script script' : Script) (seat seat' : ℕ) → seat
@@ -51,8 +52,7 @@ pub record PrintsPlansAlike (planning : Planning) (topology : Layout) (script : 
       script_text planning topology (and_lines script (Show seat Plan ∷ Show other Plan ∷ []))
       ≡ script_text planning topology script ++ (plan ++ plan)
 
--- the plans of two managers of a run are printed alike if both took in the same sightings and have the same greatest
--- floor
+-- if two managers of a run took in the same sightings and have the same greatest floor, their plans are printed alike
 abbrev pub SameTakenInPlansAlike : Type 0
 SameTakenInPlansAlike =
     (planning : Planning) (topology : Layout) (script : Script) (seat other : ℕ) → seat < length script.seats → other

@@ -76,8 +76,8 @@ module _ (plan : PlanValue) (own : OwnSets) where
   KeepsLine w (command.Drain most) = KeepsSteps w most
   KeepsLine w command = Unit {0}
 
-  -- each Set that an agent takes by the lines, from the world `w` on, is one of the writing's own or carries the plan's
-  -- values
+  -- each Set that an agent takes by the lines, which start in the world `w`, is one of the writing's own or carries
+  -- the plan's values
   abbrev pub KeepsLines : List Node → WorldValue → List SeatCommand → Type 0
   KeepsLines nodes w [] = Unit {0}
   KeepsLines nodes w (command ∷ later) =

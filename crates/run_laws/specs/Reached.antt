@@ -10,7 +10,7 @@ use Rattle.fact_store.specs.View.{Facts, cells_of}
 use Rattle.subnet_view.specs.declared.end_port.EndPort.{EndPort}
 use Rattle.subnet_view.specs.FabricAgreement.{AgreesOn}
 use Rattle.lid_assign.specs.Lids.{IsNoRoom, owner_of}
-use Rattle.lft_blocks.specs.Rules.{RuleValue}
+use Rattle.lft_blocks.specs.Rule.{RuleValue}
 use Rattle.lft_blocks.specs.Plan.{PlanValue, plan_of}
 use Rattle.lft_blocks.specs.InForce.{HoldsPlan}
 use Rattle.manager_laws.specs.Managing.{Managing, ManagerEvent}
@@ -20,7 +20,7 @@ use Rattle.schedule_world.specs.Commands.{ping_shown}
 use Rattle.schedule_lines.specs.Lines.{ping_line}
 use Rattle.schedule_world.specs.World.{WorldValue}
 
--- the line `ping` from `source` for `lid` prints that the packet reaches the port `owner`, over some number of wires
+-- the line `ping` from `source` for `lid` prints that the packet reaches the port `owner`, along some number of wires
 pub record SaysReached (nodes : List Node) (w : WorldValue) (source : NodePort) (lid : ℕ) (owner : EndPort) : Type 0
   where
     pub target : NodePort
@@ -35,9 +35,9 @@ EachPingSaysReached plan w origin = (nodes : List Node) (source : NodePort) → 
     → IsJoinedTo (fabric_of w.fabric) origin source
     → (lid : ℕ) (owner : EndPort) → owner_of plan.given lid ≡ Some owner → SaysReached nodes w source lid owner
 
--- each ping among the end ports that the end port `origin` is joined to prints that it reaches the owner of its LID,
--- if three conditions hold: the facts have room; they describe exactly this part of the world's fabric; and the part
--- holds the plan of these facts
+-- if the facts have room and describe exactly the part of the world's fabric that the end port `origin` is joined to,
+-- and this part holds the plan of these facts, each ping among the part's end ports prints that it reaches the owner
+-- of its LID
 abbrev pub HeldPlansAreReached : Type 0
 HeldPlansAreReached = (rule : RuleValue) (lmc : ℕ) (facts : Facts) (w : WorldValue) (origin : NodePort)
     → ¬ (IsNoRoom lmc (cells_of facts)) → IsSimulation w.fabric
@@ -46,8 +46,9 @@ HeldPlansAreReached = (rule : RuleValue) (lmc : ℕ) (facts : Facts) (w : WorldV
     → HoldsPlan (IsJoinedTo (fabric_of w.fabric) origin) (plan_of rule lmc (cells_of facts)) (fabric_of w.fabric)
     → EachPingSaysReached (plan_of rule lmc (cells_of facts)) w origin
 
--- if a manager has brought its subnet up (`BringsUp`), each ping from an end port that is joined to the manager's seat
--- prints that it reaches its LID's owner, in a world with the fabric at the end of the manager's run
+-- if a manager has brought its subnet up (`BringsUp`), then in a world with the fabric at the end of the manager's
+-- run, each ping from an end port that is joined to the manager's seat, for each LID of the plan, prints that it
+-- reaches the LID's owner
 abbrev pub WrittenPlansAreReached : Type 0
 WrittenPlansAreReached = (m : Managing) (before between after : List ManagerEvent) → BringsUp m before between after
     → (w : WorldValue) → w.fabric ≡ (at_end m before between after).scene.fabric

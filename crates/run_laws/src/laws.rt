@@ -23,9 +23,10 @@ pub fn later_lines_come_behind()
     ensures { LaterLinesComeBehind }
 {}
 
-/// In the world that a run leaves, each manager knows the view of all sightings that it took in, at the greatest floor
-/// that it was given, or 1. A manager took in the sightings of the reports that it accepted. If it merged the facts of
-/// another manager, it also took in what the other manager had taken in by then, with the floor of that manager.
+/// In the world that a run leaves, each manager knows the view of all sightings that it took in, at the greatest
+/// floor that it was given, or 1. A manager took in the sightings of the reports that it accepted. If a manager
+/// merged the facts of another manager, it also took in what the other manager had taken in by then, with the floor
+/// of that other manager.
 #[tactic(auto, using(crate::proofs::Known::runs_are_accounted_for))]
 pub fn runs_are_accounted_for()
     ensures { RunsAreAccountedFor }

@@ -2,8 +2,8 @@
 use Rattle.std.proofs.Common.{◌≡◌, ℕ, ◌+◌, ◌<◌, ◌≤◌, Bool, true, false, List, [], ◌∷◌, ◌++◌, Option, None, Some, Result, Ok, Err, length, length-append, refl, sym, ap, subst, ◌∙◌, append_assoc, inl, inr, arith}
 use Rattle.text_words.specs.Text.{lines}
 use Rattle.topo_file.specs.declared.node.Node.{Node}
-use Rattle.schedule_file.specs.declared.fault.ScheduleFault.{ScheduleFault}
-use Rattle.schedule_file.specs.declared.fault.ScheduleFault.TheVariants as fault
+use Rattle.schedule_file.specs.declared.schedule_fault.ScheduleFault.{ScheduleFault}
+use Rattle.schedule_file.specs.declared.schedule_fault.ScheduleFault.TheVariants as fault
 use Rattle.schedule_file.specs.declared.line.ScheduleLine.{ScheduleLine}
 use Rattle.schedule_file.specs.declared.line.NewManager.{NewManager}
 use Rattle.fabric_model.specs.declared.cable.NodePort.{NodePort}

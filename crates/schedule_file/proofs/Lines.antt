@@ -6,7 +6,7 @@ use Rattle.std.specs.Option.{option_map_or}
 use Rattle.std.specs.Str.{bytes_eq}
 use Rattle.std.proofs.lemmas.Bool.{leb-true}
 use Rattle.text_words.specs.NodeName.{is_name, name_in, is_name_byte}
-use Rattle.text_words.specs.Number.{number_of, number_up_to}
+use Rattle.text_words.specs.Numbers.{number_of, number_up_to}
 use Rattle.text_words.specs.Quoted.{alone, enclosed}
 use Rattle.text_words.specs.Text.{words}
 use Rattle.text_words.proofs.Ranges.{always, mapped, name_range, tested, then_some}

@@ -17,8 +17,8 @@ use Rattle.topo_file.specs.Printed.{name_at}
 use Rattle.topo_file.specs.Topology.{IsFound, id_of}
 use Rattle.topo_file.proofs.Indexes.{found_is, same_bytes}
 use Rattle.schedule_file.specs.declared.command.Command.TheVariants as command
-use Rattle.schedule_file.specs.declared.fault.ScheduleFault.{ScheduleFault}
-use Rattle.schedule_file.specs.declared.fault.ScheduleFault.TheVariants as fault
+use Rattle.schedule_file.specs.declared.schedule_fault.ScheduleFault.{ScheduleFault}
+use Rattle.schedule_file.specs.declared.schedule_fault.ScheduleFault.TheVariants as fault
 use Rattle.schedule_file.specs.declared.line.NewManager.{NewManager}
 use Rattle.schedule_file.specs.declared.line.ScheduleLine.{ScheduleLine}
 use Rattle.schedule_file.specs.declared.line.ScheduleLine.TheVariants as line

@@ -11,8 +11,8 @@ use Rattle.text_words.proofs.Names.{both}
 use Rattle.text_words.proofs.Ranges.{then_some, mapped, always}
 use Rattle.topo_file.specs.declared.node.Node.{Node}
 use Rattle.schedule_file.specs.declared.command.Command.TheVariants as command
-use Rattle.schedule_file.specs.declared.fault.ScheduleFault.{ScheduleFault}
-use Rattle.schedule_file.specs.declared.fault.ScheduleFault.TheVariants as fault
+use Rattle.schedule_file.specs.declared.schedule_fault.ScheduleFault.{ScheduleFault}
+use Rattle.schedule_file.specs.declared.schedule_fault.ScheduleFault.TheVariants as fault
 use Rattle.schedule_file.specs.declared.line.ScheduleLine.{ScheduleLine}
 use Rattle.schedule_file.specs.declared.line.ScheduleLine.TheVariants as line
 use Rattle.schedule_file.specs.declared.line.NewManager.{NewManager}

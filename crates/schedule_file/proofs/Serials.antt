@@ -7,7 +7,7 @@ use Rattle.std.specs.List.{list_all}
 use Rattle.std.specs.Str.Parse.{digits_value}
 use Rattle.std.proofs.lemmas.Int.Digits.{digits_value_push}
 use Rattle.std.proofs.lemmas.List.Folds.{list_all-append}
-use Rattle.text_words.specs.Number.{number_of, number_up_to}
+use Rattle.text_words.specs.Numbers.{number_of, number_up_to}
 use Rattle.text_words.proofs.Digits.{is_within, not_within, is_below}
 
 -- the front's number, where it is held up to the most

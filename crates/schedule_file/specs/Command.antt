@@ -21,7 +21,7 @@ use Rattle.schedule_file.specs.declared.line.NewManager.{NewManager}
 use Rattle.schedule_file.specs.declared.named_command.PortName.{PortName}
 use Rattle.schedule_file.specs.ManagerName.{manager_name_in}
 use Rattle.schedule_file.specs.ManagerWords.{asked_by, generation_of, shown_by}
-use Rattle.text_words.specs.Number.{lid_of, number_up_to}
+use Rattle.text_words.specs.Numbers.{lid_of, number_up_to}
 
 -- a command, as given by its line, with managers and nodes given by their names
 abbrev pub NamedCommand : Type 0

@@ -1,8 +1,8 @@
 -- The first fault of a schedule's text, found from its lines and the managers so far alone.
 use Rattle.std.specs.Prelude.{◌≡◌, ◌⊎◌, ◌<◌, ℕ, Bool, true, false, List, [], ◌∷◌, ◌++◌, Option, None, Some, Result, Ok, Err, length}
 use Rattle.topo_file.specs.declared.node.Node.{Node}
-use Rattle.schedule_file.specs.declared.fault.ScheduleFault.{ScheduleFault}
-use Rattle.schedule_file.specs.declared.fault.ScheduleFault.TheVariants.{Syntax}
+use Rattle.schedule_file.specs.declared.schedule_fault.ScheduleFault.{ScheduleFault}
+use Rattle.schedule_file.specs.declared.schedule_fault.ScheduleFault.TheVariants.{Syntax}
 use Rattle.schedule_file.specs.declared.line.ScheduleLine.{ScheduleLine}
 use Rattle.schedule_file.specs.declared.line.ScheduleLine.TheVariants as line
 use Rattle.schedule_file.specs.declared.schedule.Seat.{Seat}
@@ -14,7 +14,7 @@ abbrev pub fault_of : {T : Type 0} → Result T ScheduleFault → Option Schedul
 fault_of (Ok value) = None
 fault_of (Err fault) = Some fault
 
--- some of the lines, from the first one on, have no fault and add more than 64 managers
+-- the lines begin with some that have no fault and add more than 64 managers
 pub record IsCrowded (nodes : List Node) (lines : List (List ℕ)) : Type 0 where
   pub front : List (List ℕ)
   pub back : List (List ℕ)
@@ -23,7 +23,7 @@ pub record IsCrowded (nodes : List Node) (lines : List (List ℕ)) : Type 0 wher
   pub told : schedule_of_lines nodes front ≡ Ok script
   pub many : 64 < length script.seats
 
--- the lines have no fault, or some of them, from the first one on, have no fault and add more than 64 managers
+-- the lines have no fault, or begin with some that have no fault and add more than 64 managers (`IsCrowded`)
 abbrev pub IsSoundOrCrowded : List Node → List (List ℕ) → Type 0
 IsSoundOrCrowded nodes lines = (fault_of (schedule_of_lines nodes lines) ≡ None) ⊎ IsCrowded nodes lines
 

@@ -2,7 +2,7 @@
 -- name.
 use Rattle.std.specs.Prelude.{ℕ, List, Option, None, Some, option_and_then, codes, ◌==◌, if◌then◌else◌}
 use Rattle.std.specs.Str.{bytes_eq}
-use Rattle.text_words.specs.Number.{number_up_to}
+use Rattle.text_words.specs.Numbers.{number_up_to}
 use Rattle.schedule_file.specs.declared.command.Ask.{Ask}
 use Rattle.schedule_file.specs.declared.command.Ask.TheVariants.{Sweep, Write, Handover, Poll}
 use Rattle.schedule_file.specs.declared.command.Shown.{Shown}
@@ -18,7 +18,7 @@ asked_by word =
     else if bytes_eq word (codes "poll") then Some (Poll None)
     else None
 
--- what is to be shown of a manager by the command `word`; None if `word` is not such a command
+-- if the command `word` shows something of a manager, what it shows; otherwise None
 abbrev pub shown_by : List ℕ → Option Shown
 shown_by word =
     if bytes_eq word (codes "facts") then Some Facts
@@ -29,6 +29,6 @@ shown_by word =
     else if bytes_eq word (codes "state") then Some State
     else None
 
--- the generation that `word` writes in decimal, from 1 to 2^32 - 1; otherwise None
+-- the generation that `word` writes in decimal; None if `word` does not write a number from 1 to 2^32 - 1
 abbrev pub generation_of : List ℕ → Option ℕ
 generation_of word = option_and_then (λ n. if n == 0 then None else Some n) (number_up_to 0xFFFFFFFF word)

@@ -44,7 +44,8 @@ shown_word Silent = codes "silent"
 shown_word Written = codes "written"
 shown_word State = codes "state"
 
--- the words that a schedule prints for a request to the manager `name`
+-- the words of the line that asks the manager `name` for `sweep`, `write`, `handover` or `poll`; for `poll`, with the
+-- LID if one is given
 abbrev pub ask_words : Ask → List ℕ → List (List ℕ)
 ask_words Sweep name = codes "sweep" ∷ name ∷ []
 ask_words Write name = codes "write" ∷ name ∷ []
@@ -111,8 +112,8 @@ command_words nodes seats command.Flight = named_words command.Flight
 abbrev pub schedule_text : List Node → Script → List ℕ
 schedule_text nodes script = lines_text (map (command_words nodes script.seats) script.commands)
 
--- if a schedule was read from a text, the text of this schedule (`schedule_text`) is read back as it, for the same
--- nodes
+-- if a schedule was read from a text, the text of this schedule (`schedule_text`) is read back as this schedule, for
+-- the same nodes
 abbrev pub PrintedSchedulesAreRead : Type 0
 PrintedSchedulesAreRead =
     (nodes : List Node) (text : List ℕ) (script : Script) → schedule_of nodes text ≡ Ok script

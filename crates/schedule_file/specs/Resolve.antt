@@ -16,7 +16,8 @@ use Rattle.schedule_file.specs.declared.named_command.PortName.{PortName}
 use Rattle.schedule_file.specs.declared.schedule.Seat.{Seat}
 use Rattle.schedule_file.specs.Command.{NamedCommand}
 
--- a command as it is run; managers are given by the indices of their seats, from 0, and nodes by their indices
+-- a command as it is run; managers are given by the indices of their seats, counted from 0, and nodes by their
+-- indices
 abbrev pub SeatCommand : Type 0
 SeatCommand = Command ℕ NodePort
 

@@ -6,8 +6,8 @@ use Rattle.text_words.specs.Text.{lines}
 use Rattle.topo_file.specs.declared.node.Node.{Node}
 use Rattle.schedule_file.specs.declared.command.Command.{Command}
 use Rattle.schedule_file.specs.declared.command.Command.TheVariants as command
-use Rattle.schedule_file.specs.declared.fault.ScheduleFault.{ScheduleFault}
-use Rattle.schedule_file.specs.declared.fault.ScheduleFault.TheVariants as fault
+use Rattle.schedule_file.specs.declared.schedule_fault.ScheduleFault.{ScheduleFault}
+use Rattle.schedule_file.specs.declared.schedule_fault.ScheduleFault.TheVariants as fault
 use Rattle.schedule_file.specs.declared.line.ScheduleLine.{ScheduleLine}
 use Rattle.schedule_file.specs.declared.line.ScheduleLine.TheVariants as line
 use Rattle.schedule_file.specs.declared.line.NewManager.{NewManager}
@@ -26,7 +26,7 @@ abbrev pub ◌>>=◌ : {A B : Type 0} → Result A ScheduleFault → (A → Resu
 (Ok value) >>= next = next value
 (Err fault) >>= next = Err fault
 
--- the given command, or the fault of the line `number` if it is None, since a name in it is unknown
+-- the given command, or the fault of the line `number` if the command is None, since a name in it is unknown
 abbrev pub where_known : ℕ → Option SeatCommand → Result SeatCommand ScheduleFault
 where_known number (Some command) = Ok command
 where_known number None = Err (fault.Name number)
@@ -84,7 +84,7 @@ schedule_of_lines nodes lines = with_lines nodes 1 (record { seats = []; command
 unfoldable pub schedule_of : List Node → List ℕ → Result Script ScheduleFault
 schedule_of nodes text = schedule_of_lines nodes (lines text)
 
--- what holds of each schedule ---------------------------------------------------------------
+-- what each schedule satisfies ---------------------------------------------------------------
 
 -- the managers that the command names have indices below `count`
 abbrev pub NamesManagers : ℕ → SeatCommand → Type 0

@@ -1,7 +1,7 @@
 -- What a call that may refuse its text returns, and what is written about a fault: its line and a word.
 use Rattle.std.specs.Prelude.{◌≡◌, ℕ, List, Option, None, Some, Result, Ok, Err, ◌++◌, codes, decimal}
-use Rattle.schedule_file.specs.declared.fault.ScheduleFault.{ScheduleFault}
-use Rattle.schedule_file.specs.declared.fault.ScheduleFault.TheVariants.{Syntax, Name, Seat, Memory}
+use Rattle.schedule_file.specs.declared.schedule_fault.ScheduleFault.{ScheduleFault}
+use Rattle.schedule_file.specs.declared.schedule_fault.ScheduleFault.TheVariants.{Syntax, Name, Seat, Memory}
 
 -- the given fault is lack of memory, or `told` is this fault
 abbrev pub IsRefused : {T : Type 0} → ScheduleFault → Result T ScheduleFault → Type 0

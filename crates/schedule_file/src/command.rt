@@ -2,14 +2,14 @@
 use smp_bytes::{Generation, Lid};
 
 /// A command about managers of the type `M` and ports of the type `P`. In a line, `M` and `P` are names. In a command
-/// as it is run, `M` is the index of a manager's seat, from 0, and `P` is a port with the index of its node.
+/// as it is run, `M` is the index of a manager's seat, counted from 0, and `P` is a port with the index of its node.
 #[derive(Clone, Copy, PartialEq, Eq, Drop)]
 pub enum Command<M, P> {
     /// Adds a manager.
     Manager(M),
     /// Asks a manager for something, which it may refuse.
     Ask(M, Ask),
-    /// Makes a manager give up each request that waits for its answer.
+    /// Makes a manager give up each outstanding request.
     Timeout(M),
     /// Makes a manager forget the facts of generations below this one.
     Floor(M, Generation),
@@ -72,7 +72,7 @@ pub enum Shown {
 /// What happens to a packet in flight.
 #[derive(Clone, Copy, PartialEq, Eq)]
 pub enum Fate {
-    /// The packet takes one step: it moves over a wire, is answered, is handed to a manager, or is discarded.
+    /// The packet takes one step: it moves along a wire, is answered, is handed to a manager, or is discarded.
     Deliver,
     /// The packet is lost.
     Lose,

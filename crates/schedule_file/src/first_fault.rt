@@ -5,10 +5,10 @@ ghost use Rattle.schedule_file.specs.Command.{line_of};
 ghost use Rattle.schedule_file.specs.FirstFault.{IsSoundOrCrowded, Leaves, fault_of, seats_with};
 ghost use Rattle.schedule_file.specs.Schedule.{schedule_of_lines};
 
-use crate::fault::ScheduleFault;
 use crate::line::{ScheduleLine, read_line};
 use crate::resolve::resolve;
 use crate::schedule::{Seat, new_seat};
+use crate::schedule_fault::ScheduleFault;
 use arrayvec::ArrayVec;
 use text_words::split_line;
 use topo_file::Topology;

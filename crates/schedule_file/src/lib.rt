@@ -2,7 +2,6 @@
 #![tactic(auto)]
 
 mod command;
-mod fault;
 mod first_fault;
 pub mod laws;
 mod line;
@@ -12,10 +11,11 @@ mod named_command;
 mod numbers;
 mod resolve;
 mod schedule;
+mod schedule_fault;
 
 pub use command::{Ask, Command, Fate, Shown, Which};
-pub use fault::ScheduleFault;
 pub use manager_name::ManagerName;
 pub use manager_words::{asked_by, generation_of, lid_of, shown_by};
 pub use resolve::SeatCommand;
 pub use schedule::{Schedule, Seat, parse};
+pub use schedule_fault::ScheduleFault;

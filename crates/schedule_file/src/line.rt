@@ -1,7 +1,7 @@
 ghost use Rattle.std.specs.Prelude.{◌≡◌};
 ghost use Rattle.text_words.specs.Text.{words};
 ghost use Rattle.schedule_file.specs.Command.{line_of, new_manager, sm_key_in};
-ghost use Rattle.text_words.specs.Number.{number_up_to};
+ghost use Rattle.text_words.specs.Numbers.{number_up_to};
 
 use crate::manager_name::ManagerName;
 use crate::named_command::{NamedCommand, PortName, named_command, port_name};

@@ -2,7 +2,7 @@
 //! its name.
 ghost use Rattle.std.specs.Prelude.{◌≡◌};
 ghost use Rattle.schedule_file.specs.ManagerWords.{asked_by, generation_of, shown_by};
-ghost use Rattle.text_words.specs.Number.{lid_of};
+ghost use Rattle.text_words.specs.Numbers.{lid_of};
 
 use crate::command::{Ask, Shown};
 use crate::numbers::number_up_to;
@@ -27,7 +27,7 @@ pub fn asked_by(word: &[u8]) -> Option<Ask>
     }
 }
 
-/// Returns what is to be shown of a manager by the command `word`, or `None` if `word` is not such a command.
+/// If the command `word` shows something of a manager, returns what it shows. Otherwise returns `None`.
 pub fn shown_by(word: &[u8]) -> Option<Shown>
     ensures { result ≡ shown_by word.now }
 {

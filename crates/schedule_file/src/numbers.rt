@@ -1,10 +1,10 @@
 ghost use Rattle.std.specs.Prelude.{◌≡◌, ◌^◌, ◌-◌};
-ghost use Rattle.text_words.specs.Number.{number_up_to};
+ghost use Rattle.text_words.specs.Numbers.{number_up_to};
 
 use text_words::number;
 
-/// Parses `word` as a decimal number of at most `most`. Returns `None` if `word` is not a decimal number, or if the
-/// number is above `most`. Takes time linear in the length of `word`.
+/// Parses `word` as a decimal number. Returns `None` if it is not one, or if the number is above `most`. Takes time
+/// linear in the length of `word`.
 pub(crate) fn number_up_to(word: &[u8], most: u32) -> Option<u32>
     ensures { result ≡ number_up_to most word.now }
 {

@@ -5,15 +5,15 @@ ghost use Rattle.schedule_file.specs.Schedule.{where_known};
 ghost use Rattle.schedule_file.specs.Resolve.{port_of, seat_of};
 
 use crate::command::Command;
-use crate::fault::ScheduleFault;
 use crate::manager_name::ManagerName;
 use crate::named_command::{NamedCommand, PortName};
 use crate::schedule::Seat;
+use crate::schedule_fault::ScheduleFault;
 use fabric_model::NodePort;
 use smp_bytes::PortNum;
 use topo_file::{Node, Topology};
 
-/// A command as it is run. Managers are given by the indices of their seats, from 0, and nodes by their ids.
+/// A command as it is run. Managers are given by the indices of their seats, counted from 0, and nodes by their ids.
 pub type SeatCommand = Command<usize, NodePort>;
 
 /// Resolves the names in `command`, which is from the line `line`.

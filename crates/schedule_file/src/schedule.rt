@@ -6,11 +6,11 @@ ghost use Rattle.schedule_file.specs.FirstFault.{IsSoundOrCrowded};
 ghost use Rattle.schedule_file.specs.ScheduleFault.{Reads};
 
 use crate::command::Command;
-use crate::fault::ScheduleFault;
 use crate::first_fault::first_fault;
 use crate::line::{NewManager, ScheduleLine, read_line};
 use crate::manager_name::ManagerName;
 use crate::resolve::{SeatCommand, is_free, port, resolve, seat};
+use crate::schedule_fault::ScheduleFault;
 use attr_codec::Priority;
 use fabric_model::{NodeId, NodePort};
 use smp_bytes::PortNum;
@@ -178,8 +178,9 @@ pub(crate) fn new_seat(
 /// | `ping "node"[port] LID` | LID 0 to 65,535 |
 /// | `traps`, `resend`, `tables`, `flight` | |
 ///
-/// A manager sits at an adapter's port. Its name is 1 to 16 ASCII letters and digits, and is known from the manager's
-/// line on. For each line, besides parsing it and finding its nodes, takes time linear in the number of managers.
+/// A manager sits at an adapter's port. Its name is 1 to 16 ASCII letters and digits, and is known after the
+/// manager's own line. For each line, besides parsing it and finding its nodes, takes time linear in the number of
+/// managers.
 ///
 /// # Errors
 ///

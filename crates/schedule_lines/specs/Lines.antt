@@ -8,7 +8,7 @@ use Rattle.topo_file.specs.Printed.{name_at}
 use Rattle.fabric_sim.specs.declared.ping.Ping.{Ping}
 use Rattle.fabric_sim.specs.declared.ping.Ping.TheVariants.{Reached, Lost}
 use Rattle.sm_state.specs.declared.state.SmState.{SmState}
-use Rattle.sm_state.specs.States.{state_word}
+use Rattle.sm_state.specs.State.{state_word}
 use Rattle.sm_manager.specs.declared.progress.Progress.{Progress}
 use Rattle.sm_manager.specs.declared.progress.Progress.TheVariants.{Never, Running, Done}
 use Rattle.sm_manager.specs.declared.traps.Trap.{Trap}
@@ -17,8 +17,8 @@ use Rattle.sm_manager.specs.declared.traps.Trap.{Trap}
 abbrev pub count_text : List ℕ → ℕ → List ℕ
 count_text words count = words ++ decimal count
 
--- the number of requests that were not answered, and the number of ports by which the sweep did not go on because the
--- path would have been too long
+-- the number of requests that were not answered, and the number of ports through which the sweep did not go on
+-- because the path would have been too long
 unfoldable pub counts_text : ℕ → ℕ → List ℕ
 counts_text unanswered too_far = count_text (codes " unanswered ") unanswered ++ count_text (codes " toofar ") too_far
 
@@ -46,7 +46,7 @@ end_word word = codes " " ++ word ++ codes "\n"
 abbrev pub progress_line : Option (List ℕ) → Progress → List ℕ
 progress_line manager progress = head_text (codes "progress") manager ++ stage_text progress ++ codes "\n"
 
--- how many managers did not answer a sweep, or for None, that no sweep has begun
+-- how many managers did not answer a sweep; for None, the word that says that no sweep has begun
 abbrev pub silent_text : Option ℕ → List ℕ
 silent_text None = codes " never"
 silent_text (Some silent) = count_text (codes " ") silent
@@ -72,7 +72,7 @@ state_line manager state = head_text (codes "state") manager ++ end_word (state_
 abbrev pub trap_line : Option (List ℕ) → ℕ → List ℕ
 trap_line manager issuer = head_text (codes "trap") manager ++ count_text (codes " ") issuer ++ codes "\n"
 
--- the line of the trap that was repressed; empty if the trap is None
+-- if a trap is given, the line that says that `manager` repressed it; otherwise empty
 abbrev pub trap_text : Option (List ℕ) → Option Trap → List ℕ
 trap_text manager None = []
 trap_text manager (Some trap) = trap_line manager trap.issuer

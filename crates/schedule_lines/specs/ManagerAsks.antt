@@ -19,14 +19,14 @@ use Rattle.schedule_lines.specs.Lines.{progress_line, silent_line, state_line, w
 use Rattle.schedule_lines.specs.Refusals.{manager_line}
 
 -- the fault for which the manager `m` refuses the request `sweep`, `write`, `handover` or `poll`, lack of memory
--- aside; None if it does not refuse the request
+-- aside; None if `m` does not refuse the request
 abbrev pub asked_fault : Ask → Manager → Option ManagerFault
 asked_fault Sweep m = begin_fault m
 asked_fault Write m = writing_fault m
 asked_fault Handover m = handover_fault m
 asked_fault (Poll lid) m = poll_fault m lid
 
--- the manager after the request `sweep`, `write`, `handover` or `poll`, if it does not refuse the request
+-- the manager after the request `sweep`, `write`, `handover` or `poll`, if the manager does not refuse the request
 abbrev pub after_asked : Ask → Manager → Manager
 after_asked Sweep m = after_begin_sweep m
 after_asked Write m = after_write_steps m

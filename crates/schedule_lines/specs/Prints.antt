@@ -18,8 +18,8 @@ pub record PrintsSome {W : Type 0} (written : W → Option (List ℕ)) (has_fail
   pub parts : front ++ rest ≡ text
   pub prints : Prints written has_failed old new front
 
--- what a call prints, given its result: `text` if the call succeeds, and a prefix of `text` if it failed for lack of
--- memory. If a write failed, the output has failed, and what was printed is unspecified
+-- what a call prints, given its result: `text` if the call succeeds, and a prefix of `text` if the call fails for
+-- lack of memory. If a write failed, the output has failed, and what was printed is unspecified
 abbrev pub PrintsUnless : {W T : Type 0} → (W → Option (List ℕ)) → (W → Bool) → Result T RunFault → W → W → List ℕ
     → Type 0
 PrintsUnless written has_failed (Ok value) old new text = Prints written has_failed old new text

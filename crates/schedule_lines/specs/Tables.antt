@@ -9,7 +9,8 @@ use Rattle.fabric_sim.specs.Simulation.{Simulation}
 
 -- an order ---------------------------------------------------------------------------------------------
 
--- the list with `x` inserted before its first item that is not before `x` by `before`
+-- the list with `x` inserted before the first item that, according to `before`, is not before `x`; at the end if
+-- there is no such item
 abbrev pub put_in_order : {X : Type 0} → (X → X → Bool) → X → List X → List X
 put_in_order before x [] = x ∷ []
 put_in_order before x (y ∷ ys) = if before y x then y ∷ put_in_order before x ys else x ∷ y ∷ ys
@@ -25,7 +26,7 @@ in_order before (x ∷ xs) = put_in_order before x (in_order before xs)
 abbrev pub Held : Type 0
 Held = ℕ × ℕ × ℕ × ℕ
 
--- the LIDs other than 0 that a node's ports have, from port 0 on
+-- the LIDs other than 0 that a node's ports have, in the order of the ports, port 0 first
 abbrev pub held_by : Agent → List Held
 held_by a = filter (λ x. not (x.0 == 0))
     (map (λ port. (base_lid_at a port, a.node.guid, port, lmc_at a port)) (range_with_len 0 (a.node.ports + 1)))
@@ -38,7 +39,8 @@ key_cmp x y = ordering_then (ordering_then (nat_cmp x.0 y.0) (nat_cmp x.1 y.1)) 
 abbrev pub held_cmp : Held → Held → Ordering
 held_cmp x y = key_cmp (x.0, x.1, x.2) (y.0, y.1, y.2)
 
--- the LIDs that the ports of all nodes have, in order of LID, node GUID and port; ties are in the order of the nodes
+-- the LIDs that the ports of all nodes have, in ascending order of LID, node GUID and port; ties are in the order of
+-- the nodes
 abbrev pub all_held : List Agent → List Held
 all_held agents = in_order (λ x y. is_lt (held_cmp x y)) (flat_map held_by agents)
 
@@ -68,7 +70,7 @@ blocks_text a = flat_map (block_shown a) (blocks_to a.top)
 unfoldable pub table_text : Agent → List ℕ
 table_text a = switch_line a.top a.node.guid ++ blocks_text a
 
--- the agents of the switches, in order of GUID; ties are in the order of the nodes
+-- the agents of the switches, in ascending order of GUID; ties are in the order of the nodes
 abbrev pub switches : List Agent → List Agent
 switches agents = in_order (λ a b. is_lt (nat_cmp a.node.guid b.node.guid)) (filter is_switch agents)
 

@@ -2,8 +2,8 @@
 //! commands.
 #![tactic(auto)]
 
-mod asked;
 mod line_parts;
+mod manager_asks;
 mod manager_lines;
 mod ping_lines;
 mod refusals;
@@ -11,7 +11,7 @@ mod run_fault;
 mod shown;
 mod tables;
 
-pub use asked::{ask_manager, waiting};
+pub use manager_asks::{ask_manager, waiting};
 pub use ping_lines::{write_flight, write_ping};
 pub use refusals::{refuse_fabric, refuse_manager};
 pub use run_fault::RunFault;

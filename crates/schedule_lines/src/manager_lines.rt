@@ -135,8 +135,8 @@ pub(crate) fn write_trap<W: Sink>(
     sink.write(b"\n")
 }
 
-/// Prints ` unanswered ` and the number of requests that were not answered, and then ` toofar ` and the number of ports
-/// by which the sweep did not go on.
+/// Prints ` unanswered ` and the number of requests that were not answered, and then ` toofar ` and the number of
+/// ports through which the sweep did not go on because the path would have been too long.
 #[tactic(auto, unfolding(crate::specs::Lines::counts_text))]
 fn write_counts<W: Sink>(sink: &mut W, unanswered: u64, too_far: u64) -> Result<(), WriteFault>
     ensures writes { Writes W.written W.has_failed result sink.old sink.new

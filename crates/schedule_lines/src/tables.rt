@@ -46,8 +46,8 @@ fn write_held<W: Sink>(sink: &mut W, lids: &[AgentLid]) -> Result<(), RunFault>
     Ok(())
 }
 
-/// Returns the LIDs that ports have, in order of LID, node GUID and port. If these are equal, they are in the order
-/// of their nodes. Returns an error if memory runs out.
+/// Returns the LIDs that ports have, in ascending order of LID, node GUID and port. Ties are in the order of the
+/// nodes. Returns an error if memory runs out.
 fn held_lids(alloc: Global, fabric: &Fabric) -> Result<Vec<AgentLid>, AllocError>
     ensures { IfOk result (λ held. held.items ≡ all_held fabric.now.agents) }
 {
@@ -59,8 +59,8 @@ fn held_lids(alloc: Global, fabric: &Fabric) -> Result<Vec<AgentLid>, AllocError
     Ok(held)
 }
 
-/// Appends the LIDs that the ports of `agent` have to `held`, from port 0 on. A port with LID 0 has no LID. Returns
-/// an error if memory runs out.
+/// Appends to `held` the LIDs that the ports of `agent` have, in the order of the ports, port 0 first. A port with
+/// LID 0 has no LID. Returns an error if memory runs out.
 fn hold_lids(held: &mut Vec<AgentLid>, agent: &Agent) -> Result<(), AllocError>
     ensures { OnOk result (held.new.items ≡ held.old.items ++ held_by agent.now) }
 {
@@ -75,8 +75,8 @@ fn hold_lids(held: &mut Vec<AgentLid>, agent: &Agent) -> Result<(), AllocError>
     Ok(())
 }
 
-/// Returns the agents of the switches, in order of GUID. Agents with equal GUIDs are in the order of their nodes.
-/// Returns an error if memory runs out.
+/// Returns the agents of the switches, in ascending order of GUID. Agents with equal GUIDs are in the order of their
+/// nodes. Returns an error if memory runs out.
 fn switches<'f>(alloc: Global, fabric: &'f Fabric) -> Result<Vec<&'f Agent>, AllocError>
     ensures { IfOk result (λ found. map (λ agent. agent.now) found.items ≡ switches fabric.now.agents) }
 {
@@ -91,7 +91,7 @@ fn switches<'f>(alloc: Global, fabric: &'f Fabric) -> Result<Vec<&'f Agent>, All
     Ok(switches)
 }
 
-/// Prints the tables of `switches`, in their order.
+/// Prints the tables of `switches`, in the order of `switches`.
 fn write_tables<W: Sink>(sink: &mut W, switches: &[&Agent]) -> Result<(), RunFault>
     ensures prints { PrintsUnless W.written W.has_failed result sink.old sink.new
         (flat_map (λ agent. table_text agent.now) switches.now) }

@@ -7,13 +7,13 @@ use Rattle.topo_file.specs.FirstFault.{first_line_fault}
 use Rattle.topo_file.specs.Reading.{topology_of}
 use Rattle.topo_file.specs.Topology.{Layout}
 use Rattle.topo_file.specs.TopoFault as topologies
-use Rattle.topo_file.specs.declared.fault.TopoFault.{TopoFault}
-use Rattle.topo_file.specs.declared.fault.TopoFault.TheVariants as topology
+use Rattle.topo_file.specs.declared.topo_fault.TopoFault.{TopoFault}
+use Rattle.topo_file.specs.declared.topo_fault.TopoFault.TheVariants as topology
 use Rattle.topo_file.specs.declared.node.Node.{Node}
 use Rattle.schedule_file.specs.Schedule.{Script, schedule_of}
 use Rattle.schedule_file.specs.ScheduleFault as schedules
-use Rattle.schedule_file.specs.declared.fault.ScheduleFault.{ScheduleFault}
-use Rattle.schedule_file.specs.declared.fault.ScheduleFault.TheVariants as schedule
+use Rattle.schedule_file.specs.declared.schedule_fault.ScheduleFault.{ScheduleFault}
+use Rattle.schedule_file.specs.declared.schedule_fault.ScheduleFault.TheVariants as schedule
 use Rattle.sm_cli.specs.declared.fault.Fault.{Fault}
 use Rattle.sm_cli.specs.declared.fault.Fault.TheVariants.{Text}
 use Rattle.sm_cli.specs.declared.text_fault.TextFault.TheVariants.{NotUtf8, Topology, Schedule}

@@ -3,10 +3,10 @@ use Rattle.std.proofs.Common.{◌≡◌, ◌∙◌, ℕ, Bool, List, Option, inr
 use Rattle.topo_file.specs.Topology.{Layout}
 use Rattle.schedule_file.specs.Schedule.{Script}
 use Rattle.lft_blocks.specs.Planning.{Planning}
-use Rattle.lft_blocks.specs.Rules.{RuleValue}
+use Rattle.lft_blocks.specs.Rule.{RuleValue}
 use Rattle.sm_cli.specs.Inputs.{AreInputs}
 use Rattle.sm_cli.specs.declared.asked.RuleAsked.{RuleAsked}
-use Rattle.schedule_world.specs.Commands.{run_text, schedule_text, script_text, topology_text}
+use Rattle.schedule_world.specs.RunText.{run_text, schedule_text, script_text, topology_text}
 use Rattle.schedule_lines.specs.Prints.{Prints, PrintsSome, PrintsUnless}
 use Rattle.schedule_run.specs.Run.{HasRun, IsRunFault, StopsEarly, Tells, fault_of_run, texts_reader}
 use Rattle.schedule_run.specs.declared.texts.Setting.{Setting}

@@ -8,15 +8,15 @@ use Rattle.record_file.specs.declared.file_fault.FileFault.{FileFault}
 use Rattle.topo_file.specs.FirstFault.{first_line_fault}
 use Rattle.topo_file.specs.Reading.{topology_of}
 use Rattle.topo_file.specs.Topology.{Layout, has_switch}
-use Rattle.topo_file.specs.declared.fault.TopoFault.{TopoFault}
-use Rattle.topo_file.specs.declared.fault.TopoFault.TheVariants as topologies
+use Rattle.topo_file.specs.declared.topo_fault.TopoFault.{TopoFault}
+use Rattle.topo_file.specs.declared.topo_fault.TopoFault.TheVariants as topologies
 use Rattle.topo_file.specs.declared.node.Node.{Node}
 use Rattle.text_words.specs.Text.{lines}
 use Rattle.schedule_file.specs.FirstFault.{IsSoundOrCrowded}
 use Rattle.schedule_file.specs.Schedule.{IsScript, Script, schedule_of}
-use Rattle.schedule_file.specs.declared.fault.ScheduleFault.{ScheduleFault}
-use Rattle.schedule_file.specs.declared.fault.ScheduleFault.TheVariants as schedules
-use Rattle.lft_blocks.specs.Rules.{RuleValue}
+use Rattle.schedule_file.specs.declared.schedule_fault.ScheduleFault.{ScheduleFault}
+use Rattle.schedule_file.specs.declared.schedule_fault.ScheduleFault.TheVariants as schedules
+use Rattle.lft_blocks.specs.Rule.{RuleValue}
 use Rattle.sm_cli.specs.Inputs.{AreInputs, IsInputFault, Reader, WithInputs}
 use Rattle.sm_cli.specs.TextFault.{is_of_text}
 use Rattle.sm_cli.specs.declared.asked.RuleAsked.{RuleAsked}
@@ -24,7 +24,7 @@ use Rattle.sm_cli.specs.declared.fault.Fault.{Fault}
 use Rattle.sm_cli.specs.declared.fault.Fault.TheVariants.{File, Text, Write, Memory}
 use Rattle.sm_cli.specs.declared.text_fault.TextFault.TheVariants.{NotUtf8, Topology, Schedule}
 use Rattle.schedule_run.specs.declared.texts.Setting.{Setting}
-use Rattle.schedule_world.specs.Commands.{run_text}
+use Rattle.schedule_world.specs.RunText.{run_text}
 use Rattle.schedule_lines.specs.declared.run_fault.RunFault.{RunFault}
 use Rattle.schedule_lines.specs.declared.run_fault.RunFault.TheVariants as runs
 
@@ -176,8 +176,8 @@ texts_reader state = record {
   has_switch = λ setting. has_switch setting.topology.nodes;
 }
 
--- the inputs were read: the text that the rule takes, the topology and the schedule. `prints` holds of what the run of
--- the schedule prints, with managers that plan under `lmc` and by the rule
+-- the inputs were read: the text that the rule takes, the topology and the schedule. The text of the run of the
+-- schedule, with managers that plan under `lmc` and by the rule, is printed, as `prints` says
 pub record HasRun {S : Type 0} (state : S → SourceState) (lmc : ℕ) (asked : RuleAsked) (olds news : List S)
     (prints : List ℕ → Type 0) : Type 0 where
   pub rule : RuleValue
@@ -204,7 +204,7 @@ fault_of_run runs.Write = Write
 fault_of_run runs.Memory = Memory
 
 -- the inputs were read, and a run ends early with a fault: a write failed, or memory ran out. If memory ran out,
--- `prints` holds of what the run would have printed
+-- `prints` says how much of the whole run's text is printed
 abbrev pub StopsEarly : {S : Type 0} → (S → SourceState) → ℕ → RuleAsked → List S → List S
     → (List ℕ → Type 0) → Bool → Fault → Type 0
 StopsEarly state lmc asked olds news prints sink_failed Write =
@@ -213,7 +213,7 @@ StopsEarly state lmc asked olds news prints sink_failed Memory =
     HasRun state lmc asked olds news prints
 StopsEarly state lmc asked olds news prints sink_failed fault = ⊥
 
--- a run over open inputs ends with `fault`: the inputs are not read, or are refused, or the run ends early
+-- a run on open inputs ends with `fault`: the inputs are not read, or are refused, or the run ends early
 abbrev pub IsRunFault : {S : Type 0} → (S → SourceState) → ℕ → RuleAsked → List S → List S
     → (List ℕ → Type 0) → Bool
     → Fault → Type 0

@@ -15,9 +15,9 @@ use sm_cli::{Fault, RuleAsked, read_inputs};
 use std::alloc::Global;
 
 /// Runs a schedule in the simulated fabric of a topology, with managers that plan 2^LMC LIDs for each adapter port by
-/// the rule `asked`. The inputs must be the text that the rule takes, if it takes one, the topology and the schedule
-/// (`read_inputs`). Reads them to their ends, and judges the topology, the schedule and then any roots. Then runs the
-/// commands in their order, and flushes their output.
+/// the rule `asked`. The inputs must be the text that the rule takes, if the rule takes one, the topology and the
+/// schedule (`read_inputs`). Reads them to their ends, and judges the topology, the schedule and then any roots. Then
+/// runs the commands, one after the other, and flushes their output.
 ///
 /// Writes `run_text` of the topology and the schedule: the lines of all commands in turn. If an input is refused,
 /// writes nothing. If memory is refused while the commands are run, writes a beginning of that text. If a write fails,

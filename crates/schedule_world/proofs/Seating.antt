@@ -6,7 +6,7 @@ use Rattle.std.proofs.lemmas.List.{map-append, take_more}
 use Rattle.topo_file.specs.declared.node.Node.{Node}
 use Rattle.schedule_file.specs.declared.schedule.Seat.{Seat}
 use Rattle.lft_blocks.specs.Planning.{Planning}
-use Rattle.sm_state.specs.Conducts.{conduct_with}
+use Rattle.sm_state.specs.Conduct.{conduct_with}
 use Rattle.sm_manager.specs.Manager.{Manager, new_manager}
 use Rattle.schedule_world.specs.Commands.{new_seated}
 use Rattle.schedule_world.specs.World.{SeatedValue}

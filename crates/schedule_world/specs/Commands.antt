@@ -4,11 +4,8 @@ use Rattle.std.specs.List.{flat_map}
 use Rattle.std.specs.Option.{option_map_or}
 use Rattle.fabric_model.specs.Cables.{is_same_port}
 use Rattle.fabric_model.specs.declared.cable.NodePort.{NodePort}
-use Rattle.topo_file.specs.Reading.{topology_of}
 use Rattle.topo_file.specs.Topology.{Layout}
-use Rattle.topo_file.specs.declared.fault.TopoFault.{TopoFault}
 use Rattle.topo_file.specs.declared.node.Node.{Node}
-use Rattle.schedule_file.specs.Schedule.{Script, schedule_of}
 use Rattle.schedule_file.specs.Resolve.{SeatCommand}
 use Rattle.schedule_file.specs.declared.command.Ask.{Ask}
 use Rattle.schedule_file.specs.declared.command.Command.TheVariants as command
@@ -16,7 +13,6 @@ use Rattle.schedule_file.specs.declared.command.Fate.{Fate}
 use Rattle.schedule_file.specs.declared.command.Fate.TheVariants.{Deliver, Lose, Repeat}
 use Rattle.schedule_file.specs.declared.command.Shown.{Shown}
 use Rattle.schedule_file.specs.declared.command.Which.{Which}
-use Rattle.schedule_file.specs.declared.fault.ScheduleFault.{ScheduleFault}
 use Rattle.schedule_file.specs.declared.schedule.Seat.{Seat}
 use Rattle.fabric_sim.specs.Build.{simulation_of}
 use Rattle.fabric_sim.specs.Changes.{after_cut, after_lose, after_seat, after_plug, after_repeat}
@@ -24,11 +20,11 @@ use Rattle.fabric_sim.specs.Delivery.{after_deliver}
 use Rattle.fabric_sim.specs.FabricFault.{fabric_fault_name}
 use Rattle.fabric_sim.specs.Ping.{ping, ping_fault}
 use Rattle.fabric_sim.specs.Simulation.{Simulation, across, fabric_of, is_seat_at, port_of}
-use Rattle.fabric_sim.specs.TrapCalls.{after_begin_traps, after_port_change, after_send_trap}
+use Rattle.fabric_sim.specs.TrapSending.{after_begin_traps, after_port_change, after_send_trap}
 use Rattle.fabric_sim.specs.declared.delivered.Delivered.{Delivered}
 use Rattle.fabric_sim.specs.declared.delivered.Delivered.TheVariants as delivered_is
-use Rattle.fabric_sim.specs.declared.fault.FabricFault.{FabricFault}
-use Rattle.fabric_sim.specs.declared.fault.FabricFault.TheVariants.{NoSuchPacket}
+use Rattle.fabric_sim.specs.declared.fabric_fault.FabricFault.{FabricFault}
+use Rattle.fabric_sim.specs.declared.fabric_fault.FabricFault.TheVariants.{NoSuchPacket}
 use Rattle.fabric_sim.specs.declared.flight.Flight.{Flight}
 use Rattle.fabric_sim.specs.declared.packet.Packet.{Packet}
 use Rattle.lft_blocks.specs.Planning.{Planning}
@@ -40,18 +36,19 @@ use Rattle.schedule_lines.specs.Lines.{flight_line, ping_line, trap_text}
 use Rattle.schedule_lines.specs.Refusals.{refusal_line}
 use Rattle.schedule_lines.specs.Tables.{tables_text}
 use Rattle.schedule_lines.specs.Outcome.{Outcome, and_then, quiet, shows}
-use Rattle.sm_state.specs.Conducts.{conduct_with}
+use Rattle.sm_state.specs.Conduct.{conduct_with}
 use Rattle.schedule_world.specs.World.{SeatedValue, WorldValue, after_ask, at_seat, after_fabric_call, after_send, with_manager}
 
 -- managers -----------------------------------------------------------------------------------------
 
--- `manager M "n"[p] P`, with `live K` or without: the manager at the index `seat` is seated at its port, or the
--- fabric refuses the call and the line of its fault is printed
+-- `manager M "n"[p] P`, with `live K` or without: the manager at the index `seat` is seated at its port or, if the
+-- fabric refuses the call, the line of the fault is printed. Nothing happens if there is no such manager
 unfoldable pub after_manager_line : WorldValue → ℕ → Outcome WorldValue
 after_manager_line w seat = at_seat w seat (λ s. after_fabric_call w (after_seat w.fabric s.at))
 
--- `sweep`, `write`, `handover` or `poll`: the request is made to the manager of a seat, and then the packets that it
--- has queued are sent; or the manager refuses the request, and the line of its fault is printed
+-- `sweep`, `write`, `handover` or `poll`: the request is made to the manager of a seat, and then the packets that the
+-- manager has queued are sent; if the manager refuses the request, the line of the fault is printed instead. Nothing
+-- happens if there is no such manager
 unfoldable pub after_ask_line : WorldValue → ℕ → Ask → Outcome WorldValue
 after_ask_line w seat what = after_ask (λ now. after_send now seat) w seat (asked_fault what) (after_asked what)
 
@@ -60,13 +57,13 @@ unfoldable pub after_merge_line : WorldValue → ℕ → ℕ → Outcome WorldVa
 after_merge_line w seat other =
     at_seat w seat (λ s. at_seat w other (λ o. quiet (with_manager w seat s (after_merge s.manager o.manager.store))))
 
--- `floor M G`: the floor of the manager M is raised to G if it is lower, and facts of generations below G are
+-- `floor M G`: if the floor of the manager M is below G, it is raised to G, and facts of generations below G are
 -- forgotten
 unfoldable pub after_floor_line : WorldValue → ℕ → ℕ → Outcome WorldValue
 after_floor_line w seat floor = at_seat w seat (λ s. quiet (with_manager w seat s (after_raise_floor s.manager floor)))
 
--- the manager of a seat gives up the request with the TransactionID `transaction`, or refuses to and the line of its
--- fault is printed
+-- the manager of a seat gives up the request with the TransactionID `transaction`; if the manager refuses to, the
+-- line of the fault is printed. Nothing happens if there is no such manager
 unfoldable pub after_give_up : WorldValue → ℕ → ℕ → Outcome WorldValue
 after_give_up w seat transaction =
     after_ask quiet w seat (λ m. (manager.after_timeout m transaction).fault)
@@ -78,21 +75,22 @@ after_giving_up w seat [] = quiet w
 after_giving_up w seat (transaction ∷ later) =
     and_then (after_give_up w seat transaction) (λ now. after_giving_up now seat later)
 
--- `timeout M`: the manager gives up all requests that wait when the line begins, and then sends the packets that it has
--- queued
+-- `timeout M`: the manager gives up all requests that are outstanding when the line begins, and then sends the
+-- packets that it has queued
 unfoldable pub after_timeout_line : WorldValue → ℕ → Outcome WorldValue
 after_timeout_line w seat =
     at_seat w seat (λ s. and_then (after_giving_up w seat (outstanding s.manager)) (λ now. after_send now seat))
 
 -- packets ------------------------------------------------------------------------------------------
 
--- the line of the trap in `packet` if the manager of a seat represses it, else empty
+-- if `packet` is a trap that the manager of a seat represses, the line of the trap; else empty
 abbrev pub heard_text : WorldValue → ℕ → Packet → List ℕ
 heard_text w seat packet =
     option_map_or (λ s. trap_text (Some s.name) (manager.noted_trap s.manager packet.bytes)) (slice_get w.managers seat) []
 
--- the manager of a seat takes in a packet, and the line of a trap that it represses is printed; or it refuses the
--- packet, and the line of its fault is printed
+-- the manager of a seat takes in a packet; if the packet is a trap that the manager represses, the trap's line is
+-- printed. If the manager refuses the packet, the line of the fault is printed instead. Nothing happens if there is
+-- no such manager
 abbrev pub after_take : WorldValue → ℕ → Packet → Outcome WorldValue
 after_take w seat packet =
     after_ask (shows (heard_text w seat packet)) w seat (λ m. (manager.after_packet m packet.bytes (Some packet.slid)).fault)
@@ -120,8 +118,8 @@ after_arrival w (Ok (delivered_is.Answered serial)) = quiet w
 after_arrival w (Ok (delivered_is.Discarded reason)) = quiet w
 after_arrival w (Err fault) = quiet w
 
--- the packet with the number `serial` takes one step, and if it is handed up, it goes to the manager at the port; or
--- the fabric refuses the step, and the line of its fault is printed
+-- the packet with the number `serial` takes one step; if the packet is handed up, it goes to the manager at the port.
+-- If the fabric refuses the step, the line of the fault is printed instead
 unfoldable pub after_step : WorldValue → ℕ → Outcome WorldValue
 after_step w serial = let called =
     after_deliver w.fabric serial in and_then (after_fabric_call w called) (λ now. after_arrival now called.result)
@@ -132,8 +130,8 @@ after_fate w Deliver serial = after_step w serial
 after_fate w Lose serial = after_fabric_call w (after_lose w.fabric serial)
 after_fate w Repeat serial = after_fabric_call w (after_repeat w.fabric serial)
 
--- `deliver`, `lose` or `repeat`: the packet that `which` names takes one step, is lost or is copied; refused if the
--- last packet is named and no packet is in flight
+-- `deliver`, `lose` or `repeat`: the packet that `which` names takes one step, is lost or is copied. If the last
+-- packet is named and no packet is in flight, the line of a refusal is printed
 unfoldable pub after_packet_line : WorldValue → Which → Fate → Outcome WorldValue
 after_packet_line w which fate =
     option_map_or (after_fate w fate) (serial_of w.fabric.flights which)
@@ -167,25 +165,26 @@ unfoldable pub after_tell_ends : WorldValue → NodePort → NodePort → Outcom
 after_tell_ends w p q =
     and_then (after_tell w p.node) (λ now. if q.node == p.node then quiet now else after_tell now q.node)
 
--- if the given result says that a cable was plugged in between `p` and `q`, the agents at both its ends are informed
+-- if the given result says that a cable was plugged in between `p` and `q`, the agents at `p` and `q` are informed;
+-- otherwise nothing happens
 abbrev pub after_change : WorldValue → NodePort → NodePort → Result (Unit {0}) FabricFault → Outcome WorldValue
 after_change w p q (Ok done) = after_tell_ends w p q
 after_change w p q (Err fault) = quiet w
 
 -- if the given result says that the cable in `p` was cut, the agents at `p` and at the other end of the cable are
--- informed
+-- informed; otherwise nothing happens
 abbrev pub after_parting : WorldValue → NodePort → Option NodePort → Result (Unit {0}) FabricFault → Outcome WorldValue
 after_parting w p other (Ok done) = option_map_or (after_tell_ends w p) other (quiet w)
 after_parting w p other (Err fault) = quiet w
 
--- `cut "n"[p]`: the cable in the port is cut, and the agents at both its ends are informed; or the fabric refuses,
--- and the line of its fault is printed
+-- `cut "n"[p]`: the cable in the port is cut, and the agents at both ends of the cable are informed; if the fabric
+-- refuses, the line of the fault is printed instead
 unfoldable pub after_cut_line : WorldValue → NodePort → Outcome WorldValue
 after_cut_line w p = let called = after_cut w.fabric p in
     and_then (after_fabric_call w called) (λ now. after_parting now p (across w.fabric.peers p) called.result)
 
--- `plug "n"[p] "m"[q]`: a cable is plugged into the two ports, and the agents at both its ends are informed; or the
--- fabric refuses, and the line of its fault is printed
+-- `plug "n"[p] "m"[q]`: a cable is plugged into the two ports, and the agents at both ends of the cable are informed;
+-- if the fabric refuses, the line of the fault is printed instead
 unfoldable pub after_plug_line : WorldValue → NodePort → NodePort → Outcome WorldValue
 after_plug_line w p q = let called =
     after_plug w.fabric p q in and_then (after_fabric_call w called) (λ now. after_change now p q called.result)
@@ -196,16 +195,16 @@ after_plug_line w p q = let called =
 unfoldable pub after_traps_line : WorldValue → Outcome WorldValue
 after_traps_line w = after_fabric_call w (after_begin_traps w.fabric)
 
--- the trap that waits at the node `id`, if there is one and it can leave, is sent again
+-- if a trap waits at the node `id` and can leave, and a serial number is left, the trap is sent again
 abbrev pub after_resend : WorldValue → ℕ → Outcome WorldValue
 after_resend w id = after_fabric_call w (after_send_trap w.fabric id)
 
--- the traps that wait at `left` nodes, from the node `id` on, are sent again
+-- the traps that wait at `left` consecutive nodes, of which `id` is the first, are sent again (`after_resend`)
 abbrev pub after_resends : WorldValue → ℕ → ℕ → Outcome WorldValue
 after_resends w id zero = quiet w
 after_resends w id (suc left) = and_then (after_resend w id) (λ now. after_resends now (id + 1) left)
 
--- `resend`: each trap that waits is sent again, in the order of the nodes
+-- `resend`: each trap that waits and can leave is sent again, in the order of the nodes (`after_resend`)
 abbrev pub after_resend_line : WorldValue → Outcome WorldValue
 after_resend_line w = after_resends w 0 (length w.fabric.agents)
 
@@ -271,24 +270,3 @@ new_seated planning nodes seat =
 abbrev pub world_of : Planning → Layout → List Seat → WorldValue
 world_of planning topology seats =
     record { fabric = simulation_of topology 1; managers = map (new_seated planning topology.nodes) seats }
-
--- what the run of a schedule prints, with managers that plan as `planning` says
-unfoldable pub script_text : Planning → Layout → Script → List ℕ
-script_text planning topology script =
-    (after_commands topology.nodes (world_of planning topology script.seats) script.commands).text
-
--- what the run of a schedule prints in the fabric of `topology`; nothing if the schedule is refused
-abbrev pub schedule_text : Planning → Layout → Result Script ScheduleFault → List ℕ
-schedule_text planning topology (Ok script) = script_text planning topology script
-schedule_text planning topology (Err fault) = []
-
--- what the run of a schedule's text prints in the fabric of a topology; nothing if the topology or the schedule is
--- refused
-abbrev pub topology_text : Planning → Result Layout TopoFault → List ℕ → List ℕ
-topology_text planning (Ok topology) schedule = schedule_text planning topology (schedule_of topology.nodes schedule)
-topology_text planning (Err fault) schedule = []
-
--- what a run of the texts of a topology and of a schedule prints, with managers that plan as `planning` says; nothing
--- if one of the texts is refused
-abbrev pub run_text : Planning → List ℕ → List ℕ → List ℕ
-run_text planning topology schedule = topology_text planning (topology_of topology) schedule

@@ -1,3 +1,4 @@
 pub mod Commands
 pub mod NamedPackets
+pub mod RunText
 pub mod World

@@ -15,8 +15,8 @@ abbrev pub serial_of : List Flight → Which → Option ℕ
 serial_of flights Last = option_map (λ flight. flight.serial) (slice_get flights (length flights - 1))
 serial_of flights (Serial serial) = Some serial
 
--- the packet that a manager sends: its DLID is the LID that it is sent to, or the permissive LID if there is none;
--- its SLID is the permissive LID
+-- the packet that a manager sends: the DLID is the LID that the packet is sent to, or the permissive LID if there is
+-- none; the SLID is the permissive LID
 abbrev pub packet_out : Outgoing → Packet
 packet_out outgoing =
     record { bytes = outgoing.packet; slid = 0xFFFF; dlid = option_map_or (λ lid. lid) outgoing.to 0xFFFF }

@@ -4,7 +4,7 @@ use Rattle.std.specs.Prelude.{◌≡◌, ℕ, Bool, List, [], ◌∷◌, length,
 use Rattle.std.specs.Prelude.{Result, Ok, Err, OnOk}
 use Rattle.std.specs.Option.{option_map_or}
 use Rattle.fabric_model.specs.declared.cable.NodePort.{NodePort}
-use Rattle.fabric_sim.specs.declared.fault.FabricFault.{FabricFault}
+use Rattle.fabric_sim.specs.declared.fabric_fault.FabricFault.{FabricFault}
 use Rattle.fabric_sim.specs.FabricFault.{fabric_fault_name}
 use Rattle.fabric_sim.specs.Changes.{after_inject}
 use Rattle.fabric_sim.specs.Called.{Called}
@@ -59,8 +59,8 @@ in_fabric w outcome = record { now = record w { fabric = outcome.now }; text = o
 abbrev pub after_fabric_call : {R : Type 0} → WorldValue → Called R → Outcome WorldValue
 after_fabric_call w called = in_fabric w (after_fabric called)
 
--- the outcome of sending the packets from the port `at`, in their order. For each packet that the fabric refuses, the
--- line of the refusal is printed
+-- the outcome of sending the packets of the list from the port `at`, one after the other. For each packet that the
+-- fabric refuses, the line of the refusal is printed
 abbrev pub after_inject_all : Simulation → NodePort → List Outgoing → Outcome Simulation
 after_inject_all fabric at [] = quiet fabric
 after_inject_all fabric at (out ∷ later) =
@@ -91,14 +91,14 @@ abbrev pub after_ask : (WorldValue → Outcome WorldValue) → WorldValue → �
 after_ask next w seat fault after =
     at_seat w seat (λ s. after_manager_call next w seat s (fault s.manager) (after s.manager))
 
--- the world after all packets that the manager of the seat `s` has queued were sent, and the line of each refusal by
--- the fabric
+-- the world after all packets that the manager of the seat `s` has queued were sent, and a line for each packet that
+-- the fabric refused
 abbrev pub after_send_by : WorldValue → ℕ → SeatedValue → Outcome WorldValue
 after_send_by w seat s =
     in_fabric (with_manager w seat s (emptied s.manager)) (after_inject_all w.fabric s.at s.manager.outgoing)
 
--- the world after all packets that the manager at the index `seat` has queued were sent, and the line of each refusal
--- by the fabric; unchanged if there is no such manager
+-- the world after all packets that the manager at the index `seat` has queued were sent, and a line for each packet
+-- that the fabric refused; unchanged if there is no such manager
 unfoldable pub after_send : WorldValue → ℕ → Outcome WorldValue
 after_send w seat = at_seat w seat (after_send_by w seat)
 

@@ -53,7 +53,7 @@ impl World<'_> {
         self.managers[seat].manager.raise_floor(floor);
     }
 
-    /// Times out each request whose answer the manager at index `seat` waits for when the call begins. There must be
+    /// Times out each request of the manager at index `seat` that is outstanding when the call begins. There must be
     /// a manager at this index. Then sends the packets that the manager has queued. Prints a line for each timeout
     /// that the manager refuses.
     pub(crate) fn time_out<W: Sink>(

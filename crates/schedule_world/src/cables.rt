@@ -11,8 +11,8 @@ use schedule_lines::{RunFault, refuse_fabric};
 use std::alloc::Global;
 
 impl World<'_> {
-    /// Cuts the cable in `port`, and informs the agents at both its ends. If the fabric refuses the cut, prints the
-    /// refusal.
+    /// Cuts the cable in `port`, and informs the agents at both ends of the cable. If the fabric refuses the cut,
+    /// prints the refusal.
     #[tactic(auto, unfolding(crate::specs::Commands::after_cut_line))]
     pub(crate) fn cut<W: Sink>(&mut self, port: NodePort, sink: &mut W) -> Result<(), RunFault>
         ensures does { Does W.written W.has_failed self.old self.new result sink.old sink.new
@@ -28,8 +28,8 @@ impl World<'_> {
         }
     }
 
-    /// Plugs a cable into the ports `one` and `other`, and informs the agents at both its ends. If the fabric refuses
-    /// the cable, prints the refusal.
+    /// Plugs a cable into the ports `one` and `other`, and informs the agents at both ends of the cable. If the
+    /// fabric refuses the cable, prints the refusal.
     #[tactic(auto, unfolding(crate::specs::Commands::after_plug_line))]
     pub(crate) fn plug<W: Sink>(
         &mut self,
@@ -92,7 +92,8 @@ impl World<'_> {
         }
     }
 
-    /// Resends each waiting trap, in the order of the nodes. Does not send a trap that cannot leave.
+    /// Resends each waiting trap, in the order of the nodes. Skips a trap that cannot leave, and each trap for which
+    /// no serial number is left.
     pub(crate) fn resend<W: Sink>(&mut self, sink: &mut W) -> Result<(), RunFault>
         ensures does { Does W.written W.has_failed self.old self.new result sink.old sink.new
             (after_resend_line (value_of self.old)) }
@@ -104,7 +105,8 @@ impl World<'_> {
         Ok(())
     }
 
-    /// Resends the trap that waits at `node`, if a trap waits there and can leave.
+    /// Resends the trap that waits at `node`. Does nothing if no trap waits there, if the trap cannot leave, or if no
+    /// serial number is left.
     fn resend_one<W: Sink>(&mut self, node: NodeId, sink: &mut W) -> Result<(), RunFault>
         ensures does { Does W.written W.has_failed self.old self.new result sink.old sink.new
             (after_resend (value_of self.old) node) }

@@ -1,7 +1,8 @@
 //! The commands of a schedule, which are run in turn.
 ghost use Rattle.std.specs.Prelude.{◌≡◌, false, length, OnOk, IsTrue};
 ghost use Rattle.schedule_file.specs.Schedule.{IsScript, NamesManagers};
-ghost use Rattle.schedule_world.specs.Commands.{after_command, script_text};
+ghost use Rattle.schedule_world.specs.Commands.{after_command};
+ghost use Rattle.schedule_world.specs.RunText.{script_text};
 ghost use Rattle.schedule_lines.specs.Prints.{PrintsUnless};
 ghost use Rattle.schedule_world.specs.World.{Does, value_of};
 

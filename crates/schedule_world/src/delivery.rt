@@ -14,8 +14,8 @@ use schedule_lines::{RunFault, refuse_fabric, refuse_manager, show_trap};
 
 impl World<'_> {
     /// Performs one step of the packet in flight that `which` names, loses the packet, or copies it, as `fate` says.
-    /// Hands a packet that is handed up to its manager. If no such packet is in flight, or the fabric refuses the
-    /// call, prints the refusal.
+    /// A packet that is handed up goes to the manager at the port. If no such packet is in flight, or the fabric
+    /// refuses the call, prints the refusal.
     #[tactic(auto, unfolding(crate::specs::Commands::after_packet_line))]
     pub(crate) fn handle_packet<W: Sink>(
         &mut self,

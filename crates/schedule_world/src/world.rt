@@ -35,8 +35,8 @@ pub(crate) struct Seated<'s> {
 #[derive(Drop)]
 pub(crate) struct World<'s> {
     pub(crate) fabric: Fabric,
-    /// The managers, in the order of their seats. Until its line is run, a manager does nothing, and its port is not
-    /// a seat of the fabric.
+    /// The managers, in the order of their seats. Until the line that seats a manager is run, the manager does
+    /// nothing, and its port is not a seat of the fabric.
     pub(crate) managers: Vec<Seated<'s>>,
 }
 
@@ -93,8 +93,8 @@ impl<'s> World<'s> {
     }
 }
 
-/// Sends all packets that `manager` has queued from the port `from`, in their order. Prints a line for each packet that
-/// the fabric refuses.
+/// Sends all packets that `manager` has queued from the port `from`, in the order of the queue. Prints a line for
+/// each packet that the fabric refuses.
 fn send_outgoing<W: Sink>(
     fabric: &mut Fabric,
     from: &NodePort,

@@ -10,9 +10,9 @@ use Rattle.sm_manager.specs.CallLists.{KnowTheSame, after_calls}
 use Rattle.sm_manager.specs.Manager.{Manager, new_manager}
 use Rattle.sm_manager.specs.PlanFaults.{plan_fault}
 use Rattle.sm_manager.proofs.Lives.{knows_what_it_took_in, planning_of_calls, same_taken_in_same_plan}
-use Rattle.serve_lines.specs.declared.line.ServeLine.TheVariants as is
+use Rattle.serve_lines.specs.declared.serve_line.ServeLine.TheVariants as is
 use Rattle.schedule_file.specs.declared.command.Shown.TheVariants as shown
-use Rattle.serve_lines.specs.declared.line.ServeLine.{ServeLine}
+use Rattle.serve_lines.specs.declared.serve_line.ServeLine.{ServeLine}
 use Rattle.serve_run.specs.Served.{end_line, served, served_all, send_line}
 use Rattle.serve_laws.specs.Told.{Who, new_by}
 use Rattle.serve_laws.specs.Told.{calls_of, floor_by, told_by}

@@ -3,7 +3,7 @@ use Rattle.std.proofs.Common.{◌≡◌, ℕ, Bool, true, false, cond, List, [],
 use Rattle.std.specs.Prelude.{◌==◌, map}
 use Rattle.std.proofs.lemmas.List.{append_assoc}
 use Rattle.sm_manager.specs.Manager.{Manager}
-use Rattle.serve_lines.specs.declared.line.ServeLine.{ServeLine}
+use Rattle.serve_lines.specs.declared.serve_line.ServeLine.{ServeLine}
 use Rattle.serve_lines.specs.ServeLine.{begun_by, line_of, lines_ended, lines_told}
 use Rattle.serve_run.specs.Served.{served, served_all}
 use Rattle.serve_laws.specs.ServeLaws.{EarlierAnswersStay}

@@ -39,7 +39,7 @@ use Rattle.lid_assign.specs.Lids.{Given, lmc_of, owner_of, rising_lids, top_of}
 use Rattle.lft_blocks.specs.Plan.{PlanValue, SwitchTable, plan_of}
 use Rattle.lft_blocks.specs.PlanText.{block_line, blocks_text, lid_line, lids_text, lmc_text, owner_line, plan_text, switch_line, table_text, tables_text}
 use Rattle.lft_blocks.specs.Planning.{Planning}
-use Rattle.sm_state.specs.States.{state_of_number, state_word}
+use Rattle.sm_state.specs.State.{state_of_number, state_word}
 use Rattle.attr_codec.specs.declared.sm_info.SmInfo.{SmInfo}
 use Rattle.sm_state.specs.declared.election.SeenManager.{SeenManager}
 use Rattle.sm_state.specs.declared.state.SmState.{SmState}
@@ -54,9 +54,9 @@ use Rattle.sm_manager.specs.declared.progress.Progress.TheVariants.{Never, Runni
 use Rattle.schedule_lines.specs.Lines.{answer_word, counts_text, silent_text, stage_text}
 use Rattle.schedule_lines.specs.ManagerAsks.{plan_or_refusal, text_of}
 use Rattle.schedule_lines.specs.Refusals.{manager_line}
-use Rattle.serve_lines.specs.declared.line.ServeLine.TheVariants as is
+use Rattle.serve_lines.specs.declared.serve_line.ServeLine.TheVariants as is
 use Rattle.schedule_file.specs.declared.command.Shown.TheVariants as shown
-use Rattle.serve_lines.specs.declared.line.ServeLine.{ServeLine}
+use Rattle.serve_lines.specs.declared.serve_line.ServeLine.{ServeLine}
 use Rattle.schedule_file.specs.declared.command.Shown.{Shown}
 use Rattle.serve_run.specs.Served.{after_giving_up, after_line, asked, fault_text, heard_text, seen_line}
 use Rattle.serve_run.specs.Served.{send_line, to_text, told_state, told_text, where_text, served}

@@ -10,12 +10,13 @@ use Rattle.node_agents.specs.Agent.{fresh_agent}
 use Rattle.node_agents.specs.Answers.{after_answer, get_of, set_of}
 use Rattle.node_agents.specs.PortInfo.{changed_port}
 use Rattle.reply_facts.specs.Report.{Sightings}
-use Rattle.lft_blocks.specs.Rules.{up_and_down}
+use Rattle.lft_blocks.specs.Rule.{up_and_down}
 use Rattle.lft_blocks.specs.Plan.{PlanValue, plan_of}
-use Rattle.plan_steps.specs.Phases.{Phase}
+use Rattle.plan_steps.specs.Phase.{Phase}
 use Rattle.fabric_sim.specs.Simulation.{fabric_of}
 use Rattle.fabric_sim.specs.Changes.{after_inject, cabled_at, after_lose, after_repeat}
-use Rattle.fabric_sim.specs.Delivery.{outcome_of, after_deliver}
+use Rattle.fabric_sim.specs.Delivery.{after_deliver}
+use Rattle.fabric_sim.specs.PacketOutcome.{outcome_of}
 use Rattle.schedule_file.specs.declared.command.Ask.TheVariants as ask
 use Rattle.schedule_lines.specs.ManagerAsks.{emptied}
 use Rattle.sm_manager.specs.Manager.{Manager, new_manager, after_begin_sweep}
@@ -33,7 +34,7 @@ use Rattle.manager_laws.proofs.NewManagers.{HasSwept, by_known, cells_by, may_be
 use Rattle.manager_laws.proofs.BringUpEvents as bring_up
 use Rattle.manager_laws.proofs.RunParts.{keep_split}
 use Rattle.manager_laws.proofs.ExampleFabric.{bare, distinct_by, is_bare, port}
-use Rattle.serve_lines.specs.declared.line.ServeLine.TheVariants.{Ask}
+use Rattle.serve_lines.specs.declared.serve_line.ServeLine.TheVariants.{Ask}
 use Rattle.serve_run.specs.Served.{asked_with, served}
 use Rattle.serve_laws.specs.Told.{Who}
 use Rattle.serve_laws.specs.Live.{CanLive, LiveEvent, Around, Tell, Hear, Send, after_live, events_by, events_of}

@@ -15,8 +15,8 @@ use Rattle.manager_laws.specs.Pings.{EachPingArrives}
 use Rattle.manager_laws.specs.Sets.{OwnSets}
 use Rattle.manager_laws.specs.WritingPings.{AreNoSweeps, BringsUp}
 use Rattle.manager_laws.specs.Written.{AllKeep, at_end, at_writing, own_sets, plan_at}
-use Rattle.serve_lines.specs.declared.line.ServeLine.{ServeLine}
-use Rattle.serve_lines.specs.declared.line.ServeLine.TheVariants.{Ask, Floor, Packet, Timeout, GiveUp, Show, Managers, Empty, Wrong}
+use Rattle.serve_lines.specs.declared.serve_line.ServeLine.{ServeLine}
+use Rattle.serve_lines.specs.declared.serve_line.ServeLine.TheVariants.{Ask, Floor, Packet, Timeout, GiveUp, Show, Managers, Empty, Wrong}
 use Rattle.serve_laws.specs.Told.{Who}
 use Rattle.serve_laws.specs.Told.{given_by}
 use Rattle.serve_laws.specs.Live.{LiveEvent, Around, Tell, Hear, Send, after_live, events_by, events_of, events_of_line, given_heard, takes_of}

@@ -13,8 +13,8 @@ use Rattle.sm_manager.specs.Writing.{after_write_steps}
 use Rattle.sm_manager.specs.declared.fault.ManagerFault.{ManagerFault}
 use Rattle.sm_manager.specs.declared.outgoing.Outgoing.{Outgoing}
 use Rattle.schedule_lines.specs.ManagerAsks.{emptied}
-use Rattle.serve_lines.specs.declared.line.ServeLine.{ServeLine}
-use Rattle.serve_lines.specs.declared.line.ServeLine.TheVariants.{Ask, GiveUp}
+use Rattle.serve_lines.specs.declared.serve_line.ServeLine.{ServeLine}
+use Rattle.serve_lines.specs.declared.serve_line.ServeLine.TheVariants.{Ask, GiveUp}
 use Rattle.serve_run.specs.Served.{after_giving_up, after_line, asked, asked_with, served}
 use Rattle.serve_laws.specs.Told.{call_asked, calls_of, calls_of_line, calls_told, given_by, takes_for}
 use Rattle.serve_laws.specs.ServeLaws.{ServedLives}

@@ -15,8 +15,8 @@ use Rattle.manager_laws.specs.Scene.{Handed}
 use Rattle.manager_laws.specs.Managing as managing
 use Rattle.manager_laws.specs.Managing.{CanBe, Managing, ManagerEvent, after_manager_event, after_manager_events, calling, hearing, sending}
 use Rattle.manager_laws.proofs.RunParts.{events_behind}
-use Rattle.serve_lines.specs.declared.line.ServeLine.{ServeLine}
-use Rattle.serve_lines.specs.declared.line.ServeLine.TheVariants.{Ask, Floor, Packet, Timeout, GiveUp}
+use Rattle.serve_lines.specs.declared.serve_line.ServeLine.{ServeLine}
+use Rattle.serve_lines.specs.declared.serve_line.ServeLine.TheVariants.{Ask, Floor, Packet, Timeout, GiveUp}
 use Rattle.serve_run.specs.Served.{after_giving_up, after_line, served, served_all}
 use Rattle.serve_laws.specs.Told.{call_asked, given_by}
 use Rattle.serve_laws.specs.Live.{CanLive, IsOrder, LiveEvent, Around, Tell, Hear, Send, ServedIsManaging, after_live}

@@ -1,7 +1,7 @@
 -- An answer ends at the first of its lines that begins with a dot.
 use Rattle.std.specs.Prelude.{◌≡◌, ℕ, Bool, true, false, ◌&&◌, ◌||◌, List, [], ◌∷◌, ◌++◌, ◌==◌}
 use Rattle.sm_manager.specs.Manager.{Manager}
-use Rattle.serve_lines.specs.declared.line.ServeLine.{ServeLine}
+use Rattle.serve_lines.specs.declared.serve_line.ServeLine.{ServeLine}
 use Rattle.serve_run.specs.Served.{end_line, served}
 
 -- some line of the text begins with a dot; `start` says whether a line begins at the start of the text

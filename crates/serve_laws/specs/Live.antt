@@ -10,8 +10,8 @@ use Rattle.sm_manager.specs.declared.outgoing.Outgoing.{Outgoing}
 use Rattle.manager_laws.specs.Scene.{Event, Handed, CanHappen}
 use Rattle.manager_laws.specs.Managing as managing
 use Rattle.manager_laws.specs.Managing.{CanBe, IsElsewhere, Managing, ManagerEvent, after_manager_events}
-use Rattle.serve_lines.specs.declared.line.ServeLine.{ServeLine}
-use Rattle.serve_lines.specs.declared.line.ServeLine.TheVariants.{Ask, Floor, Packet, Timeout, GiveUp}
+use Rattle.serve_lines.specs.declared.serve_line.ServeLine.{ServeLine}
+use Rattle.serve_lines.specs.declared.serve_line.ServeLine.TheVariants.{Ask, Floor, Packet, Timeout, GiveUp}
 use Rattle.serve_run.specs.Served.{served, served_all}
 use Rattle.serve_laws.specs.Told.{given_by}
 
@@ -41,7 +41,8 @@ CanLive seat event = Unit {0}
 
 -- the lines --------------------------------------------------------------------------------------
 
--- the line of the packet, with its source LID; none if there is no packet, or if it was not handed up at the seat
+-- the line of the packet, with the packet's source LID; none if there is no packet, or if the packet was not handed
+-- up at the seat
 abbrev pub lines_heard : Managing → Option Handed → List ServeLine
 lines_heard w None = []
 lines_heard w (Some h) = if is_same_port h.at w.seat then Packet h.packet.bytes h.packet.slid ∷ [] else []
@@ -75,7 +76,8 @@ abbrev pub takes_of : List Outgoing → List ManagerEvent
 takes_of [] = []
 takes_of (out ∷ later) = managing.Take ∷ takes_of later
 
--- the packets that are printed for the packet; none if there is no packet, or if it was not handed up at the seat
+-- the packets that are printed for the packet; none if there is no packet, or if the packet was not handed up at the
+-- seat
 abbrev pub given_heard : Managing → Option Handed → List Outgoing
 given_heard w None = []
 given_heard w (Some h) =
@@ -90,7 +92,7 @@ events_by w (Send which) = managing.Send which ∷ []
 
 -- all events -----------------------------------------------------------------------------------------
 
--- the `Managing` after an event of the process: after the events of its manager for it
+-- the `Managing` after an event of the process: after the manager's events for that event
 abbrev pub after_live : Managing → LiveEvent → Managing
 after_live w event = after_manager_events (events_by w event) w
 
@@ -104,7 +106,7 @@ abbrev pub lines_of : List LiveEvent → Managing → List ServeLine
 lines_of [] w = []
 lines_of (event ∷ events) w = lines_by w event ++ lines_of events (after_live w event)
 
--- the packets that a process prints for lines, in order
+-- the packets that a process prints for lines, in the order in which it prints them
 abbrev pub given_all : List ServeLine → Manager → List Outgoing
 given_all [] m = []
 given_all (line ∷ later) m = given_by m line ++ given_all later (served m line).now

@@ -12,8 +12,8 @@ use Rattle.manager_laws.specs.Managing.{Managing, Starts, after_manager_events}
 use Rattle.manager_laws.specs.Pings.{EachPingArrives}
 use Rattle.manager_laws.specs.Sets.{KeepsPlan, OwnSets}
 use Rattle.manager_laws.specs.Written.{own_sets, plan_at}
-use Rattle.serve_lines.specs.declared.line.ServeLine.{ServeLine}
-use Rattle.serve_lines.specs.declared.line.ServeLine.TheVariants.{Ask, Floor}
+use Rattle.serve_lines.specs.declared.serve_line.ServeLine.{ServeLine}
+use Rattle.serve_lines.specs.declared.serve_line.ServeLine.TheVariants.{Ask, Floor}
 use Rattle.serve_laws.specs.Told.{Who, new_by}
 use Rattle.serve_laws.specs.Live.{CanLive, LiveEvent, Around, Tell, after_live, events_of}
 

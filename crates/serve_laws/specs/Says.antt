@@ -3,14 +3,14 @@ use Rattle.std.specs.Prelude.{None, ◌≡◌, ◌↔◌, true, ◌++◌, codes}
 use Rattle.std.specs.List.{flat_map}
 use Rattle.sm_manager.specs.Manager.{Manager}
 use Rattle.sm_manager.specs.Writing.{is_written}
-use Rattle.serve_lines.specs.declared.line.ServeLine.{ServeLine}
+use Rattle.serve_lines.specs.declared.serve_line.ServeLine.{ServeLine}
 use Rattle.schedule_file.specs.declared.command.Shown.TheVariants.{Written}
 use Rattle.schedule_lines.specs.ManagerAsks.{text_of}
 use Rattle.serve_run.specs.Served.{after_line, end_line, send_line, served}
 use Rattle.serve_laws.specs.Told.{given_by}
 
--- an answer is the text that the line itself prints, then a line for each packet that is sent, in order, and then the
--- line of a dot
+-- an answer is the text that the line itself prints, then a line for each packet that is sent, in the order of
+-- sending, and then the line of a dot
 abbrev pub PacketsArePrinted : Type 0
 PacketsArePrinted =
     (m : Manager) (line : ServeLine) → (served m line).text

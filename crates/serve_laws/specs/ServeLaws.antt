@@ -4,8 +4,8 @@ use Rattle.fact_store.specs.Seen.{HaveSameMembers}
 use Rattle.fact_store.specs.View.{view_at}
 use Rattle.sm_manager.specs.CallLists.{KnowTheSame, after_calls}
 use Rattle.sm_manager.specs.Manager.{Manager}
-use Rattle.serve_lines.specs.declared.line.ServeLine.{ServeLine}
-use Rattle.serve_lines.specs.declared.line.ServeLine.TheVariants.{Show}
+use Rattle.serve_lines.specs.declared.serve_line.ServeLine.{ServeLine}
+use Rattle.serve_lines.specs.declared.serve_line.ServeLine.TheVariants.{Show}
 use Rattle.schedule_file.specs.declared.command.Shown.TheVariants.{Facts, Plan}
 use Rattle.serve_lines.specs.ServeLine.{begun_by, lines_told}
 use Rattle.serve_run.specs.Served.{served, served_all, served_by}
@@ -40,9 +40,8 @@ pub record TellTheSame (one other : Manager) : Type 0 where
   pub plan : (served one (Show Plan)).text ≡ (served other (Show Plan)).text
   pub know : KnowTheSame one other
 
--- two new processes answer `facts` and `plan` with the same text, and know the same, if three conditions hold: they
--- plan by the same rule and LMC; they took in the same sightings, in any order and each any number of times; and they
--- have the same greatest floor
+-- if two new processes plan by the same rule and LMC, took in the same sightings, in any order and each any number of
+-- times, and have the same greatest floor, they answer `facts` and `plan` with the same text, and know the same
 abbrev pub SameToldSameTexts : Type 0
 SameToldSameTexts =
     (who who' : Who) (lines lines' : List ServeLine) → who.planning ≡ who'.planning

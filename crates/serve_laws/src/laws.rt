@@ -32,16 +32,16 @@ pub fn knows_what_it_was_told()
     ensures { KnowsWhatItWasTold }
 {}
 
-/// Two new processes answer `facts` and `plan` with the same bytes, whatever else they were given, if three conditions
-/// hold: they plan by the same rule and LMC; they took in the same sightings, in any order and however often; and they
-/// have the same greatest floor.
+/// If two new processes plan by the same rule and LMC, took in the same sightings, in any order and however often,
+/// and have the same greatest floor, then they answer `facts` and `plan` with the same bytes, whatever else they were
+/// given.
 pub fn same_told_same_texts()
     ensures { SameToldSameTexts }
 {}
 
 /// A process at its seat on a fabric, behind a faithful shell, is a manager there: whatever live events happen are
-/// possible events of `Managing`; the manager at the seat is then the manager that the lines of the process leave; and
-/// this manager has given out, in order, the packets that the process printed.
+/// possible events of `Managing`; the manager at the seat is then the manager that the lines of the process leave;
+/// and this manager has given out the packets that the process printed, in the same order.
 pub fn served_is_managing()
     ensures { ServedIsManaging }
 {}
@@ -62,8 +62,8 @@ pub fn some_process_serves()
     ensures { SomeProcessServes }
 {}
 
-/// An answer has the text that the line itself prints, then a line for each packet that is sent, in order, and then the
-/// line of a dot.
+/// An answer has the text that the line itself prints, then a line for each packet that is sent, in the order of
+/// sending, and then the line of a dot.
 #[tactic(auto, using(crate::proofs::Said::packets_are_printed))]
 pub fn packets_are_printed()
     ensures { PacketsArePrinted }

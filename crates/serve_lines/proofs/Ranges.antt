@@ -9,13 +9,13 @@ use Rattle.hex.specs.Hex.{decode_pairs}
 use Rattle.hex.specs.declared.error.FromHexError.{FromHexError}
 use Rattle.hex.specs.declared.error.FromHexError.TheVariants.{OddLength, InvalidStringLength}
 use Rattle.hex.proofs.HexLemmas.{decode_pairs-ok}
-use Rattle.text_words.specs.Number.{number_of, lid_of, number_up_to}
+use Rattle.text_words.specs.Numbers.{number_of, lid_of, number_up_to}
 use Rattle.text_words.specs.Text.{words}
 use Rattle.text_words.proofs.Ranges.{always, mapped, tested, then_some}
 use Rattle.schedule_file.specs.ManagerWords.{asked_by, generation_of, shown_by}
 use Rattle.schedule_file.specs.declared.command.Ask.TheVariants.{Poll}
-use Rattle.serve_lines.specs.declared.line.ServeLine.{ServeLine}
-use Rattle.serve_lines.specs.declared.line.ServeLine.TheVariants.{Ask, Floor, Packet, Timeout, GiveUp, Managers, Wrong}
+use Rattle.serve_lines.specs.declared.serve_line.ServeLine.{ServeLine}
+use Rattle.serve_lines.specs.declared.serve_line.ServeLine.TheVariants.{Ask, Floor, Packet, Timeout, GiveUp, Managers, Wrong}
 use Rattle.serve_lines.specs.ServeLine.{bare_of, line_in, line_of, most_bytes, of_one, packet_in, packet_of, show_of, transaction_of}
 use Rattle.serve_lines.specs.Read.{IsRead, ReadLinesAreInRange}
 

@@ -1,8 +1,8 @@
 -- The ranges of the numbers and packets that lines to a manager contain.
 use Rattle.std.specs.Prelude.{◌≡◌, ◌≤◌, ℕ, List, length}
 use Rattle.serve_lines.specs.ServeLine.{line_of}
-use Rattle.serve_lines.specs.declared.line.ServeLine.{ServeLine}
-use Rattle.serve_lines.specs.declared.line.ServeLine.TheVariants.{Floor, Packet}
+use Rattle.serve_lines.specs.declared.serve_line.ServeLine.{ServeLine}
+use Rattle.serve_lines.specs.declared.serve_line.ServeLine.TheVariants.{Floor, Packet}
 
 -- what a line says is in range: a floor is from 1 to 2^32 - 1, a packet has 256 bytes, and the LID that it came from
 -- fits in 16 bits

@@ -6,27 +6,27 @@ use Rattle.std.specs.Result.{result_ok}
 use Rattle.std.specs.Str.{bytes_eq}
 use Rattle.hex.specs.Hex.{decode_sized}
 use Rattle.text_words.specs.Text.{words}
-use Rattle.text_words.specs.Number.{number_of, lid_of}
+use Rattle.text_words.specs.Numbers.{number_of, lid_of}
 use Rattle.schedule_file.specs.ManagerWords.{asked_by, generation_of, shown_by}
 use Rattle.schedule_file.specs.declared.command.Ask.TheVariants.{Poll}
-use Rattle.serve_lines.specs.declared.line.ServeLine.{ServeLine}
-use Rattle.serve_lines.specs.declared.line.ServeLine.TheVariants.{Ask, Floor, Packet, Timeout, GiveUp, Show, Managers, Empty, Wrong}
+use Rattle.serve_lines.specs.declared.serve_line.ServeLine.{ServeLine}
+use Rattle.serve_lines.specs.declared.serve_line.ServeLine.TheVariants.{Ask, Floor, Packet, Timeout, GiveUp, Show, Managers, Empty, Wrong}
 
 -- words ------------------------------------------------------------------------------------------
 
--- the 256 bytes that the word gives, each as two hex digits; None if the word is not 512 hex digits
+-- if the word is 512 hex digits, the 256 bytes that these digits give, two for each byte; otherwise None
 abbrev pub packet_of : List ℕ → Option (List ℕ)
 packet_of word = result_ok (decode_sized word 256)
 
--- the number that the word gives in hex digits; None if the word is not 1 to 16 hex digits
+-- if the word is 1 to 16 hex digits, the number that these digits give; otherwise None
 abbrev pub hex_number : List ℕ → Option ℕ
 hex_number word = if nat_lt 16 (length word) then None else number_of 16 word
 
--- the TransactionID that the word gives in hex digits; None if the word is not 16 hex digits
+-- if the word is 16 hex digits, the TransactionID that these digits give; otherwise None
 abbrev pub transaction_of : List ℕ → Option ℕ
 transaction_of word = if length word == 16 then hex_number word else None
 
--- the meaning of the line that shows what the word asks about a manager; None if the word is not such a command
+-- if the word is a command that shows something about a manager, the meaning of its line; otherwise None
 abbrev pub show_of : List ℕ → Option ServeLine
 show_of word = option_map Show (shown_by word)
 

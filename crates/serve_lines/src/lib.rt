@@ -2,8 +2,8 @@
 #![tactic(auto)]
 
 pub mod laws;
-mod line;
 mod read;
+mod serve_line;
 
-pub use line::ServeLine;
 pub use read::{MOST_BYTES, hex_number, read_line};
+pub use serve_line::ServeLine;

@@ -4,7 +4,7 @@ ghost use Rattle.text_words.specs.Text.{words};
 ghost use Rattle.serve_lines.specs.ServeLine.{bare_of, line_in, line_of, most_bytes, of_one, packet_in, packet_of};
 ghost use Rattle.serve_lines.specs.ServeLine.{hex_number, transaction_of};
 
-use crate::line::ServeLine;
+use crate::serve_line::ServeLine;
 use schedule_file::{Ask, asked_by, generation_of, lid_of, shown_by};
 use text_words::{is_word, number, split_word};
 

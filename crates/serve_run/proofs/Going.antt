@@ -12,7 +12,7 @@ use Rattle.schedule_lines.proofs.Printing.{prints_both, prints_then}
 use Rattle.sm_manager.specs.Manager.{Manager}
 use Rattle.serve_run.specs.Kept.{ServerValue, after_bytes}
 use Rattle.serve_run.specs.Served.{served_by}
-use Rattle.serve_run.specs.Serving.{FailsToRead, GoesOn, HasServed, IsOver, ServesPiece, StopsServing, StopsWithin, Unread, fault_of_run, stopped}
+use Rattle.serve_run.specs.Server.{FailsToRead, GoesOn, HasServed, IsOver, ServesPiece, StopsServing, StopsWithin, Unread, fault_of_run, stopped}
 use Rattle.serve_run.specs.declared.serve_fault.ServeFault.{ServeFault}
 use Rattle.serve_run.specs.declared.serve_fault.ServeFault.TheVariants as stop
 use Rattle.serve_run.proofs.Kept.{beginning, bytes_are_lines, now_behind, text_behind}

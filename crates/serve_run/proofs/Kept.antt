@@ -4,7 +4,7 @@ use Rattle.std.specs.Prelude.{◌==◌, map, nat_le}
 use Rattle.std.proofs.lemmas.Bool.{cond_both, leb-true}
 use Rattle.schedule_lines.specs.Outcome.{and_then, quiet}
 use Rattle.serve_lines.specs.ServeLine.{line_of, lines_ended, lines_told, most_bytes}
-use Rattle.serve_lines.specs.declared.line.ServeLine.TheVariants.{Wrong}
+use Rattle.serve_lines.specs.declared.serve_line.ServeLine.TheVariants.{Wrong}
 use Rattle.sm_manager.specs.Manager.{Manager}
 use Rattle.serve_run.specs.Kept.{ServerValue, after_byte, after_bytes, after_kept, kept_with}
 use Rattle.serve_run.specs.Served.{served, served_all, served_by}

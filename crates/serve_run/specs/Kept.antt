@@ -10,7 +10,7 @@ pub record ServerValue : Type 0 where
   pub manager : Manager
   pub begun : List ℕ
 
--- `begun` with the byte `b` appended; `begun` itself if it is already longer than a line may be
+-- `begun` with the byte `b` appended; `begun` itself if `begun` is already longer than a line may be
 abbrev pub kept_with : List ℕ → ℕ → List ℕ
 kept_with begun b = if nat_le (length begun) most_bytes then begun ++ b ∷ [] else begun
 

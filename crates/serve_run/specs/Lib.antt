@@ -1,4 +1,4 @@
 pub mod Kept
 pub mod Lives
 pub mod Served
-pub mod Serving
+pub mod Server

@@ -10,10 +10,10 @@ use Rattle.schedule_lines.specs.Refusals.{manager_line}
 use Rattle.schedule_lines.specs.Lines.{trap_text}
 use Rattle.schedule_lines.specs.Outcome.{Outcome, and_then, quiet, shows}
 use Rattle.serve_lines.specs.ServeLine.{lines_told}
-use Rattle.serve_lines.specs.declared.line.ServeLine.{ServeLine}
-use Rattle.serve_lines.specs.declared.line.ServeLine.TheVariants.{Ask, Floor, Packet, Timeout, GiveUp, Show, Managers, Empty, Wrong}
+use Rattle.serve_lines.specs.declared.serve_line.ServeLine.{ServeLine}
+use Rattle.serve_lines.specs.declared.serve_line.ServeLine.TheVariants.{Ask, Floor, Packet, Timeout, GiveUp, Show, Managers, Empty, Wrong}
 use Rattle.attr_codec.specs.declared.sm_info.SmInfo.{SmInfo}
-use Rattle.sm_state.specs.States.{state_of_number, state_word}
+use Rattle.sm_state.specs.State.{state_of_number, state_word}
 use Rattle.sm_state.specs.declared.election.SeenManager.{SeenManager}
 use Rattle.sm_manager.specs.Manager.{Manager, after_raise_floor, outstanding}
 use Rattle.sm_manager.specs.Packets.{Called, after_packet, after_timeout, done, refused, noted_trap}
@@ -23,7 +23,8 @@ use Rattle.sm_manager.specs.declared.traps.Trap.{Trap}
 
 -- texts ------------------------------------------------------------------------------------------
 
--- ` to ` and the LID that a packet is sent to; empty if there is no LID, since the packet then goes over its own path
+-- if there is a LID, ` to ` and this LID, which the packet is sent to; otherwise empty, since the packet goes along
+-- its own path
 abbrev pub to_text : Option ℕ → List ℕ
 to_text None = []
 to_text (Some lid) = codes " to " ++ decimal lid
@@ -59,7 +60,7 @@ abbrev pub heard_text : Option Trap → Option ManagerFault → List ℕ
 heard_text trap None = trap_text None trap
 heard_text trap (Some fault) = manager_line fault
 
--- the line of the given refusal; empty for None
+-- if a refusal is given, its line; otherwise empty
 abbrev pub fault_text : Option ManagerFault → List ℕ
 fault_text fault = heard_text None fault
 

@@ -4,7 +4,7 @@
 mod managers;
 mod outgoing;
 mod serve_fault;
-mod serve_line;
+mod served;
 mod server;
 
 pub use serve_fault::ServeFault;

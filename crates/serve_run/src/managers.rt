@@ -9,7 +9,7 @@ use byte_io::{Sink, WriteFault, write_guid, write_number, write_port};
 use schedule_lines::RunFault;
 use sm_state::{SeenManager, SmState};
 
-/// Prints a line for each of `managers`, which are those that a sweep saw, in their order.
+/// Prints a line for each of `managers`, the managers that a sweep saw, in the order of `managers`.
 pub(crate) fn show_managers<W: Sink>(sink: &mut W, managers: &[SeenManager]) -> Result<(), RunFault>
     ensures prints { PrintsUnless W.written W.has_failed result sink.old sink.new
         (flat_map seen_line managers.now) }

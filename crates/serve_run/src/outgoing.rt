@@ -45,7 +45,7 @@ fn write_hex<W: Sink>(sink: &mut W, packet: &[u8; 256]) -> Result<(), WriteFault
 }
 
 /// Writes ` to ` and then `to`, the LID that a packet is sent to. Writes nothing if `to` is `None`, since the packet
-/// then goes over its own path.
+/// then goes along its own path.
 fn write_to<W: Sink>(sink: &mut W, to: Option<Lid>) -> Result<(), WriteFault>
     ensures writes { Writes W.written W.has_failed result sink.old sink.new (to_text to) }
 {

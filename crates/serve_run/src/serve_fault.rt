@@ -25,7 +25,7 @@ impl From<WriteFault> for ServeFault {
 
 impl From<RunFault> for ServeFault {
     ghost use Rattle.std.specs.Prelude.{◌≡◌};
-    ghost use Rattle.serve_run.specs.Serving.{fault_of_run};
+    ghost use Rattle.serve_run.specs.Server.{fault_of_run};
 
     ghost from_gives = { λ e fault. fault ≡ fault_of_run e };
 

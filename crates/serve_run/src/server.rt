@@ -4,10 +4,10 @@ ghost use Rattle.std.specs.Io.KnownBytes.{Appends};
 ghost use Rattle.schedule_lines.specs.Prints.{PrintsSome};
 ghost use Rattle.serve_run.specs.Kept.{after_byte, after_bytes, kept_with};
 ghost use Rattle.serve_run.specs.Lives.{Lives};
-ghost use Rattle.serve_run.specs.Serving.{HasServed, ServesPiece, StopsServing, value_of};
+ghost use Rattle.serve_run.specs.Server.{HasServed, ServesPiece, StopsServing, value_of};
 
 use crate::serve_fault::ServeFault;
-use crate::serve_line::serve_line;
+use crate::served::serve_line;
 use byte_io::{ReadError, Sink, Source};
 use schedule_lines::RunFault;
 use serve_lines::{MOST_BYTES, read_line};

@@ -2,14 +2,14 @@
 use Rattle.std.specs.Prelude.{◌≡◌, ◌⊎◌, ℕ, Bool, true, List, [], ◌∷◌, ◌++◌}
 use Rattle.byte_io.specs.Source.{SourceState}
 use Rattle.record_file.specs.declared.file_fault.FileFault.TheVariants as files
-use Rattle.lft_blocks.specs.Rules.{RuleValue}
+use Rattle.lft_blocks.specs.Rule.{RuleValue}
 use Rattle.sm_cli.specs.Asked.{texts_for}
 use Rattle.sm_cli.specs.Inputs.{AreInputs, IsInputFault, Reader}
 use Rattle.sm_cli.specs.declared.fault.Fault.{Fault}
 use Rattle.sm_cli.specs.declared.fault.Fault.TheVariants.{File, Write, Memory}
 use Rattle.sm_state.specs.declared.conduct.Conduct.TheVariants.{Live}
 use Rattle.sm_manager.specs.Manager.{Manager, new_manager}
-use Rattle.serve_run.specs.Serving.{HasServed, StopsServing}
+use Rattle.serve_run.specs.Server.{HasServed, StopsServing}
 use Rattle.serve_run.specs.declared.serve_fault.ServeFault.{ServeFault}
 use Rattle.serve_run.specs.declared.serve_fault.ServeFault.TheVariants as stop
 use Rattle.serve_task.specs.declared.serving.Serving.{Serving}
@@ -18,7 +18,7 @@ use Rattle.serve_task.specs.declared.serving.Serving.{Serving}
 abbrev pub no_files : {S : Type 0} → Reader S (Unit {0})
 no_files = record { reads = λ olds news told. news ≡ olds; refuses = λ before olds news fault. ⊥; has_switch = λ told guid. true }
 
--- the inputs: the text that a rule takes, if it takes one, and the lines
+-- the inputs: the text that a rule takes, if the rule takes one, and the lines
 pub record Inputs {S : Type 0} (inputs : List S) : Type 0 where
   pub texts : List S
   pub lines : S
@@ -29,8 +29,8 @@ abbrev pub manager_asked : Serving → RuleValue → Manager
 manager_asked asked rule =
     new_manager asked.guid asked.port asked.priority (Live asked.sm_key) (record { lmc = asked.lmc; rule = rule })
 
--- the text that the rule takes was read, if it takes one, and `holds` holds of the lines, before and after, and of the
--- manager that is asked for
+-- the text that the rule takes was read, if the rule takes one. `holds` relates the source of the lines, before and
+-- after, and the manager that is asked for
 pub record WithManager {S : Type 0} (state : S → SourceState) (asked : Serving) (olds news : List S)
     (holds : S → S → Manager → Type 0) : Type 0 where
   pub were : Inputs olds
@@ -39,8 +39,8 @@ pub record WithManager {S : Type 0} (state : S → SourceState) (asked : Serving
   pub read : AreInputs state no_files asked.rule were.texts are.texts rule tt
   pub so : holds were.lines are.lines (manager_asked asked rule)
 
--- the text that the rule takes was read, and the manager was served to the end of the lines; `prints` holds of what
--- was printed
+-- the text that the rule takes was read, if the rule takes one, and the manager was served to the end of the lines;
+-- the answers are printed, as `prints` says
 abbrev pub HasServedLines : {S : Type 0} → (S → SourceState) → Serving → List S → List S → (List ℕ → Type 0) → Type 0
 HasServedLines state asked olds news prints =
     WithManager state asked olds news (λ old new m. HasServed state old new m prints)
@@ -59,7 +59,7 @@ fault_of_serving lines stop.Read = File lines files.Read
 fault_of_serving lines stop.Write = Write
 fault_of_serving lines stop.Memory = Memory
 
--- serving the manager `m` stopped with `fault`; `some` or `whole` holds of what was printed, as `StopsServing` says
+-- serving the manager `m` stopped with `fault`; what was printed is as `some` or `whole` says (`StopsServing`)
 pub record StopsEarly {S : Type 0} (state : S → SourceState) (lines : ℕ) (old new : S) (m : Manager)
     (some whole : List ℕ → Type 0) (sink_failed : Bool) (fault : Fault) : Type 0 where
   pub stopped : ServeFault

@@ -7,7 +7,7 @@ use Rattle.fact_store.specs.Merge.{merge}
 use Rattle.fact_store.proofs.Views.{view_of_both}
 use Rattle.record_file.specs.Laws.{AreParts}
 use Rattle.record_file.specs.Reading.{floor_in, kept}
-use Rattle.lft_blocks.specs.Rules.{RuleValue}
+use Rattle.lft_blocks.specs.Rule.{RuleValue}
 use Rattle.sm_cli.specs.declared.asked.Invocation.{Invocation}
 use Rattle.record_file.proofs.SplitFiles.{split_reports, split_store}
 use Rattle.record_file.proofs.StoreFiles.{read_back}

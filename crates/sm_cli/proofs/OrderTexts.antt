@@ -8,7 +8,7 @@ use Rattle.std.specs.Prelude.{Contains, codes}
 use Rattle.smp_bytes.specs.Text.{guid_text}
 use Rattle.smp_bytes.proofs.HexText.{length-hex_text}
 use Rattle.smp_bytes.proofs.Members.{contains_here, contains_later, contains_cases, contains_none}
-use Rattle.text_words.specs.Number.{number_of, guid_of}
+use Rattle.text_words.specs.Numbers.{number_of, guid_of}
 use Rattle.text_words.specs.Text.{lines, words}
 use Rattle.text_words.proofs.Digits.{is_within}
 use Rattle.text_words.proofs.NumbersPrinted.{guid_is_read}
@@ -22,18 +22,18 @@ use Rattle.subnet_view.specs.GraphLaws.{IsGraph}
 use Rattle.subnet_view.specs.Reading.{switches}
 use Rattle.subnet_view.proofs.Graphs.{graph_law}
 use Rattle.subnet_view.proofs.GraphSwitches.{graph_guids}
-use Rattle.spread_labels.specs.declared.vertex_key.VertexKey.{VertexKey}
+use Rattle.spread_labels.specs.declared.key_order.VertexKey.{VertexKey}
 use Rattle.spread_labels.specs.Orders.{at_position, position_of}
 use Rattle.spread_labels.proofs.ByPositions.{position_less}
 use Rattle.spread_labels.proofs.Growing.{contains_at}
 use Rattle.spread_routes.specs.Adapters.{adapters_of}
 use Rattle.spread_routes.specs.Rule.{order_by_keys}
 use Rattle.spread_routes.specs.Spread.{keys_by, switches_in_order}
-use Rattle.spread_routes.specs.SwitchOrders.{OrderValue, switches_by_keys}
+use Rattle.spread_routes.specs.SwitchOrder.{OrderValue, switches_by_keys}
 use Rattle.spread_routes.proofs.Indices.{as_many, index_of_switch}
 use Rattle.spread_routes.proofs.Names.{grows}
 use Rattle.lft_blocks.specs.PlanText.{plan_text}
-use Rattle.lft_blocks.specs.Rules.{order_of}
+use Rattle.lft_blocks.specs.Rule.{order_of}
 use Rattle.lft_blocks.proofs.RulesRoute.{orders_hold}
 use Rattle.held_tables.proofs.PlanRanges.{switch_small}
 use Rattle.roots_file.specs.Line.{root_of, root_on}

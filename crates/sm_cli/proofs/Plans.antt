@@ -3,10 +3,10 @@ use Rattle.std.proofs.Common.{◌≡◌, ℕ, Bool, Option, None, Some, refl}
 use Rattle.std.specs.Prelude.{if◌then◌else◌}
 use Rattle.fact_store.specs.View.{Facts, cells_of}
 use Rattle.lid_assign.specs.LidFault.{is_memory, lid_fault, no_room}
-use Rattle.lid_assign.specs.declared.fault.NoRoom.{NoRoom as Room}
-use Rattle.lid_assign.specs.declared.fault.LidFault.{LidFault}
-use Rattle.lid_assign.specs.declared.fault.LidFault.TheVariants as lids
-use Rattle.sm_cli.specs.Faults.{fault_of_lids}
+use Rattle.lid_assign.specs.declared.lid_fault.NoRoom.{NoRoom as Room}
+use Rattle.lid_assign.specs.declared.lid_fault.LidFault.{LidFault}
+use Rattle.lid_assign.specs.declared.lid_fault.LidFault.TheVariants as lids
+use Rattle.sm_cli.specs.Fault.{fault_of_lids}
 use Rattle.sm_cli.specs.Run.{IsWritingFault}
 use Rattle.sm_cli.specs.declared.fault.Fault.{Fault}
 

@@ -1,4 +1,4 @@
--- What is asked for in a run over files: the rule of routing, and the number of texts that are read first for it.
+-- What is asked for in a run on files: the rule of routing, and the number of texts that are read first for it.
 use Rattle.std.specs.Prelude.{ℕ, Bool, true, false}
 use Rattle.sm_cli.specs.declared.asked.RuleAsked.{RuleAsked}
 use Rattle.sm_cli.specs.declared.asked.RuleAsked.TheVariants.{UpDown, Spread, SpreadFromRoots, SpreadInOrder, Balance}

@@ -49,7 +49,8 @@ abbrev pub AreReadAs : {S : Type 0} → (S → SourceState) → List S → List 
 AreReadAs state olds news files =
     (input : ℕ) (file : List ℕ) → slice_get files input ≡ Some file → IsReadAt state olds news input file
 
--- all sources were read, and `facts` is what their files say together, at the greatest of `floor` and their floors
+-- all sources were read, and `facts` is what the sources' files say together, at the greatest of `floor` and the
+-- files' floors
 pub record HasRead {S : Type 0} (state : S → SourceState) (floor : ℕ) (olds news : List S)
     (facts : Facts) : Type 0 where
   pub files : List (List ℕ)

@@ -5,7 +5,7 @@ use Rattle.record_file.specs.Whole.{IsReadWhole, FailsToRead}
 use Rattle.lanes_file.specs.Lanes.{LanesSaid}
 use Rattle.lanes_file.specs.Reading.{first_fault, lanes_said}
 use Rattle.lanes_file.specs.LanesTextFault.{LanesTextFault as LanesFault}
-use Rattle.text_words.specs.declared.fault.LinesFault.TheVariants as wrong
+use Rattle.text_words.specs.declared.lines_fault.LinesFault.TheVariants as wrong
 use Rattle.sm_cli.specs.declared.fault.Fault.{Fault}
 use Rattle.sm_cli.specs.declared.fault.Fault.TheVariants.{File, Text}
 use Rattle.sm_cli.specs.declared.text_fault.TextFault.{TextFault}

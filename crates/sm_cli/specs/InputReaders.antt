@@ -10,7 +10,7 @@ use Rattle.sm_cli.specs.Inputs.{Reader}
 use Rattle.sm_cli.specs.declared.input_steps.StepInputs.{StepInputs}
 use Rattle.sm_cli.specs.declared.input_tables.TablesAndFacts.{TablesAndFacts}
 
--- the reader of files; they are read at the greatest of `floor` and their floors
+-- the reader of files, which are read at the greatest of `floor` and the files' floors
 abbrev pub files_reader : {S : Type 0} → (S → SourceState) → ℕ → Reader S Facts
 files_reader state floor = record {
   reads = HasRead state floor;
@@ -18,7 +18,7 @@ files_reader state floor = record {
   has_switch = λ facts. is_usable (cells_of facts);
 }
 
--- the reader of a text of tables and then files; the files are read at the greatest of `floor` and their floors
+-- the reader of a text of tables and then files; the files are read at the greatest of `floor` and the files' floors
 abbrev pub tables_reader : {S : Type 0} → (S → SourceState) → ℕ → Reader S TablesAndFacts
 tables_reader state floor = record {
   reads = AreTablesAndFiles state floor;
@@ -26,8 +26,8 @@ tables_reader state floor = record {
   has_switch = λ told. is_usable (cells_of told.store);
 }
 
--- the reader of the inputs of a step: a text of lanes and a text of an order, if asked for, then tables and files; the
--- files are read at the greatest of `floor` and their floors
+-- the reader of the inputs of a step: a text of lanes and a text of an order, if asked for, then tables and files;
+-- the files are read at the greatest of `floor` and the files' floors
 abbrev pub step_reader : {S : Type 0} → (S → SourceState) → ℕ → Bool → Bool → Reader S StepInputs
 step_reader state floor has_lanes has_order = record {
   reads = AreStepInputs state floor has_lanes has_order;

@@ -5,7 +5,7 @@ use Rattle.record_file.specs.Whole.{IsReadWhole, FailsToRead}
 use Rattle.held_tables.specs.Held.{HeldPlan}
 use Rattle.tables_file.specs.Reading.{first_fault, held_of}
 use Rattle.tables_file.specs.TablesTextFault.{TablesTextFault as TablesFault}
-use Rattle.text_words.specs.declared.fault.LinesFault.TheVariants as wrong
+use Rattle.text_words.specs.declared.lines_fault.LinesFault.TheVariants as wrong
 use Rattle.sm_cli.specs.declared.fault.Fault.{Fault}
 use Rattle.sm_cli.specs.declared.fault.Fault.TheVariants.{File, Text}
 use Rattle.sm_cli.specs.declared.text_fault.TextFault.{TextFault}

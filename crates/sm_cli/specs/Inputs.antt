@@ -2,8 +2,8 @@
 -- the roots are checked once the switches are known.
 use Rattle.std.specs.Prelude.{◌≡◌, ◌⊎◌, ℕ, Bool, List, [], ◌∷◌, Option, None, Some, find, not, option_map}
 use Rattle.byte_io.specs.Source.{SourceState}
-use Rattle.lft_blocks.specs.Rules.{RuleValue, spread_in, up_and_down}
-use Rattle.spread_routes.specs.SwitchOrders.{OrderValue, as_named, balanced_as, from_roots, least_loaded}
+use Rattle.lft_blocks.specs.Rule.{RuleValue, spread_in, up_and_down}
+use Rattle.spread_routes.specs.SwitchOrder.{OrderValue, as_named, balanced_as, from_roots, least_loaded}
 use Rattle.sm_cli.specs.Asked.{texts_for}
 use Rattle.sm_cli.specs.Sources.{AreReadInParts, IsOneRead}
 use Rattle.sm_cli.specs.declared.asked.RuleAsked.{RuleAsked}
@@ -105,8 +105,8 @@ module _ {S T : Type 0} (state : S → SourceState) (reader : Reader S T) (asked
     pub read : AreRead rule told
     pub sound : rule_fault (reader.has_switch told) asked rule ≡ None
 
-  -- the inputs were read, roots that a text names are not at fault, and `holds` holds of the rule and of what the
-  -- inputs say
+  -- the inputs were read, roots that a text names are not at fault, and the rule and what the inputs say are as
+  -- `holds` requires
   pub record WithInputs (holds : RuleValue → T → Type 0) : Type 0 where
     pub rule : RuleValue
     pub told : T
@@ -117,7 +117,7 @@ module _ {S T : Type 0} (state : S → SourceState) (reader : Reader S T) (asked
   abbrev pub RefusesRule : Fault → Type 0
   RefusesRule fault = AreReadInParts olds news (λ os ns. IsRuleFault state asked os ns fault) (λ os ns. ns ≡ os)
 
-  -- the text that the rule takes was read, if it takes one, and reading the inputs after it fails with `fault`
+  -- the text that the rule takes was read, if the rule takes one, and reading the inputs after it fails with `fault`
   abbrev pub RefusesOthers : Fault → Type 0
   RefusesOthers fault =
       (rule : RuleValue) × AreReadInParts olds news (λ os ns. IsRuleRead state asked os ns rule)

@@ -1,7 +1,7 @@
 pub mod Asked
 pub mod ExitStatus
-pub mod FaultText
-pub mod Faults
+pub mod FaultLine
+pub mod Fault
 pub mod InputFiles
 pub mod InputLanes
 pub mod InputOrders

@@ -7,6 +7,6 @@ use Rattle.smp_bytes.specs.Text.{guid_text}
 abbrev pub order_line : ℕ → List ℕ
 order_line guid = codes "0x" ++ guid_text guid ++ codes "\n"
 
--- a line for each of the switches `guids`, in their order
+-- a line for each of the switches `guids`, in the order of `guids`
 abbrev pub order_text : List ℕ → List ℕ
 order_text guids = flat_map order_line guids

@@ -1,14 +1,15 @@
--- A run over files: it reads its inputs in order, and writes what the files say together, or returns a fault.
+-- A run on files: it reads its inputs, one after the other, and writes what the files say together, or returns a
+-- fault.
 use Rattle.std.specs.Prelude.{◌≡◌, ◌⊎◌, ⊤, ℕ, Bool, List, [], Option, None, Some, IsTrue}
 use Rattle.byte_io.specs.Source.{SourceState}
 use Rattle.fact_store.specs.View.{Facts, cells_of, AreInRange}
 use Rattle.record_file.specs.FactsText.{facts_text}
 use Rattle.record_file.specs.StoreFile.{store_bytes}
 use Rattle.lid_assign.specs.LidFault.{no_room}
-use Rattle.lid_assign.specs.declared.fault.NoRoom.{NoRoom as LacksRoom}
+use Rattle.lid_assign.specs.declared.lid_fault.NoRoom.{NoRoom as LacksRoom}
 use Rattle.lft_blocks.specs.Plan.{plan_of}
 use Rattle.lft_blocks.specs.PlanText.{plan_text}
-use Rattle.lft_blocks.specs.Rules.{RuleValue, order_of, spread_in, up_and_down}
+use Rattle.lft_blocks.specs.Rule.{RuleValue, order_of, spread_in, up_and_down}
 use Rattle.subnet_view.specs.Reading.{Cells}
 use Rattle.sm_cli.specs.declared.asked.Output.{Output}
 use Rattle.sm_cli.specs.declared.asked.Output.TheVariants as output
@@ -72,21 +73,21 @@ IsAnswerFault what facts sink_failed Write = IsTrue sink_failed
 IsAnswerFault what facts sink_failed Memory = IsPlanned what facts None
 IsAnswerFault what facts sink_failed fault = ⊥
 
--- the output can be made, and `prints` holds of what is written from `facts`, by `rule` if it is a plan or an order
+-- the output can be made from `facts`, and is printed, as `prints` says; a plan or an order is made by `rule`
 pub record IsAnswer (output : Output) (rule : RuleValue) (facts : Facts) (prints : List ℕ → Type 0) : Type 0 where
   pub can_be : IsAnswered output facts
   pub answered : prints (answer_to output rule facts)
 
 -- runs ------------------------------------------------------------------------------------------
 
--- the inputs were read, and the output that is asked for can be made from what the files say; `prints` holds of this
--- output
+-- the inputs were read, and the output that is asked for can be made from what the files say, and is printed, as
+-- `prints` says
 abbrev pub HasAnswered : {S : Type 0} → (S → SourceState) → Invocation → List S → List S → (List ℕ → Type 0) → Type 0
 HasAnswered state request olds news prints =
     WithInputs state (files_reader state request.floor) (rule_for request.output) olds news
     (λ rule facts. IsAnswer request.output rule facts prints)
 
--- a run over open inputs ends with `fault`: the inputs are not read, or the output is not made
+-- a run on open inputs ends with `fault`: the inputs are not read, or the output is not made
 abbrev pub IsFaultOf : {S : Type 0} → (S → SourceState) → Invocation → List S → List S → Bool
     → Fault → Type 0
 IsFaultOf state request olds news sink_failed fault =

@@ -12,8 +12,8 @@ use Rattle.record_file.specs.ReportFile.{IsReportFile, report_file}
 use Rattle.record_file.specs.Reading.{kept, outcome}
 use Rattle.record_file.specs.StoreFile.{cells_file}
 use Rattle.record_file.specs.StoreLaws.{IsStoreFile}
-use Rattle.spread_routes.specs.SwitchOrders.{OrderValue, named_in}
-use Rattle.lft_blocks.specs.Rules.{RuleValue, spread_in}
+use Rattle.spread_routes.specs.SwitchOrder.{OrderValue, named_in}
+use Rattle.lft_blocks.specs.Rule.{RuleValue, spread_in}
 use Rattle.sm_cli.specs.declared.asked.Invocation.{Invocation}
 use Rattle.sm_cli.specs.declared.asked.Output.TheVariants.{Order, Plan}
 use Rattle.sm_cli.specs.declared.asked.RuleAsked.{RuleAsked}
@@ -26,8 +26,8 @@ pub record SayTheSame (floor : ℕ) (files others : List (List ℕ)) : Type 0 wh
   pub sightings : HaveSameMembers (flat_map kept files) (flat_map kept others)
   pub floors : floor_among floor files ≡ floor_among floor others
 
--- the answer to a request from two lists of files is the same, if they keep the same sightings, and the greatest of
--- the request's floor and the files' floors is the same for both
+-- if two lists of files keep the same sightings, and the greatest of the request's floor and the files' floors is the
+-- same for both lists, the answer to the request is the same for both
 abbrev pub SightingsDecideAnswer : Type 0
 SightingsDecideAnswer = (request : Invocation) (rule : RuleValue) (files others : List (List ℕ))
     → SayTheSame request.floor files others → answer_to request.output rule (facts_of request.floor files)
@@ -88,8 +88,8 @@ pub record OrderStands (order : OrderValue) (asked again : RuleAsked) (facts : F
   pub same_plan : (lmc : ℕ) → answer_to (Plan lmc again) (spread_in (named_in order named)) facts
       ≡ answer_to (Plan lmc asked) (spread_in order) facts
 
--- each printed order stands (`OrderStands`), if the facts are in range and no usable switch has the GUID 0, which no
--- text names
+-- if the facts are in range and no usable switch has the GUID 0, which no text names, each printed order stands
+-- (`OrderStands`)
 abbrev pub PrintedOrdersStand : Type 0
 PrintedOrdersStand = (order : OrderValue) (asked again : RuleAsked) (facts : Facts) → AreInRange facts
     → ¬ (Contains (switches (cells_of facts)) 0) → OrderStands order asked again facts

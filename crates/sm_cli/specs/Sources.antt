@@ -7,8 +7,8 @@ pub record Parts {S : Type 0} (sources : List S) : Type 0 where
   pub others : List S
   pub are : sources ≡ first ++ others
 
--- the sources were read in two parts: `first_read` holds of the first part before and after, and `others_read` of the
--- others
+-- the sources were read in two parts. `first_read` relates the sources of the first part, before and after reading;
+-- `others_read` relates those of the second part
 pub record AreReadInParts {S : Type 0} (olds news : List S) (first_read others_read : List S → List S → Type 0) : Type 0
   where
     pub were : Parts olds
@@ -16,7 +16,7 @@ pub record AreReadInParts {S : Type 0} (olds news : List S) (first_read others_r
     pub first_is : first_read were.first are.first
     pub others_are : others_read were.others are.others
 
--- there is one source, and `read_as` holds of it before and after
+-- there is one source, and `read_as` relates the source before and after reading
 pub record IsOneRead {S : Type 0} (olds news : List S) (read_as : S → S → Type 0) : Type 0 where
   pub old : S
   pub new : S

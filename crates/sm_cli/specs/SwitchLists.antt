@@ -4,7 +4,7 @@ use Rattle.byte_io.specs.Source.{SourceState}
 use Rattle.record_file.specs.Whole.{IsReadWhole, FailsToRead}
 use Rattle.roots_file.specs.Reading.{roots_of}
 use Rattle.roots_file.specs.RootsTextFault.{RootsTextFault as RootsFault}
-use Rattle.text_words.specs.declared.fault.LinesFault.TheVariants as wrong
+use Rattle.text_words.specs.declared.lines_fault.LinesFault.TheVariants as wrong
 use Rattle.sm_cli.specs.declared.fault.Fault.{Fault}
 use Rattle.sm_cli.specs.declared.fault.Fault.TheVariants.{File, Text}
 use Rattle.sm_cli.specs.declared.text_fault.TextFault.{TextFault}

@@ -1,11 +1,11 @@
 -- The message for a refused text: the faulty line, if there is one, and a word.
 use Rattle.std.specs.Prelude.{ℕ, Bool, true, false, List, [], ◌++◌, Option, None, Some, codes, decimal}
-use Rattle.topo_file.specs.declared.fault.TopoFault.TheVariants as topology
+use Rattle.topo_file.specs.declared.topo_fault.TopoFault.TheVariants as topology
 use Rattle.topo_file.specs.TopoFault as topologies
-use Rattle.schedule_file.specs.declared.fault.ScheduleFault.TheVariants as schedule
+use Rattle.schedule_file.specs.declared.schedule_fault.ScheduleFault.TheVariants as schedule
 use Rattle.schedule_file.specs.ScheduleFault as schedules
-use Rattle.text_words.specs.Faults as lines
-use Rattle.text_words.specs.declared.fault.LinesFault.TheVariants as line
+use Rattle.text_words.specs.LinesFault as lines
+use Rattle.text_words.specs.declared.lines_fault.LinesFault.TheVariants as line
 use Rattle.tables_file.specs.TablesTextFault as tables
 use Rattle.lanes_file.specs.LanesTextFault as lanes
 use Rattle.roots_file.specs.RootsTextFault as roots
@@ -13,7 +13,7 @@ use Rattle.smp_bytes.specs.Text.{guid_text}
 use Rattle.sm_cli.specs.declared.text_fault.TextFault.{TextFault}
 use Rattle.sm_cli.specs.declared.text_fault.TextFault.TheVariants.{NotUtf8, Topology, Schedule, Tables, Lanes, Roots, NoRoot, NoSwitch, Moves}
 
--- the number of the line for which a text is refused; None if the text is not refused for a line
+-- if a text is refused for one of its lines, the number of this line; otherwise None
 abbrev pub text_fault_line : TextFault → Option ℕ
 text_fault_line NotUtf8 = None
 text_fault_line (Topology fault) = topologies.fault_line fault
@@ -37,12 +37,12 @@ text_fault_word NoRoot = codes "no root"
 text_fault_word (NoSwitch guid) = codes "no usable switch"
 text_fault_word (Moves lid) = codes "moves"
 
--- the GUID that the fault concerns; None if it concerns none
+-- if the fault concerns a GUID, this GUID; otherwise None
 abbrev pub text_fault_guid : TextFault → Option ℕ
 text_fault_guid (NoSwitch guid) = Some guid
 text_fault_guid _ = None
 
--- the LID that the fault concerns; None if it concerns none
+-- if the fault concerns a LID, this LID; otherwise None
 abbrev pub text_fault_lid : TextFault → Option ℕ
 text_fault_lid (Moves lid) = Some lid
 text_fault_lid _ = None

@@ -1,4 +1,4 @@
-//! What a run over files is asked for.
+//! What a run on files is asked for.
 ghost use Rattle.std.specs.Prelude.{◌≡◌};
 ghost use Rattle.sm_cli.specs.Asked.{texts_if};
 
@@ -36,7 +36,7 @@ impl RuleAsked {
     }
 }
 
-/// What a run over files writes.
+/// What a run on files writes.
 #[derive(Clone, Copy, Debug, PartialEq, Eq)]
 pub enum Output {
     /// What the files say together, as text, with a line for each fact.
@@ -65,7 +65,7 @@ impl Output {
     }
 }
 
-/// What is asked of a run over files.
+/// What is asked of a run on files.
 #[derive(Clone, Copy, Debug, PartialEq, Eq)]
 pub struct Invocation {
     pub output: Output,

@@ -54,7 +54,7 @@ impl From<Refused> for Fault {
 
 impl From<LidFault> for Fault {
     ghost use Rattle.std.specs.Prelude.{◌≡◌};
-    ghost use Rattle.sm_cli.specs.Faults.{fault_of_lids};
+    ghost use Rattle.sm_cli.specs.Fault.{fault_of_lids};
 
     ghost from_gives = { λ e fault. fault ≡ fault_of_lids e };
 

@@ -1,4 +1,4 @@
-//! The files of a run. They are read in order, and what they say is merged.
+//! The files of a run. They are read one after the other, and what they say is merged.
 ghost use Rattle.std.specs.Prelude.{◌+◌, ◌≤◌, length, IfErr, IfOk, OnOk};
 ghost use Rattle.sm_cli.specs.InputFiles.{HasRead, IsRefusedFile, ReadsInto, Refuses};
 
@@ -36,8 +36,8 @@ impl<S: Source> InputReader<S> for FilesFrom {
     }
 }
 
-/// Reads all `files` to their ends, and returns what they say together, at the greatest of `floor` and their floors.
-/// `before` other inputs come before `files`. There must be at most `usize::MAX` inputs in all.
+/// Reads all `files` to their ends, and returns what `files` say together, at the greatest of `floor` and the files'
+/// floors. `before` other inputs come before `files`. There must be at most `usize::MAX` inputs in all.
 ///
 /// # Errors
 ///

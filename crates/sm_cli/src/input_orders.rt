@@ -14,7 +14,7 @@ use std::alloc::Global;
 /// What a text of an order, a text of tables and the files after them say.
 #[derive(Drop)]
 pub struct OrderAndTables {
-    /// The switches that the text of the order names, from the first on; empty if there is no such text.
+    /// The switches that the text of the order names, in the order of the text; empty if there is no such text.
     pub order: Vec<Guid>,
     /// What the tables and the files after the order say.
     pub read: TablesAndFacts,

@@ -96,7 +96,8 @@ fn read_tables<S: Source>(alloc: Global, input: usize, texts: &mut [S]) -> Resul
     }
 }
 
-/// Reads the tables from `source`, to its end. `input` is the index of `source` in the run.
+/// Reads the tables from `source`, to its end. `input` is its index among the inputs of the run. Returns the fault of
+/// the input if reading fails or the text is refused.
 fn read_text<S: Source>(alloc: Global, input: usize, source: &mut S) -> Result<Held, Fault>
     ensures read { IfOk result (IsTables S.state source.old source.new) }
     ensures refused { IfErr result

@@ -1,11 +1,11 @@
 //! The inputs of a run: the text of roots or of an order, if the rule takes one, and the inputs after it.
 ghost use Rattle.std.specs.Prelude.{◌≡◌, ◌+◌, ◌-◌, ◌≤◌, ℕ, length, IfErr, IfOk};
-ghost use Rattle.lft_blocks.specs.Rules.{value_of};
+ghost use Rattle.lft_blocks.specs.Rule.{value_of};
 ghost use Rattle.sm_cli.specs.Asked.{texts_for};
 ghost use Rattle.sm_cli.specs.Inputs.{AreInputs, IsInputFault, IsRuleFault, IsRuleRead};
 ghost use Rattle.sm_cli.specs.SwitchLists.{IsSwitchList, IsSwitchListFault};
 ghost use Rattle.sm_cli.specs.Inputs.{fault_of_first, first_unusable, order_fault, rule_fault};
-ghost use Rattle.spread_routes.specs.SwitchOrders.{order_value_of};
+ghost use Rattle.spread_routes.specs.SwitchOrder.{order_value_of};
 
 use crate::asked::RuleAsked;
 use crate::fault::Fault;
@@ -44,8 +44,9 @@ pub trait InputReader<S: Source> {
         ensures { result ≡ (reader self.now).has_switch told.now guid };
 }
 
-/// Reads the inputs in order, each to its end. Returns the rule that is asked for, and what the inputs after the
-/// rule's text say. There must be a text if the rule takes one, and `reader` must take the number of inputs after it.
+/// Reads the inputs, one after the other, each to its end. Returns the rule that is asked for, and what the inputs
+/// after the rule's text say. There must be a text if the rule takes one, and `reader` must take the number of inputs
+/// after it.
 ///
 /// # Errors
 ///

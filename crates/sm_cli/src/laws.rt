@@ -14,7 +14,8 @@ pub fn files_decide_answer()
     ensures { FilesDecideAnswer }
 {}
 
-/// A store file into which files were joined is accepted and stands for them at its floor, alone or among other files.
+/// A store file into which files were joined is accepted and stands for these files at its floor, alone or among
+/// other files.
 pub fn joined_file_stands()
     ensures { JoinedFileStands }
 {}
@@ -31,8 +32,8 @@ pub fn split_store_stands()
     ensures { SplitStoreStands }
 {}
 
-/// A printed order, given back as the order of a plan, is printed as the same text again and gives the same plan, byte
-/// for byte, if the facts are in range and no usable switch has the GUID 0.
+/// If the facts are in range and no usable switch has the GUID 0, a printed order, given back as the order of a plan,
+/// is printed as the same text again and gives the same plan, byte for byte.
 pub fn printed_orders_stand()
     ensures { PrintedOrdersStand }
 {}

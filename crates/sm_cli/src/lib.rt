@@ -1,10 +1,10 @@
-//! A run over files of records: the files are read, and what they say is written, as text or as a store file.
+//! A run on files of records: the files are read, and what they say is written, as text or as a store file.
 #![tactic(auto)]
 
 mod asked;
 mod exit_status;
 mod fault;
-mod fault_text;
+mod fault_line;
 mod input_files;
 mod input_lanes;
 mod input_orders;
@@ -19,7 +19,7 @@ mod text_fault;
 pub use asked::{Invocation, Output, RuleAsked, texts_if};
 pub use exit_status::ExitStatus;
 pub use fault::Fault;
-pub use fault_text::write_fault;
+pub use fault_line::write_fault;
 pub use input_files::FilesFrom;
 pub use input_lanes::{LanesAndFiles, read_lanes_and_files};
 pub use input_orders::OrderAndTables;

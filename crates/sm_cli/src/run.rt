@@ -1,9 +1,9 @@
-//! A run over files of records.
+//! A run on files of records.
 ghost use Rattle.std.specs.Prelude.{◌≡◌, ◌⊎◌, ◌≤◌, Err, None, false, length, OnOk, OnErr, IfErr, IfOk, IsTrue};
 ghost use Rattle.std.specs.Io.KnownBytes.{Appends};
 ghost use Rattle.fact_store.specs.View.{cells_of};
 ghost use Rattle.lid_assign.specs.LidFault.{no_room};
-ghost use Rattle.lft_blocks.specs.Rules.{value_of};
+ghost use Rattle.lft_blocks.specs.Rule.{value_of};
 ghost use Rattle.lft_blocks.specs.Plan.{plan_of};
 ghost use Rattle.lft_blocks.specs.PlanText.{plan_text};
 ghost use Rattle.sm_cli.specs.Asked.{rule_for, texts_for};

@@ -41,7 +41,7 @@ impl TextFault {
     ghost use Rattle.sm_cli.specs.TextFault.{text_fault_guid, text_fault_lid, text_fault_line, text_fault_word};
     ghost use Rattle.sm_cli.specs.TextFault.{is_of_text};
 
-    /// Returns the number of the faulty line, counted from 1, or `None` if the fault does not concern a line.
+    /// Returns the line's number, counted from 1, if the fault concerns a line, and otherwise `None`.
     pub fn line(&self) -> Option<usize>
         ensures { result ≡ text_fault_line self.now }
     {
@@ -56,7 +56,7 @@ impl TextFault {
         }
     }
 
-    /// Returns what the message says about the line, or about the text if the fault does not concern a line.
+    /// Returns what the message says about the line if the fault concerns a line, and otherwise about the text.
     pub fn word(&self) -> &'static str
         ensures { result.now ≡ text_fault_word self.now }
     {
@@ -73,7 +73,7 @@ impl TextFault {
         }
     }
 
-    /// Returns the GUID that the fault concerns, or `None` if it concerns no GUID.
+    /// Returns the GUID if the fault concerns one, and otherwise `None`.
     pub fn guid(&self) -> Option<Guid>
         ensures { result ≡ text_fault_guid self.now }
     {
@@ -83,7 +83,7 @@ impl TextFault {
         }
     }
 
-    /// Returns the LID that the fault concerns, or `None` if it concerns no LID.
+    /// Returns the LID if the fault concerns one, and otherwise `None`.
     pub fn lid(&self) -> Option<Lid>
         ensures { result ≡ text_fault_lid self.now }
     {

@@ -16,11 +16,11 @@ use Rattle.sweep.specs.Sweep.{Sweep, is_done, timeout_fault}
 use Rattle.std.specs.Prelude.{Result, Ok, Err}
 use Rattle.request_table.proofs.Numbers.{rising_more, rising_pushed}
 use Rattle.plan_steps.specs.declared.step.Step.{Step}
-use Rattle.plan_steps.specs.Phases.{Phase}
+use Rattle.plan_steps.specs.Phase.{Phase}
 use Rattle.sm_state.specs.declared.event.Event.TheVariants as event
 use Rattle.sm_state.specs.declared.event.Message.{Message}
 use Rattle.sm_state.specs.declared.transition.Transition.{Transition}
-use Rattle.sm_state.specs.Controls.{control_of_message, modifier_of_control}
+use Rattle.sm_state.specs.Control.{control_of_message, modifier_of_control}
 use Rattle.sm_state.specs.declared.state.SmState.TheVariants.{Master}
 use Rattle.sm_state.specs.Transitions.{status_of, stepped}
 use Rattle.sm_manager.specs.declared.fault.ManagerFault.{ManagerFault}
@@ -37,7 +37,7 @@ use Rattle.sm_manager.specs.Packets.{Called, answered_by, answers, after_timeout
 use Rattle.sm_manager.specs.Packets.{done as done_call, request_gave_up, after_request, sweep_answered, sweep_gave_up, sweep_timed_out, unless_spent}
 use Rattle.sm_manager.specs.PlanFaults.{writing_fault}
 use Rattle.sm_manager.specs.ManagerRequests.{counts, how_many, is_step, no_step_waits, none_counts, with_number, without_number}
-use Rattle.sm_manager.specs.Served.{acknowledged_at, answering, controlled, request_counted, is_control, moved_on, replying, request_counted, served}
+use Rattle.sm_manager.specs.SmInfoAnswers.{acknowledged_at, answering, controlled, request_counted, is_control, moved_on, replying, request_counted, served}
 use Rattle.sm_manager.specs.Traps.{represses, repressing}
 use Rattle.sm_state.specs.Standing.{is_in, moved_to}
 use Rattle.sm_manager.specs.Writing.{is_done_by, is_spent, is_written, is_written_by, next_pending, next_phase, noted, without_empty_phases}

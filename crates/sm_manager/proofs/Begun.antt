@@ -4,12 +4,12 @@ use Rattle.std.proofs.lemmas.Bool.Decides.{nat_tests}
 use Rattle.std.specs.Prelude.{Option, Some, None, min, not, nat_le, ◌==◌, if◌then◌else◌}
 use Rattle.std.specs.List.{AllByRecursion}
 use Rattle.fact_store.specs.View.{cells_of}
-use Rattle.lid_assign.specs.declared.fault.NoRoom.{NoRoom}
+use Rattle.lid_assign.specs.declared.lid_fault.NoRoom.{NoRoom}
 use Rattle.lid_assign.specs.LidFault.{no_room}
 use Rattle.lid_assign.specs.Lids.{IsNoRoom, is_no_room}
 use Rattle.plan_steps.specs.Bound.{most_steps}
-use Rattle.plan_steps.specs.LidSets.{own_lid}
-use Rattle.plan_steps.specs.Phases.{Phase}
+use Rattle.plan_steps.specs.LidSteps.{own_lid}
+use Rattle.plan_steps.specs.Phase.{Phase}
 use Rattle.plan_steps.proofs.Bounds.{phase_bound_law}
 use Rattle.lft_blocks.specs.Plan.{plan_of}
 use Rattle.request_table.proofs.Indices.{some_is}

@@ -7,8 +7,8 @@ use Rattle.sm_state.specs.declared.control.Control.TheVariants as control
 use Rattle.sm_state.specs.declared.event.Event.TheVariants as event
 use Rattle.sm_state.specs.declared.standing.Standing.{Standing}
 use Rattle.sm_state.specs.declared.state.SmState.TheVariants.{Master}
-use Rattle.sm_state.specs.Conducts.{is_live}
-use Rattle.sm_state.specs.Controls.{control_of_modifier}
+use Rattle.sm_state.specs.Conduct.{is_live}
+use Rattle.sm_state.specs.Control.{control_of_modifier}
 use Rattle.sm_state.specs.Transitions.{status_of}
 use Rattle.sm_state.proofs.Moves.{handovers_are_taken}
 use Rattle.sm_manager.specs.HandoverLaws.{HandoversLeaveAMaster, move_of}

@@ -26,7 +26,7 @@ use Rattle.sm_manager.specs.Packets.{Called, refused, done, answered_by, sweep_a
 use Rattle.sm_manager.specs.declared.pending.Purpose.{Purpose}
 use Rattle.sm_manager.specs.declared.pending.Purpose.TheVariants as purpose
 use Rattle.sm_manager.specs.Election.{after_handover, handed_to, handover_fault, handover_move, successor_lid, poll_fault, after_poll, after_message}
-use Rattle.sm_manager.specs.Served.{acknowledged_at, answering, controlled, request_counted, is_control, moved_on, replying, served}
+use Rattle.sm_manager.specs.SmInfoAnswers.{acknowledged_at, answering, controlled, request_counted, is_control, moved_on, replying, served}
 use Rattle.sm_manager.specs.Traps.{represses, repressing}
 use Rattle.sm_state.specs.Standing.{moved_to}
 use Rattle.sm_manager.specs.PlanFaults.{writing_fault}

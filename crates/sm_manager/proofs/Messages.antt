@@ -13,7 +13,7 @@ use Rattle.sm_manager.specs.Election.{after_message, message_count, message_out,
 use Rattle.sm_manager.specs.Manager.{Manager}
 use Rattle.sm_manager.specs.Packets.{done, refused, unless_spent}
 use Rattle.sm_manager.specs.PlanFaults.{number_fault}
-use Rattle.sm_manager.specs.Served.{acknowledged_at, answering, controlled}
+use Rattle.sm_manager.specs.SmInfoAnswers.{acknowledged_at, answering, controlled}
 use Rattle.sm_manager.specs.declared.fault.ManagerFault.TheVariants as fault
 
 -- no number, no request and no packet more

@@ -17,7 +17,7 @@ use Rattle.sm_manager.specs.Manager.{Manager}
 use Rattle.sm_manager.specs.ManagerRequests.{with_number}
 use Rattle.sm_manager.specs.Packets.{Called, after_request, after_timeout, answered_by, done, is_for_sweep, is_info_request, packet_taken}
 use Rattle.sm_manager.specs.Packets.{pending_for, refused, request_answered, request_gave_up, sweep_answered, sweep_gave_up, sweep_timed_out, unless_spent}
-use Rattle.sm_manager.specs.Served.{served}
+use Rattle.sm_manager.specs.SmInfoAnswers.{served}
 use Rattle.sm_manager.specs.Traps.{represses, repressing}
 use Rattle.sm_manager.specs.Writing.{is_spent}
 

@@ -4,18 +4,18 @@ use Rattle.std.proofs.lemmas.Option.{same_Some}
 use Rattle.std.specs.Prelude.{◌^◌, Contains, IsSome, None, Option, Some, if◌then◌else◌, is_none, nat_le, option_and_then}
 use Rattle.fact_store.specs.View.{Facts, cells_of}
 use Rattle.subnet_view.specs.declared.end_port.EndPort.{EndPort}
-use Rattle.subnet_view.specs.EndPorts.{end_ports, is_end_port}
+use Rattle.subnet_view.specs.EndPort.{end_ports, is_end_port}
 use Rattle.subnet_view.specs.Reading.{Cells}
 use Rattle.subnet_view.proofs.Apart.{contains-from_map}
 use Rattle.subnet_view.proofs.EndPortList.{end_ports_law}
 use Rattle.subnet_view.proofs.WireLaws.{end_port_from_test}
-use Rattle.lid_assign.specs.declared.fault.NoRoom.{NoRoom}
+use Rattle.lid_assign.specs.declared.lid_fault.NoRoom.{NoRoom}
 use Rattle.lid_assign.specs.LidFault.{no_room}
 use Rattle.lid_assign.specs.Lids.{IsNoRoom, is_no_room, lid_of, lids}
 use Rattle.lid_assign.proofs.LidLaws.{ports-lids, ports_apart}
 use Rattle.lid_assign.proofs.Owners.{lid-from_given}
 use Rattle.sm_state.specs.declared.event.Message.{Message}
-use Rattle.sm_state.specs.Controls.{control_of_message, modifier_of_control}
+use Rattle.sm_state.specs.Control.{control_of_message, modifier_of_control}
 use Rattle.sm_manager.specs.declared.outgoing.Outgoing.{Outgoing}
 use Rattle.sm_manager.specs.declared.pending.Pending.{Pending}
 use Rattle.sm_manager.specs.declared.pending.Purpose.TheVariants.{Control}

@@ -21,10 +21,10 @@ use Rattle.sm_manager.specs.Traps.{represses}
 use Rattle.sm_manager.specs.PlanFaults.{writing_fault}
 use Rattle.sm_manager.specs.Writing.{after_write_steps}
 
--- a call that may change a manager. `Packet` brings bytes to its port; `from` is the LID of their sender, if that is
--- known. `Timeout` ends the wait of the request with the TransactionID `transaction`. `Raise` raises the floor of the
--- facts to `floor`. `Merge` merges the view of `sightings` at `floor`. `Poll` polls the manager at the LID `lid` or,
--- if `lid` is None, a manager that the last sweep saw
+-- a call that may change a manager. `Packet` brings bytes to the manager's port; `from` is the LID of the sender, if
+-- this LID is known. `Timeout` times out the request with the TransactionID `transaction`. `Raise` raises the floor
+-- of the facts to `floor`. `Merge` merges the view of `sightings` at `floor`. `Poll` polls the manager at the LID
+-- `lid` or, if `lid` is None, a manager that the last sweep saw
 pub data Call : Type 0 where
   BeginSweep : Call
   WriteSteps : Call
@@ -36,7 +36,7 @@ pub data Call : Type 0 where
   Poll : (lid : Option ℕ) → Call
   Handover : Call
 
--- the manager `m` after a call; unchanged if the call is refused. A call for which memory runs out counts as not made
+-- the manager `m` after a call; unchanged if the call is refused. If memory runs out, the call counts as not made
 abbrev pub after_call : Manager → Call → Manager
 after_call m BeginSweep = if is_none (begin_fault m) then after_begin_sweep m else m
 after_call m WriteSteps = if is_none (writing_fault m) then after_write_steps m else m
@@ -60,7 +60,7 @@ abbrev pub sightings_if : Result Answer SweepFault → Sightings
 sightings_if (Ok answer) = sightings_by answer
 sightings_if (Err why) = []
 
--- the sightings of the reply `bytes` to a sweep; none if there is no sweep, or if it refuses the reply
+-- the sightings of the reply `bytes` to a sweep; none if there is no sweep, or if the sweep refuses the reply
 abbrev pub sightings_of_reply : List ℕ → Option Sweep → Sightings
 sightings_of_reply bytes None = []
 sightings_of_reply bytes (Some s) = sightings_if (judged s bytes)
@@ -116,8 +116,8 @@ KnowsWhatItTookIn = (port_guid port priority : ℕ) (conduct : Conduct) (plannin
     (after_calls calls (new_manager port_guid port priority conduct planning)).store
     ≡ view_at (greatest_floor calls) (taken_in calls (new_manager port_guid port priority conduct planning))
 
--- `one` and `other` have equal facts and equal plans. If every end port finds a LID, every packet arrives by the plan
--- of `one` (`EveryPacketArrives`)
+-- `one` and `other` have equal sets of facts and equal plans. If every end port finds a LID, every packet arrives
+-- under the plan of `one` (`EveryPacketArrives`)
 pub record KnowTheSame (one other : Manager) : Type 0 where
   pub facts : one.store ≡ other.store
   pub plan : plan_of one.planning.rule one.planning.lmc (cells_of one.store)

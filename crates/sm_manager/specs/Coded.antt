@@ -13,7 +13,7 @@ use Rattle.sm_state.specs.declared.election.SeenManager.{SeenManager}
 use Rattle.sm_state.specs.contracts.election.SeenManager as seen
 use Rattle.sm_state.specs.declared.standing.Standing.{Standing}
 use Rattle.sm_state.specs.contracts.standing.Standing as standing
-use Rattle.plan_steps.specs.Phases.{Phase}
+use Rattle.plan_steps.specs.Phase.{Phase}
 use Rattle.plan_steps.specs.contracts.phase.Phase as phase
 use Rattle.sm_manager.specs.Manager.{Manager, Writing}
 use Rattle.lft_blocks.specs.Planning.{Planning, planning_code}

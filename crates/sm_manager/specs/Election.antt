@@ -8,7 +8,7 @@ use Rattle.smp_bytes.specs.Requests.{directed, lid_routed}
 use Rattle.attr_codec.specs.SmInfo.{sm_info_bytes}
 use Rattle.fact_store.specs.View.{cells_of}
 use Rattle.subnet_view.specs.declared.end_port.EndPort.{EndPort}
-use Rattle.subnet_view.specs.EndPorts.{is_end_port}
+use Rattle.subnet_view.specs.EndPort.{is_end_port}
 use Rattle.subnet_view.specs.Reading.{Cells}
 use Rattle.lid_assign.specs.Lids.{lid_of, lids}
 use Rattle.sm_state.specs.declared.control.Control.{Control}
@@ -16,7 +16,7 @@ use Rattle.sm_state.specs.declared.event.Event.TheVariants.{HandoverWanted}
 use Rattle.sm_state.specs.declared.event.Message.{Message}
 use Rattle.sm_state.specs.declared.state.SmState.TheVariants.{Standby}
 use Rattle.sm_state.specs.declared.transition.Transition.{Transition}
-use Rattle.sm_state.specs.Controls.{control_of_message, modifier_of_control}
+use Rattle.sm_state.specs.Control.{control_of_message, modifier_of_control}
 use Rattle.sm_state.specs.Transitions.{stepped}
 use Rattle.sm_manager.specs.declared.fault.ManagerFault.{ManagerFault}
 use Rattle.sm_manager.specs.declared.fault.ManagerFault.TheVariants as fault
@@ -33,26 +33,26 @@ use Rattle.sm_state.specs.Election.{polled_of, successor_of}
 use Rattle.sm_state.specs.Standing.{info_of, info_with, is_in, moved_to, moved_by}
 use Rattle.sm_state.specs.declared.control.Control.TheVariants as control
 use Rattle.sm_state.specs.declared.event.Event.TheVariants as event
-use Rattle.sm_state.specs.Conducts.{is_live}
+use Rattle.sm_state.specs.Conduct.{is_live}
 use Rattle.sm_manager.specs.Writing.{is_done_by}
 
 -- requests for SMInfo ---------------------------------------------------------------------------
 
--- a request for SMInfo by LIDs that waits for its answer, with this number, purpose and attribute modifier
+-- an outstanding request for SMInfo by LIDs, with this number, purpose and attribute modifier
 abbrev pub info_pending : ℕ → Purpose → ℕ → Pending
 info_pending number purpose modifier =
     record { number = number; purpose = purpose; attribute = sm_info; modifier = modifier; path = None }
 
--- a poll that waits for its answer, with the number `number`: over `path` or, if that is None, by LIDs
+-- an outstanding poll with the number `number`, sent along `path` or, if `path` is None, by LIDs
 abbrev pub poll_pending : ℕ → Option (List ℕ) → Pending
 poll_pending number path = record (info_pending number purpose.Poll 0) { path = path }
 
--- the packet of a poll, a Get of SMInfo with 64 bytes of 0: over the given path or, if that is None, by LIDs
+-- the packet of a poll, a Get of SMInfo with 64 bytes of 0, along the given path or, if the path is None, by LIDs
 abbrev pub poll_packet : ℕ → Option (List ℕ) → List ℕ
 poll_packet number None = lid_routed get sm_info 0 number (replicate 64 0)
 poll_packet number (Some path) = directed get sm_info 0 number path (replicate 64 0)
 
--- the packet of a poll, to be sent over `path` if there is one, else to the LID `lid`
+-- the packet of a poll, to be sent along `path` if there is one, else to the LID `lid`
 abbrev pub poll_out : ℕ → Option ℕ → Option (List ℕ) → Outgoing
 poll_out number lid path = record { packet = poll_packet number path; to = lid }
 
@@ -65,13 +65,13 @@ control_out s number lid control =
           Some lid;
     }
 
--- the manager after the packet `out` was queued and the request `waits` added to those that wait for their answers.
--- This uses up the manager's next number
+-- the manager after the packet `out` was queued and the request `waits` was added to the outstanding ones. This uses
+-- up the manager's next number
 abbrev pub asked : Manager → Pending → Outgoing → Manager
 asked m waits out =
     record m { counter = m.counter + 1; pending = m.pending ++ waits ∷ []; outgoing = m.outgoing ++ out ∷ [] }
 
--- the manager after a control to the LID `lid` was queued, which now waits for its answer
+-- the manager after a control to the LID `lid` was queued, which is now outstanding
 abbrev pub control_sent : Manager → ℕ → Control → Manager
 control_sent m lid control =
     asked m (info_pending m.counter purpose.Control (modifier_of_control control))
@@ -83,14 +83,14 @@ message_count None message = 0
 message_count (Some lid) None = 0
 message_count (Some lid) (Some message) = 1
 
--- the request that waits for the answer to a message; none if there is no message or no LID
+-- the outstanding request of a message; none if there is no message or no LID
 abbrev pub message_pending : ℕ → Option ℕ → Option Message → List Pending
 message_pending counter None message = []
 message_pending counter (Some lid) None = []
 message_pending counter (Some lid) (Some message) =
     info_pending counter purpose.Control (modifier_of_control (control_of_message message)) ∷ []
 
--- the packet of a message to be sent; none if there is no message or no LID
+-- if there are a message and a LID, the message's packet, to be sent to this LID; otherwise none
 abbrev pub message_out : Standing → ℕ → Option ℕ → Option Message → List Outgoing
 message_out s counter None message = []
 message_out s counter (Some lid) None = []
@@ -115,7 +115,7 @@ if_way_out port None = None
 if_way_out port (Some path) = if is_way_out port path then Some path else None
 
 -- the path by which the last sweep first reached the port where the manager `s` was seen; None if there is no sweep,
--- or if it did not reach that port
+-- or if the sweep did not reach that port
 abbrev pub path_seen : Option Sweep → SeenManager → Option (List ℕ)
 path_seen None s = None
 path_seen (Some sweep) s = path_to sweep s.guid s.port
@@ -126,8 +126,8 @@ abbrev pub polled : Manager → Option SeenManager
 polled m = polled_of (info_of m.standing) m.seen
 
 -- the path of a poll without a LID: the path by which the last sweep first reached the manager to poll. None if there
--- is no manager to poll, if there is no such path, or if the path does not leave by the own port or has more than 63
--- hops
+-- is no manager to poll, if there is no such path, or if the path does not leave by the manager's own port or has
+-- more than 63 hops
 abbrev pub polled_path : Manager → Option (List ℕ)
 polled_path m = if_way_out m.port (option_and_then (path_seen m.sweep) (polled m))
 
@@ -142,15 +142,15 @@ unless_way (Some lid) path = None
 unless_way None (Some path) = None
 unless_way None None = Some fault.Nobody
 
--- why no poll is sent, except for lack of memory: the manager is not standby, there is neither a LID nor a path to a
+-- why no poll is sent, lack of memory aside: the manager is not standby, there is neither a LID nor a path to a
 -- manager that the last sweep saw, or no number is left; None if a poll may be sent
 abbrev pub poll_fault : Manager → Option ℕ → Option ManagerFault
 poll_fault m lid =
     if is_in Standby m.standing then or_else (unless_way lid (polled_path m)) (number_fault (m.counter + 1))
     else Some fault.NotStandby
 
--- the manager after a poll was queued: to the LID `lid` or, if that is None, over the path to a manager that the last
--- sweep saw
+-- the manager after a poll was queued: to the LID `lid` or, if `lid` is None, along the path to a manager that the
+-- last sweep saw
 abbrev pub after_poll : Manager → Option ℕ → Manager
 after_poll m lid =
     asked m (poll_pending m.counter (poll_path m lid)) (poll_out m.counter lid (poll_path m lid))
@@ -161,8 +161,8 @@ after_poll m lid =
 abbrev pub handover_move : Manager → Transition
 handover_move m = stepped m.standing.conduct m.standing.state HandoverWanted
 
--- the successor, which is the manager that is to take over, one of those that the last sweep saw; None if none of
--- them may take over
+-- the successor: of the managers that the last sweep saw, the one that is to take over; None if none of them may take
+-- over
 abbrev pub successor : Manager → Option SeenManager
 successor m = successor_of (info_of m.standing) m.seen
 
@@ -174,7 +174,7 @@ port_seen cells s = if is_end_port cells s.guid s.port then Some (record { node 
 abbrev pub successor_port : Manager → Option EndPort
 successor_port m = option_and_then (port_seen (cells_of m.store)) (successor m)
 
--- the LID that the plan gives to the successor's end port; None if that end port is not known, or gets no LID
+-- if the successor's end port is known and gets a LID in the plan, this LID; otherwise None
 abbrev pub successor_lid : Manager → Option ℕ
 successor_lid m = option_and_then (lid_of (lids m.planning.lmc (cells_of m.store))) (successor_port m)
 
@@ -183,16 +183,16 @@ abbrev pub unless_lid : Option ℕ → Option ManagerFault
 unless_lid None = Some fault.Nobody
 unless_lid (Some lid) = None
 
--- why a master does not hand over, except for lack of memory: there is no successor, some end port finds no LID in
--- the plan, the plan gives the successor's port no LID, or no number is left; None if the master may hand over
+-- why a master does not hand over, lack of memory aside: there is no successor, some end port finds no LID in the
+-- plan, the plan gives the successor's port no LID, or no number is left; None if the master may hand over
 abbrev pub successor_fault : Manager → Option ManagerFault
 successor_fault m =
     if is_none (successor m) then Some fault.Nobody
     else or_else (plan_fault m.planning.lmc (cells_of m.store))
     (or_else (unless_lid (successor_lid m)) (number_fault (m.counter + 1)))
 
--- why a manager does not hand over, except for lack of memory: it is not master, or `successor_fault` gives a fault;
--- None if it may hand over
+-- why a manager does not hand over, lack of memory aside: the manager is not master, or `successor_fault` gives a
+-- fault; None if the manager may hand over
 abbrev pub handover_fault : Manager → Option ManagerFault
 handover_fault m = if is_none (handover_move m).message then Some fault.NotMaster else successor_fault m
 
@@ -202,7 +202,7 @@ abbrev pub handed_to : Manager → Option ℕ → Manager
 handed_to m lid =
     after_message (record m { standing = moved_to (handover_move m).state m.standing }) lid (handover_move m).message
 
--- the manager after its state has moved by `handover_move` and a HANDOVER to its successor's LID was queued
+-- the manager after its state has moved by `handover_move` and a HANDOVER to the successor's LID was queued
 abbrev pub after_handover : Manager → Manager
 after_handover m = handed_to m (successor_lid m)
 
@@ -211,7 +211,7 @@ abbrev pub is_handover : Pending → Bool
 is_handover p = p.modifier == modifier_of_control control.Handover
 
 -- whether the manager `s` moves as ACKNOWLEDGE would move it when the request `p` ends: its conduct is live, `p` has
--- the modifier of a HANDOVER, and `answer`, the status of the answer or None, is 0
+-- the modifier of a HANDOVER, and `answer` is the status 0. A timeout has the status None
 abbrev pub is_relieved : Standing → Pending → Option ℕ → Bool
 is_relieved s p answer = is_live s.conduct && (is_handover p && is_done_by answer)
 

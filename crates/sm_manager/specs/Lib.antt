@@ -9,7 +9,7 @@ pub mod NotedManagers
 pub mod Packets
 pub mod PlanFaults
 pub mod PollLaws
-pub mod Served
+pub mod SmInfoAnswers
 pub mod StepsAnswered
 pub mod Traps
 pub mod Writing

@@ -3,7 +3,7 @@
 use Rattle.std.specs.Prelude.{◌≡◌, ℕ, ◌+◌, ◌-◌, ◌^◌, max, Bool, false, not, List, [], ◌∷◌, ◌++◌, map, ◌==◌, if◌then◌else◌, Option, Some, None}
 use Rattle.fact_store.specs.Seen.{newest_of}
 use Rattle.fact_store.specs.View.{Facts, cells_of, no_facts, raised}
-use Rattle.plan_steps.specs.Phases.{Phase}
+use Rattle.plan_steps.specs.Phase.{Phase}
 use Rattle.fact_store.specs.Merge.{merge}
 use Rattle.sweep.specs.declared.request.Request.{Request}
 use Rattle.sweep.specs.Sweep.{Sweep, started, is_done, packet_of, transaction_of}
@@ -17,22 +17,23 @@ use Rattle.sm_state.specs.declared.conduct.Conduct.{Conduct}
 use Rattle.sm_state.specs.declared.election.SeenManager.{SeenManager}
 use Rattle.sm_state.specs.declared.standing.Standing.{Standing}
 use Rattle.lft_blocks.specs.Planning.{Planning}
-use Rattle.sm_state.specs.Conducts.{is_live}
+use Rattle.sm_state.specs.Conduct.{is_live}
 use Rattle.sm_state.specs.Election.{sweep_verdict}
 use Rattle.sm_state.specs.Standing.{active_once_more, info_of, moved_by, new_standing}
 
--- a writing of a plan, whether it still runs or is over. `later` has the phases that are still to be sent, in their
--- order. `has_failed` is true if a step that counts (`counts`) timed out, or was answered with a status other than 0
+-- a writing of a plan, whether it still runs or is over. `later` has the phases that are still to be sent, the next
+-- one first. `has_failed` is true if a step that counts (`counts`) timed out, or was answered with a status other
+-- than 0
 pub record Writing : Type 0 where
   pub later : List Phase
   pub has_failed : Bool
 
--- a manager: `standing` is its standing among the managers of its subnet, `port` the number of its port, and `planning`
--- how it plans. `store` is the view of all facts that it took in. `sweep` is its last sweep, and None if it began none;
--- `seen` has the managers that this sweep saw, in the order in which it saw them. `writing` is its last writing, and
--- None if it began none. `counter` is the number of its next request outside sweeps. `pending` has the requests outside
--- sweeps that wait for their answers, in ascending order of number. `outgoing` has the packets that it has queued,
--- first in, first out
+-- a manager: `standing` is its standing among the managers of its subnet, `port` the number of its port, and
+-- `planning` how it plans. `store` is the view of all facts that the manager took in. `sweep` is its last sweep, or
+-- None if the manager began none; `seen` has the managers that this sweep saw, in the order in which it saw them.
+-- `writing` is the last writing, or None if the manager began none. `counter` is the number of the next request
+-- outside sweeps. `pending` has the outstanding requests outside sweeps, in ascending order of number. `outgoing` has
+-- the queued packets, first in, first out
 pub record Manager : Type 0 where
   pub standing : Standing
   pub port : ℕ
@@ -64,16 +65,16 @@ new_manager port_guid port priority conduct planning =
 
 -- sending the requests of a sweep ----------------------------------------------------------------
 
--- the packets of `requests` in a sweep of the generation `generation`, to be sent over the paths of the requests
+-- the packets of `requests` in a sweep of the generation `generation`, to be sent along the paths of the requests
 abbrev pub requests_out : ℕ → List Request → List Outgoing
 requests_out generation requests = map (λ r. record { packet = packet_of generation r; to = None }) requests
 
--- the sweep `s` after all its queued requests were sent, which now wait for their replies
+-- the sweep `s` after all its queued requests were sent, which are now outstanding
 abbrev pub with_all_sent : Sweep → Sweep
 with_all_sent s = record s { queued = []; outstanding = s.outstanding ++ s.queued }
 
--- the manager `m` with the sweep `s`: all queued requests of `s` are queued as packets of the manager, and wait for
--- their replies
+-- the manager `m` with the sweep `s`: all queued requests of `s` are queued as packets of the manager, and are
+-- outstanding
 abbrev pub with_sweep : Manager → Sweep → Manager
 with_sweep m s =
     record m {
@@ -115,8 +116,8 @@ newest_held facts = newest_of (map (λ e. e.1) (cells_of facts))
 abbrev pub next_generation : Facts → ℕ
 next_generation facts = max (newest_held facts + 1) facts.floor
 
--- why no sweep begins, except for lack of memory: a sweep runs, or the facts have the greatest possible generation,
--- 2^32 - 1; None if a sweep may begin
+-- why no sweep begins, lack of memory aside: a sweep runs, or the facts have the greatest possible generation, 2^32 -
+-- 1; None if a sweep may begin
 abbrev pub begin_fault : Manager → Option ManagerFault
 begin_fault m = if is_running m.sweep then Some SweepRunning else
     (if newest_held m.store == 2 ^ 32 - 1 then Some GenerationsSpent else None)
@@ -156,13 +157,13 @@ taken_of m (packet ∷ later) = record { manager = record m { outgoing = later }
 abbrev pub after_take_outgoing : Manager → Taken
 after_take_outgoing m = taken_of m m.outgoing
 
--- the TransactionIDs of the waiting requests of a sweep, rising; none if there is no sweep
+-- the TransactionIDs of a sweep's outstanding requests, in ascending order; none if there is no sweep
 abbrev pub transactions_of : Option Sweep → List ℕ
 transactions_of None = []
 transactions_of (Some s) = map (λ r. transaction_of s.generation r.number) s.outstanding
 
--- the TransactionIDs of all requests of the manager that wait, rising; the high half is the generation for a request of
--- a sweep, else 0
+-- the TransactionIDs of all outstanding requests of the manager, in ascending order. The high half is the generation
+-- for a request of a sweep, else 0
 abbrev pub outstanding : Manager → List ℕ
 outstanding m = map (λ p. p.number) m.pending ++ transactions_of m.sweep
 
@@ -171,9 +172,9 @@ abbrev pub silent_in : Option Sweep → Option ℕ
 silent_in None = None
 silent_in (Some s) = Some s.silent_managers
 
--- how far the last sweep has come: never begun, running, or done. If there is a sweep, also the number of its
--- requests that timed out, and the number of ports by which it did not go on because the path would have had more
--- than 63 ports
+-- how far the last sweep has come: never begun, running, or done. If a sweep has begun, with the number of its
+-- requests that timed out, and the number of ports through which the sweep did not go on because the path would have
+-- had more than 63 ports
 abbrev pub progress_of : Option Sweep → Progress
 progress_of None = Never
 progress_of (Some s) = if is_done s then Done s.unanswered s.too_far else Running s.unanswered s.too_far

@@ -5,8 +5,8 @@ use Rattle.sm_manager.specs.declared.pending.Pending.{Pending}
 use Rattle.sm_manager.specs.declared.pending.Purpose.{Purpose}
 use Rattle.sm_manager.specs.declared.pending.Purpose.TheVariants as purpose
 
--- the requests outside sweeps: `counter` is the number of the next one, `pending` has those that wait for their
--- answers, and `room` is the number of further requests for which there is memory
+-- the requests outside sweeps: `counter` is the number of the next one, `pending` has the outstanding ones, and
+-- `room` is the number of further requests for which there is memory
 pub record ManagerRequests : Type 0 where
   pub counter : ℕ
   pub pending : List Pending

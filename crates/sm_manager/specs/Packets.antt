@@ -27,13 +27,13 @@ use Rattle.sm_state.specs.declared.standing.Standing.{Standing}
 use Rattle.sm_manager.specs.Manager.{Manager, with_sweep, after_sweep}
 use Rattle.sm_manager.specs.ManagerRequests.{with_number}
 use Rattle.sm_manager.specs.NotedManagers.{with_seen}
-use Rattle.sm_manager.specs.Served.{served}
+use Rattle.sm_manager.specs.SmInfoAnswers.{served}
 use Rattle.sm_manager.specs.Traps.{represses, repressing, trap_in}
 use Rattle.sm_state.specs.Standing.{poll_answered, poll_lost}
 use Rattle.sm_manager.specs.Writing.{is_done_by, is_spent, after_step, without}
 use Rattle.sm_manager.specs.Election.{is_relieved, after_control_end}
 
--- the outcome of a call: the manager afterwards, and why the call was refused; None if it was not refused
+-- the outcome of a call: the manager afterwards, and why the call was refused; None if the call was not refused
 pub record Called : Type 0 where
   pub manager : Manager
   pub fault : Option ManagerFault
@@ -58,7 +58,7 @@ with_answer m s packet answer =
           with_seen answer m.seen;
     }) (after_reply s packet))
 
--- the outcome of a reply to the sweep `s`, given the answer in it or why the sweep refuses it
+-- the outcome of a reply to the sweep `s`, given the answer in the reply or why the sweep refuses the reply
 abbrev pub answered_by : Manager → Sweep → List ℕ → Result Answer SweepFault → Called
 answered_by m s packet (Ok answer) = done (with_answer m s packet answer)
 answered_by m s packet (Err why) = refused m (fault.Sweep why)
@@ -68,7 +68,7 @@ abbrev pub sweep_answered : Manager → List ℕ → Option Sweep → Called
 sweep_answered m packet None = refused m fault.Unasked
 sweep_answered m packet (Some s) = answered_by m s packet (judged s packet)
 
--- whether `packet` is a GetResp over a directed route, and its TransactionID is 2^32 or more, as for the requests of
+-- whether `packet` is a GetResp along a directed route, and its TransactionID is 2^32 or more, as for the requests of
 -- sweeps
 abbrev pub is_for_sweep : List ℕ → Bool
 is_for_sweep packet =
@@ -78,7 +78,7 @@ is_for_sweep packet =
 abbrev pub answers : List ℕ → Pending → Bool
 answers packet p = number_in method packet == get_resp && smp.answers packet p.number p.attribute p.modifier p.path
 
--- the waiting request outside sweeps that `packet` answers; None if it answers none
+-- the outstanding request outside sweeps that `packet` answers; None if `packet` answers none
 abbrev pub pending_for : Manager → List ℕ → Option Pending
 pending_for m packet = find (answers packet) m.pending
 
@@ -96,9 +96,9 @@ after_poll_end false s = poll_lost s
 abbrev pub status_number : Option Status → Option ℕ
 status_number status = option_map (λ s. s.0) status
 
--- the outcome of the end of the request `p`; `answer` is the status of its answer, or None if it timed out. After a
--- step, the next phase is queued if no other step waits; the outcome is `SequenceSpent` if this takes numbers that do
--- not fit in 32 bits
+-- the outcome of the end of the request `p`; `answer` is the status of the answer to `p`, or None if `p` timed out.
+-- After a step, the next phase is queued if no other step is outstanding; the outcome is `SequenceSpent` if this
+-- takes numbers that do not fit in 32 bits
 abbrev pub after_request : Manager → Pending → Option ℕ → Purpose → Called
 after_request m p answer Poll = done (record (without m p) { standing = after_poll_end (is_some answer) m.standing })
 after_request m p answer Control =
@@ -120,10 +120,10 @@ HasSender packet from = fault_of packet ≡ None → is_lid_routed packet ≡ tr
 abbrev pub is_info_request : List ℕ → Bool
 is_info_request packet = not (is_response packet) && number_in attribute_id packet == sm_info
 
--- the outcome of the bytes `packet`, which reach the manager's port. The given fault is the one that they have as a
--- packet; bytes with a fault are refused. A request for SMInfo is served, a trap is repressed if `represses` holds,
--- and a reply to a sweep is left to the sweep. Any other packet is refused as `Unasked` if it answers no waiting
--- request
+-- the outcome of the bytes `packet`, which reach the manager's port. The given fault is the one that the bytes have
+-- as a packet; bytes with a fault are refused. A request for SMInfo is served, a trap is repressed if `represses`
+-- holds, and a reply to a sweep is left to the sweep. Any other packet is refused as `Unasked` if it answers no
+-- outstanding request
 abbrev pub packet_taken : Manager → List ℕ → Option ℕ → Option SmpFault → Called
 packet_taken m packet from (Some why) = refused m (fault.Sweep (Bad (Smp why)))
 packet_taken m packet from None =
@@ -142,20 +142,20 @@ noted_trap m packet = if not (is_info_request packet) && represses m packet then
 
 -- timeouts --------------------------------------------------------------------------------------
 
--- the outcome of the timeout of a request of the sweep `s`, given the fault that the sweep finds; `Unasked` if there
--- is one
+-- the outcome of the timeout of a request of the sweep `s`, given the fault that the sweep finds, if any; `Unasked`
+-- if there is a fault
 abbrev pub sweep_timed_out : Manager → Sweep → ℕ → Option SweepFault → Called
 sweep_timed_out m s transaction (Some why) = refused m fault.Unasked
 sweep_timed_out m s transaction None =
     done (after_sweep (record m { sweep = Some (sweep_after_timeout s transaction) }))
 
--- the outcome of the timeout of a request of the last sweep; `Unasked` if there is no sweep, or if no such request
--- waits
+-- the outcome of the timeout of a request of the last sweep; `Unasked` if there is no sweep, or if no such request is
+-- outstanding
 abbrev pub sweep_gave_up : Manager → ℕ → Option Sweep → Called
 sweep_gave_up m transaction None = refused m fault.Unasked
 sweep_gave_up m transaction (Some s) = sweep_timed_out m s transaction (timeout_fault s transaction)
 
--- the outcome of the timeout of the given request outside sweeps; `Unasked` if no such request waits
+-- the outcome of the timeout of the given request outside sweeps; `Unasked` if no request is given
 abbrev pub request_gave_up : Manager → Option Pending → Called
 request_gave_up m None = refused m fault.Unasked
 request_gave_up m (Some p) = after_request m p None p.purpose

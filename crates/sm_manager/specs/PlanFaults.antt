@@ -2,7 +2,7 @@
 use Rattle.std.specs.Prelude.{ℕ, Bool, ◌+◌, ◌^◌, nat_lt, if◌then◌else◌, Option, Some, None}
 use Rattle.fact_store.specs.View.{cells_of}
 use Rattle.subnet_view.specs.Reading.{Cells}
-use Rattle.lid_assign.specs.declared.fault.NoRoom.{NoRoom}
+use Rattle.lid_assign.specs.declared.lid_fault.NoRoom.{NoRoom}
 use Rattle.lid_assign.specs.LidFault.{no_room}
 use Rattle.plan_steps.specs.Bound.{most_steps}
 use Rattle.sm_manager.specs.declared.fault.ManagerFault.{ManagerFault}
@@ -32,9 +32,8 @@ number_fault counter = if nat_lt (2 ^ 32) counter then Some fault.SequenceSpent 
 abbrev pub unless_numbers : Bool → Option ManagerFault
 unless_numbers are_numbers = if are_numbers then None else Some fault.SequenceSpent
 
--- why no writing begins, except for lack of memory: the manager is not master or has begun no sweep, a sweep or a
--- writing runs, there is no plan, or a phase could need numbers that do not fit in 32 bits; None if a writing may
--- begin
+-- why no writing begins, lack of memory aside: the manager is not master or has begun no sweep, a sweep or a writing
+-- runs, there is no plan, or a phase could need numbers that do not fit in 32 bits; None if a writing may begin
 abbrev pub writing_fault : Manager → Option ManagerFault
 writing_fault m =
     or_else (write_fault m)

@@ -5,15 +5,14 @@ use Rattle.smp_bytes.specs.Requests.{answer_packet}
 use Rattle.sm_manager.specs.Election.{poll_packet, poll_pending}
 use Rattle.sm_manager.specs.Packets.{answers, is_for_sweep}
 
--- `packet` answers the poll with the number `number` that went over `path` or, if `path` is None, by LIDs; and it is
--- not taken for a reply to a sweep
+-- `packet` answers the poll with the number `number` that went along `path` or, if `path` is None, by LIDs; and
+-- `packet` is not taken for a reply to a sweep
 pub record IsTakenForPoll (packet : List ℕ) (number : ℕ) (path : Option (List ℕ)) : Type 0 where
   pub answers : answers packet (poll_pending number path) ≡ true
   pub no_sweep : is_for_sweep packet ≡ false
 
--- each answer to a poll is taken as the answer to that poll. The number of the poll fits in 32 bits, and the poll
--- goes by LIDs or over a path of at most 63 ports. The status of the answer fits in 15 bits, and its data have 64
--- bytes
+-- suppose a poll goes by LIDs or along a path of at most 63 ports, and its number fits in 32 bits. Then each answer
+-- to the poll with a status that fits in 15 bits and data of 64 bytes is taken as the answer to that poll
 abbrev pub AnswersReachPolls : Type 0
 AnswersReachPolls =
     (number : ℕ) (path : Option (List ℕ)) (status : ℕ) (payload : List ℕ) → number < 2 ^ 32

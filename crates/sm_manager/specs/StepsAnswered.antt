@@ -4,7 +4,7 @@ use Rattle.std.specs.Prelude.{◌≡◌, ◌≢◌, ◌↔◌, ℕ, ◌+◌, Boo
 use Rattle.smp_bytes.specs.Header.{done}
 use Rattle.smp_bytes.specs.Packet.{fault_of, status}
 use Rattle.smp_bytes.specs.declared.smp_fault.SmpFault.{SmpFault}
-use Rattle.plan_steps.specs.Phases.{Phase}
+use Rattle.plan_steps.specs.Phase.{Phase}
 use Rattle.sm_manager.specs.declared.pending.Pending.{Pending}
 use Rattle.sm_manager.specs.CallLists.{Call, BeginSweep, WriteSteps, Take, Packet, Timeout, Raise, Merge, Poll, Handover, after_call, after_calls}
 use Rattle.sm_manager.specs.Manager.{Manager, new_manager}
@@ -17,14 +17,14 @@ use Rattle.sm_manager.specs.Traps.{represses}
 use Rattle.sm_manager.specs.Writing.{is_written, phases_by, after_write_steps}
 
 -- whether `packet`, as the answer to the given request, completes a step that counts: the request is such a step
--- (`counts`), the status of the packet is 0, and the manager accepts it; false if there is no request
+-- (`counts`), the status of the packet is 0, and the manager accepts the packet; false if there is no request
 abbrev pub does_request : Manager → List ℕ → Option Pending → Bool
 does_request m packet None = false
 does_request m packet (Some p) =
     counts p && (status packet == done && is_none (request_answered m packet (Some p)).fault)
 
--- whether the bytes `packet` complete a step that counts (`counts`). The given fault is the one that they have as a
--- packet; false if there is one
+-- whether the bytes `packet` complete a step that counts (`counts`). The given fault is the one that the bytes have
+-- as a packet; false if there is one
 abbrev pub does_by_packet : Manager → List ℕ → Option SmpFault → Bool
 does_by_packet m packet (Some why) = false
 does_by_packet m packet None =
@@ -33,7 +33,7 @@ does_by_packet m packet None =
     else if is_for_sweep packet then false
     else does_request m packet (pending_for m packet)
 
--- whether a call brings the packet that completes a step that counts
+-- whether a call brings the packet that completes a step that counts (`counts`)
 abbrev pub does_step : Manager → Call → Bool
 does_step m BeginSweep = false
 does_step m WriteSteps = false
@@ -70,8 +70,8 @@ abbrev pub counting_in : List Phase → ℕ
 counting_in [] = 0
 counting_in (p ∷ phases) = (if p.counts then length p.steps else 0) + counting_in phases
 
--- let a writing begin after any calls on a new manager, and let no other writing begin after it. Its plan is written
--- exactly when the later calls completed as many steps that count as the writing has
+-- let a writing begin after any calls on a new manager, and let no other writing follow. Then the writing's plan is
+-- written exactly when the later calls completed as many steps that count as the writing has
 abbrev pub WrittenIsEachStepDone : Type 0
 WrittenIsEachStepDone =
     (port_guid port priority : ℕ) (conduct : Conduct) (planning : Planning) (before after : List Call)

@@ -8,7 +8,7 @@ use Rattle.smp_bytes.specs.Requests.{lid_routed}
 use Rattle.sm_manager.specs.declared.outgoing.Outgoing.{Outgoing}
 use Rattle.sm_manager.specs.declared.traps.Trap.{Trap}
 use Rattle.sm_manager.specs.Manager.{Manager}
-use Rattle.sm_state.specs.Conducts.{is_live}
+use Rattle.sm_state.specs.Conduct.{is_live}
 
 -- the method Trap
 abbrev pub trap : ℕ

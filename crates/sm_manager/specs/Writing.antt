@@ -1,12 +1,12 @@
--- Writing a plan: its steps are sent phase by phase, each phase once no step of the previous phase waits. InfiniBand
--- Architecture Specification, Volume 1: subnet initialization; linear forwarding tables; port states.
+-- Writing a plan: its steps are sent phase by phase, each phase once no step of the previous phase is outstanding.
+-- InfiniBand Architecture Specification, Volume 1: subnet initialization; linear forwarding tables; port states.
 use Rattle.std.specs.Prelude.{ℕ, suc, ◌+◌, ◌^◌, Bool, false, ◌&&◌, ◌||◌, not, List, [], ◌∷◌, ◌++◌, length, drop, nat_lt, ◌==◌, if◌then◌else◌, Option, Some, None}
 use Rattle.std.specs.List.{list_any}
 use Rattle.fact_store.specs.View.{cells_of}
 use Rattle.lft_blocks.specs.Plan.{plan_of}
 use Rattle.smp_bytes.specs.Header.{done}
 use Rattle.plan_steps.specs.declared.step.Step.{Step}
-use Rattle.plan_steps.specs.Phases.{Phase, phases_of}
+use Rattle.plan_steps.specs.Phase.{Phase, phases_of}
 use Rattle.plan_steps.specs.Step.{set_packet}
 use Rattle.sweep.specs.Sweep.{Sweep, is_done}
 use Rattle.sm_manager.specs.declared.fault.ManagerFault.{ManagerFault}
@@ -21,7 +21,7 @@ use Rattle.sm_manager.specs.ManagerRequests.{counts, how_many, is_step, no_step_
 
 -- sending a phase --------------------------------------------------------------------------------
 
--- the step `s` as a request that waits, with the number `number`
+-- the step `s` as an outstanding request with the number `number`
 abbrev pub pending_step : ℕ → Bool → Step → Pending
 pending_step number counts s =
     record {
@@ -33,12 +33,12 @@ pending_step number counts s =
           Some s.path;
     }
 
--- the steps of a phase as requests that wait, with numbers that rise from `number`
+-- the steps of a phase as outstanding requests, numbered upwards from `number`
 abbrev pub numbered : Bool → ℕ → List Step → List Pending
 numbered counts number [] = []
 numbered counts number (s ∷ steps) = pending_step number counts s ∷ numbered counts (suc number) steps
 
--- the packets of `steps`, to be sent over the paths of the steps, with numbers that rise from `number`
+-- the packets of `steps`, to be sent along the paths of the steps, and numbered upwards from `number`
 abbrev pub steps_out : ℕ → List Step → List Outgoing
 steps_out number [] = []
 steps_out number (s ∷ steps) = record { packet = set_packet number s; to = None } ∷ steps_out (suc number) steps
@@ -53,11 +53,11 @@ abbrev pub next_phase : List Phase → Phase
 next_phase [] = record { counts = false; steps = [] }
 next_phase (p ∷ phases) = p
 
--- the steps of the next phase as requests that wait, with numbers that rise from `number`
+-- the steps of the next phase as outstanding requests, numbered upwards from `number`
 abbrev pub next_pending : ℕ → List Phase → List Pending
 next_pending number phases = numbered (next_phase phases).counts number (next_phase phases).steps
 
--- the manager after all steps of the next phase of its writing `w` were queued, which now wait for their answers
+-- the manager after all steps of the next phase of its writing `w` were queued, which are now outstanding
 abbrev pub phase_sent : Manager → Writing → Manager
 phase_sent m w =
     record m {
@@ -67,13 +67,14 @@ phase_sent m w =
       outgoing = m.outgoing ++ steps_out m.counter (next_phase w.later).steps;
     }
 
--- the manager after the next phase of the given writing was queued; unchanged if the writing is None, or if a step
--- waits
+-- the manager after the next phase of the given writing was queued; unchanged if the writing is None, or if a step is
+-- outstanding
 abbrev pub went_on_with : Manager → Option Writing → Manager
 went_on_with m None = m
 went_on_with m (Some w) = if no_step_waits m.pending then phase_sent m w else m
 
--- the manager after the next phase of its writing was queued; unchanged if it has no writing, or if a step waits
+-- the manager after the next phase of its writing was queued; unchanged if the manager has no writing, or if a step
+-- is outstanding
 abbrev pub went_on : Manager → Manager
 went_on m = went_on_with m m.writing
 
@@ -83,8 +84,8 @@ is_spent m = nat_lt (2 ^ 32) m.counter
 
 -- beginning a writing -----------------------------------------------------------------------------
 
--- why the manager does not write, given its last sweep: it is not master, the sweep runs, or a step of a writing
--- waits; `NotMaster` if there is no sweep; None if the manager may write
+-- why the manager does not write, given its last sweep: there is no sweep or the manager is not master, the sweep
+-- runs, or a step of a writing is outstanding; None if the manager may write
 abbrev pub write_fault_with : Manager → Option Sweep → Option ManagerFault
 write_fault_with m None = Some NotMaster
 write_fault_with m (Some s) =
@@ -93,12 +94,12 @@ write_fault_with m (Some s) =
     else if not (no_step_waits m.pending) then Some WritingRunning
     else None
 
--- why the manager does not write: it is not master, its sweep runs, or a step of a writing waits; `NotMaster` if it
--- has begun no sweep; None if it may write
+-- why the manager does not write: it is not master or has begun no sweep, its last sweep runs, or a step of a writing
+-- is outstanding; None if the manager may write
 abbrev pub write_fault : Manager → Option ManagerFault
 write_fault m = write_fault_with m m.sweep
 
--- the phases of the plan of the manager's facts, over the paths of the given sweep; none if there is no sweep
+-- the phases of the plan of the manager's facts, along the paths of the given sweep; none if there is no sweep
 abbrev pub phases_by : Manager → Option Sweep → List Phase
 phases_by m None = []
 phases_by m (Some s) =
@@ -114,7 +115,8 @@ after_write_steps m = begun_with m (phases_by m m.sweep)
 
 -- a plan is written ----------------------------------------------------------------------------------
 
--- whether there is a writing, and none of its steps that count (`counts`) has failed, waits or is still to be sent
+-- whether there is a writing, and none of its steps that count (`counts`) has failed, is outstanding or is still to
+-- be sent
 abbrev pub is_written_by : List Pending → Option Writing → Bool
 is_written_by pending None = false
 is_written_by pending (Some w) =
@@ -132,7 +134,7 @@ abbrev pub noted : Bool → Bool → Option Writing → Option Writing
 noted counts was_done None = None
 noted counts was_done (Some w) = Some (record w { has_failed = w.has_failed || (counts && not was_done) })
 
--- the manager after the request `p` was removed from those that wait
+-- the manager after the request `p` was removed from the outstanding ones
 abbrev pub without : Manager → Pending → Manager
 without m p = record m { pending = without_number p.number m.pending }
 
@@ -141,18 +143,18 @@ abbrev pub is_done_by : Option ℕ → Bool
 is_done_by None = false
 is_done_by (Some status) = status == done
 
--- the manager after the step `p` has ended, done or not as `was_done` says. If no other step waits, the next phase is
--- queued
+-- the manager after the step `p` has ended, done or not as `was_done` says. If no other step is outstanding, the next
+-- phase is queued
 abbrev pub after_step : Manager → Pending → Bool → Manager
 after_step m p was_done =
     went_on (record m { pending = without_number p.number m.pending; writing = noted (counts p) was_done m.writing })
 
--- how many steps are sent when a waiting step ends: the steps of the next phase if no other step waits; 0 if another
--- step waits, or if there is no writing
+-- how many steps are sent when an outstanding step ends: the steps of the next phase if no other step is outstanding;
+-- 0 if another step is outstanding, or if there is no writing
 abbrev pub count_with : List Pending → Option Writing → ℕ
 count_with pending None = 0
 count_with pending (Some w) = if nat_lt 1 (how_many is_step pending) then 0 else length (next_phase w.later).steps
 
--- how many steps the manager sends when a waiting step ends
+-- how many steps the manager sends when an outstanding step ends
 abbrev pub count_after : Manager → ℕ
 count_after m = count_with m.pending m.writing

@@ -32,8 +32,9 @@ impl Manager {
         }
     }
 
-    /// Ends the waiting request at `index`. There must be one. `answer` is the status of its answer, or `None` if it
-    /// timed out. Returns `SequenceSpent` or `Memory` if the next phase of a writing is due and cannot be sent.
+    /// Ends the outstanding request at `index`, in ascending order of number. There must be one. `answer` is the
+    /// status of the answer to the request, or `None` if the request timed out. Returns `SequenceSpent` or `Memory`
+    /// if the next phase of a writing is due and cannot be sent.
     pub(crate) fn end_request(
         &mut self,
         index: usize,

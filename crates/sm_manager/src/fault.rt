@@ -17,7 +17,7 @@ pub enum ManagerFault {
     /// The manager is not in the state Master, or has begun no sweep.
     #[error("NotMaster")]
     NotMaster,
-    /// A step of a writing waits for its answer.
+    /// A step of a writing is outstanding.
     #[error("WritingRunning")]
     WritingRunning,
     /// The manager is not in the state Standby.
@@ -36,7 +36,7 @@ pub enum ManagerFault {
     /// The bytes are not a packet, or the sweep refuses the reply for a reason other than lack of memory.
     #[error("{0}")]
     Sweep(SweepFault),
-    /// The packet answers no waiting request, or no waiting request has the TransactionID that timed out.
+    /// The packet answers no outstanding request, or no outstanding request has the TransactionID that timed out.
     #[error("Unasked")]
     Unasked,
     /// Memory ran out.

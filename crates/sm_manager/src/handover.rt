@@ -1,10 +1,10 @@
-//! How a manager deals with other managers: its state after a sweep, its polls, and its handovers.
+//! How a manager deals with other managers: the manager's state after a sweep, its polls, and its handovers.
 ghost use Rattle.std.specs.Prelude.{◌≡◌, ◌<◌, ◌+◌, ◌≤◌, ◌^◌, ◌∷◌, ◌++◌, [], None, Some, true, IfOk, OnOk, OnErr};
 ghost use Rattle.std.specs.Prelude.{option_copied};
 ghost use Rattle.std.specs.VecDeque.{deque_capacity, deque_len};
 ghost use Rattle.fact_store.specs.View.{cells_of};
 ghost use Rattle.lid_assign.specs.Lids.{lid_of, lids};
-ghost use Rattle.subnet_view.specs.EndPorts.{is_end_port};
+ghost use Rattle.subnet_view.specs.EndPort.{is_end_port};
 ghost use Rattle.smp_bytes.specs.Judges.{Judges, JudgesButFor};
 ghost use Rattle.sm_manager.specs.Election.{after_handover, handover_fault, successor_fault, successor_lid};
 ghost use Rattle.sm_manager.specs.Election.{port_seen};
@@ -12,7 +12,7 @@ ghost use Rattle.sm_manager.specs.Election.{control_out, info_pending, poll_faul
 ghost use Rattle.sm_manager.specs.Election.{after_poll, is_way_out, path_seen, polled_path, unless_way};
 ghost use Rattle.sm_manager.specs.Election.{message_count, message_out, message_pending};
 ghost use Rattle.sm_manager.specs.declared.pending.Purpose.TheVariants.{Control as ForControl};
-ghost use Rattle.sm_state.specs.Controls.{modifier_of_control};
+ghost use Rattle.sm_state.specs.Control.{modifier_of_control};
 ghost use Rattle.sm_manager.specs.Fault.{is_memory};
 ghost use Rattle.sm_manager.specs.Manager.{after_verdict};
 ghost use Rattle.sm_manager.specs.PlanFaults.{or_else, plan_fault};
@@ -44,14 +44,14 @@ pub(crate) fn end_sweep(standing: &mut Standing, seen: &[SeenManager])
 impl Manager {
     /// Queues a poll to the manager at `lid` or, if `lid` is `None`, to a manager that the last sweep saw. In the
     /// second case, the poll goes to the first master that this manager hears or, if there is no such master, to the
-    /// greatest manager that outranks this one. Ties go to the first. A poll without `lid` goes over the path by
-    /// which the sweep reached the port of the polled manager. The poll counts as answered or lost once its answer or
-    /// its timeout comes.
+    /// greatest manager that outranks this one. Ties go to the first. A poll without `lid` goes along the path by
+    /// which the sweep reached the port of the polled manager. The poll counts as answered once its answer comes, and
+    /// as lost once it times out.
     ///
     /// # Errors
     ///
     /// Returns the first of these that applies: `NotStandby`; `Nobody` if `lid` is `None` and the sweep saw no
-    /// manager to poll, or has no usable path to it; `SequenceSpent`; `Memory`.
+    /// manager to poll or has no usable path to that manager; `SequenceSpent`; `Memory`.
     pub fn poll(&mut self, lid: Option<Lid>) -> Result<(), ManagerFault>
         ensures judged { JudgesButFor is_memory result (poll_fault self.old lid) }
         ensures ok { OnOk result (self.new ≡ after_poll self.old lid) }
@@ -66,8 +66,8 @@ impl Manager {
         Ok(())
     }
 
-    /// Returns the path over which a poll is sent, or `None` if `lid` is not `None`, so that the poll is sent to this
-    /// LID. Returns `Nobody` if `lid` is `None` and there is no path to a manager to poll.
+    /// Returns `None` if `lid` is not `None`, since the poll is then sent to this LID. Otherwise returns the path
+    /// along which the poll is sent. Returns `Nobody` if `lid` is `None` and there is no path to a manager to poll.
     fn poll_path(&self, lid: &Option<Lid>) -> Result<Option<Path<63>>, ManagerFault>
         ensures judged { Judges result (unless_way lid.now (polled_path self.now)) }
         ensures path { IfOk result (λ path. path ≡ poll_path self.now lid.now) }
@@ -81,7 +81,7 @@ impl Manager {
         }
     }
 
-    /// Returns the path over which a poll without a LID is sent. Returns `None` if the last sweep saw no manager to
+    /// Returns the path along which a poll without a LID is sent. Returns `None` if the last sweep saw no manager to
     /// poll, or has no path to that manager that leaves by this manager's port and has at most 63 hops.
     fn polled_path(&self) -> Option<&Path<63>>
         ensures { option_copied result ≡ polled_path self.now }
@@ -107,10 +107,10 @@ impl Manager {
     }
 
     /// Asks the successor to take over. The successor is the greatest manager that this one hears, that the last
-    /// sweep saw in Standby or Master, and that wins over this one. If several are equal, it is the first of them.
-    /// Queues a HANDOVER to the LID that the plan gives to the port where the successor was seen. This manager stays
-    /// Master until the successor acknowledges or, under the live conduct, answers with status 0. Computes the plan's
-    /// LIDs anew.
+    /// sweep saw in Standby or Master, and that wins over this one. If several managers are equal, the successor is
+    /// the first of them. Queues a HANDOVER to the LID that the plan gives to the port where the successor was seen.
+    /// This manager stays Master until the successor acknowledges or, under the live conduct, answers with status 0.
+    /// Computes the plan's LIDs anew.
     ///
     /// # Errors
     ///
@@ -222,8 +222,8 @@ fn is_way_out(port: PortNum, path: &Path<63>) -> bool
     }
 }
 
-/// Queues a poll over `path` or, if `path` is `None`, by LIDs. The packet is addressed to `lid`. `requests` must have
-/// memory and a number for the poll, and `outgoing` memory for its packet. Does not allocate.
+/// Queues a poll along `path` or, if `path` is `None`, by LIDs. The packet is addressed to `lid`. `requests` must
+/// have memory and a number for the poll, and `outgoing` memory for its packet. Does not allocate.
 fn send_poll(
     lid: Option<Lid>,
     path: Option<Path<63>>,

@@ -26,7 +26,7 @@ use std::marker::Model;
 use sweep::Sweep;
 
 /// A subnet manager at an adapter's port: its standing among other managers, how it plans, its facts, its last sweep,
-/// its last writing, the requests that wait outside sweeps, and the packets that it has queued.
+/// its last writing, the outstanding requests outside sweeps, and the packets that it has queued.
 #[derive(Drop)]
 pub struct Manager {
     pub(crate) alloc: Global,
@@ -132,9 +132,9 @@ impl Manager {
     }
 
     /// Forgets the facts of generations below `floor`, and from then on ignores facts of such generations. Does
-    /// nothing if `floor` is at most the store's floor. A running sweep goes on: its replies are accepted, but their
-    /// facts are ignored if its generation is below `floor`. The generation of the next sweep is at least `floor`.
-    /// Does not allocate.
+    /// nothing if `floor` is at most the store's floor. A running sweep goes on: its replies are accepted, but the
+    /// facts in these replies are ignored if the sweep's generation is below `floor`. The generation of the next
+    /// sweep is at least `floor`. Does not allocate.
     pub fn raise_floor(&mut self, floor: Generation)
         ensures { self.new ≡ after_raise_floor self.old floor }
     {
@@ -178,8 +178,8 @@ impl Manager {
         }
     }
 
-    /// Returns the TransactionID at index `i` among those of the waiting requests, in ascending order. Returns `None`
-    /// if no more than `i` requests wait.
+    /// Returns the TransactionID at index `i` among those of the outstanding requests, in ascending order. Returns
+    /// `None` if at most `i` requests are outstanding.
     pub fn outstanding(&self, i: usize) -> Option<u64>
         ensures { result ≡ slice_get (outstanding self.now) i }
     {
@@ -209,8 +209,9 @@ impl Manager {
         self.standing.state
     }
 
-    /// Returns how far the last sweep has come: whether there is one and it is done, how many of its requests timed
-    /// out, and by how many ports it did not go on because the path would have become too long.
+    /// Returns how far the last sweep has come: whether there is one and it is done, how many of the sweep's requests
+    /// timed out, and through how many ports the sweep did not go on because the path would have had more than 63
+    /// hops. If no sweep has begun, returns `Never`.
     pub fn progress(&self) -> Progress
         ensures { result ≡ progress_of self.now.sweep }
     {

@@ -25,14 +25,14 @@ use std::alloc::{AllocError, Global};
 use std::collections::VecDeque;
 use std::marker::Model;
 
-/// The requests of a manager outside its sweeps that wait for their answers. Contracts see these requests, the number
-/// of the next request, and the number of further requests for which there is memory.
+/// The outstanding requests of a manager outside its sweeps. Contracts see these requests, the number of the next
+/// request, and the number of further requests for which there is memory.
 #[derive(Drop)]
 pub(crate) struct ManagerRequests {
     table: RequestTable<Pending>,
-    /// The number of waiting requests that are steps of the last writing.
+    /// The number of outstanding requests that are steps of the last writing.
     steps: usize,
-    /// The number of waiting steps that must be done for the plan to count as written.
+    /// The number of outstanding steps that must be done for the plan to count as written.
     counting: usize,
 }
 
@@ -59,21 +59,21 @@ impl ManagerRequests {
         }
     }
 
-    /// Returns the number of requests that wait.
+    /// Returns the number of outstanding requests.
     pub(crate) fn len(&self) -> usize
         ensures { result ≡ length self.now.pending }
     {
         self.table.len()
     }
 
-    /// Returns the number of steps of the last writing that wait.
+    /// Returns the number of outstanding steps of the last writing.
     pub(crate) fn step_count(&self) -> usize
         ensures { result ≡ how_many is_step self.now.pending }
     {
         self.steps
     }
 
-    /// Returns whether no step of the last writing waits.
+    /// Returns whether no step of the last writing is outstanding.
     pub(crate) fn has_no_step(&self) -> bool
         ensures { result ≡ no_step_waits self.now.pending }
     {
@@ -154,7 +154,7 @@ impl ManagerRequests {
         Smp::lid_routed(method, AttributeId::SM_INFO, modifier, number, payload)
     }
 
-    /// Adds a poll under the next number, and returns its packet. The poll goes over `path` or, if `path` is `None`,
+    /// Adds a poll under the next number, and returns its packet. The poll goes along `path` or, if `path` is `None`,
     /// by LIDs. There must be memory for the poll, and the next number must fit in 32 bits. Does not allocate.
     pub(crate) fn send_poll(&mut self, path: Option<Path<63>>) -> Smp
         requires room { 0 < self.old.room }
@@ -176,15 +176,15 @@ impl ManagerRequests {
         packet
     }
 
-    /// Returns the waiting request at `index`, in ascending order of number, or `None` if no more than `index`
-    /// requests wait.
+    /// Returns the outstanding request at `index`, in ascending order of number, or `None` if at most `index`
+    /// requests are outstanding.
     pub(crate) fn get(&self, index: usize) -> Option<&Pending>
         ensures { option_copied result ≡ slice_get self.now.pending index }
     {
         self.table.get(index)
     }
 
-    /// Returns the purpose of the waiting request at `index`. There must be one.
+    /// Returns the purpose of the outstanding request at `index`, in ascending order of number. There must be one.
     pub(crate) fn purpose(&self, index: usize) -> Purpose
         requires { index < length self.now.pending }
         ensures { Some result
@@ -193,23 +193,23 @@ impl ManagerRequests {
         self.table.get(index).unwrap().purpose
     }
 
-    /// Returns whether none of the waiting requests is a step that counts.
+    /// Returns whether none of the outstanding requests is a step that counts.
     pub(crate) fn none_counts(&self) -> bool
         ensures { result ≡ none_counts self.now.pending }
     {
         self.counting == 0
     }
 
-    /// Returns the index of the request with the TransactionID `transaction`, or `None` if no such request waits. Does
-    /// a binary search among the requests that wait.
+    /// Returns the index of the outstanding request with the TransactionID `transaction`, or `None` if no such
+    /// request is outstanding. Does a binary search among the outstanding requests.
     pub(crate) fn index_of(&self, transaction: u64) -> Option<usize>
         ensures { IsIndexFor (with_number transaction self.now.pending) self.now.pending result }
     {
         self.table.index_of(transaction)
     }
 
-    /// Returns the index of the waiting request that `smp` answers, or `None` if `smp` answers none. Does a binary
-    /// search among the requests that wait.
+    /// Returns the index of the outstanding request that `smp` answers, or `None` if `smp` answers none. Does a
+    /// binary search among the outstanding requests.
     pub(crate) fn index_for(&self, smp: &Smp) -> Option<usize>
         ensures { IsIndexFor (find (answers smp.now) self.now.pending) self.now.pending result }
     {
@@ -222,7 +222,7 @@ impl ManagerRequests {
         }
     }
 
-    /// Removes the waiting request at `index` and returns it. There must be one.
+    /// Removes the outstanding request at `index`, in ascending order of number, and returns it. There must be one.
     pub(crate) fn end(&mut self, index: usize) -> Pending
         requires { index < length self.old.pending }
         ensures request { Some result ≡ slice_get self.old.pending index }
@@ -241,7 +241,7 @@ impl ManagerRequests {
     }
 }
 
-/// Returns the packet of the poll with the number `number`, which must fit in 32 bits. The poll goes over `path` or,
+/// Returns the packet of the poll with the number `number`, which must fit in 32 bits. The poll goes along `path` or,
 /// if `path` is `None`, by LIDs.
 fn poll_packet(number: u64, path: &Option<Path<63>>) -> Smp
     requires { number < 2 ^ 32 }

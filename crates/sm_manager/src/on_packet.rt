@@ -1,5 +1,5 @@
 ghost use Rattle.std.specs.Prelude.{◌≡◌, ◌-◌, None, IfOk, OnOk, OnErr};
-ghost use Rattle.sm_manager.specs.Packets.{HasSender, IsFaultWithoutRoom, is_for_sweep, is_info_request};
+ghost use Rattle.sm_manager.specs.Packets.{HasSender, IsFaultWithoutRoom, is_for_sweep};
 ghost use Rattle.sm_manager.specs.Packets.{sweep_answered, after_packet, packet_taken, noted_trap};
 ghost use Rattle.smp_bytes.specs.Judges.{JudgesButFor};
 ghost use Rattle.sm_manager.specs.Fault.{is_memory, refusal_of};
@@ -8,30 +8,32 @@ ghost use Rattle.sweep.specs.Replies.{judged};
 use crate::fault::ManagerFault;
 use crate::handover::end_sweep;
 use crate::manager::Manager;
-use crate::note_seen::note_seen;
+use crate::noted_managers::note_seen;
 use crate::outgoing::send_queued;
+use crate::sm_info_answers::is_info_request;
 use crate::traps::Trap;
 use fact_store::ReportFault;
-use smp_bytes::{AttributeId, Lid, Method, Smp, SmpClass};
+use smp_bytes::{Lid, Method, Smp, SmpClass};
 use sweep::{REQUESTS_PER_REPLY, Sweep, SweepFault};
 
 impl Manager {
     /// Handles a packet that came to the manager's port. `from` is the LID of the sender. It must not be `None` if
     /// the packet came by LIDs.
     ///
-    /// For a reply to the sweep, its facts are added, or the manager that it shows is noted, and the next requests
-    /// are queued. If that ends the sweep, the state changes according to the managers that the sweep saw. An answer
-    /// to a poll, a control or a step of a writing ends that request. After the last step of a phase, the next phase
-    /// is queued. A request for SMInfo is answered, and a control is obeyed if the table of states has a move for it.
-    /// Under the live conduct, a trap by LIDs is repressed, and its content is returned.
+    /// If the packet is a reply to the sweep, the facts in the reply are added, or the manager that the reply shows
+    /// is noted, and the next requests are queued. If that ends the sweep, the state changes according to the
+    /// managers that the sweep saw. An answer to a poll, a control or a step of a writing ends that request. After
+    /// the last step of a phase, the next phase is queued. A request for SMInfo is answered, and a control is obeyed
+    /// if the table of states has a move for it. Under the live conduct, a trap by LIDs is repressed. Returns the
+    /// content of the trap if `bytes` are such a trap, and otherwise `None`.
     ///
     /// # Errors
     ///
     /// Returns `Sweep` with the fault of the bytes if they are not a packet, and `Sweep` with the sweep's fault if
     /// the sweep refuses the reply. Returns `Unasked` if the packet looks like a reply to a sweep and no sweep has
-    /// begun. Also returns `Unasked` if the packet is not such a reply, a request for SMInfo, a trap that is
-    /// repressed, or the answer to a waiting request. Returns `SequenceSpent` if no numbers are left for what is to
-    /// be sent, and `Memory` if memory runs out.
+    /// begun, or if the packet is neither such a reply nor a request for SMInfo, a trap that is repressed, or the
+    /// answer to an outstanding request. Returns `SequenceSpent` if no numbers are left for what is to be sent, and
+    /// `Memory` if memory runs out.
     pub fn on_packet(
         &mut self,
         bytes: &[u8; 256],
@@ -71,17 +73,6 @@ impl Manager {
             self.take_reply(smp)
         } else {
             self.take_answer(smp)
-        }
-    }
-
-    /// Returns the content of the trap `smp`, or `None` if `smp` is not a trap that the manager represses.
-    fn noted_trap(&self, smp: &Smp) -> Option<Trap>
-        ensures { result ≡ noted_trap self.now smp.now }
-    {
-        if !is_info_request(smp) && self.represses(smp) {
-            Some(Trap::of(smp))
-        } else {
-            None
         }
     }
 
@@ -138,14 +129,7 @@ fn fault_without_room(sweep: &Sweep, smp: &Smp) -> ManagerFault
     }
 }
 
-/// Returns whether `smp` is a request for SMInfo.
-fn is_info_request(smp: &Smp) -> bool
-    ensures { result ≡ is_info_request smp.now }
-{
-    !smp.is_response() && smp.attribute_id() == AttributeId::SM_INFO
-}
-
-/// Returns whether `smp` is a GetResp over a directed route, and the high half of its TransactionID is not 0. The
+/// Returns whether `smp` is a GetResp along a directed route, and the high half of its TransactionID is not 0. The
 /// answers to the requests of a sweep are such packets.
 fn is_for_sweep(smp: &Smp) -> bool
     ensures { result ≡ is_for_sweep smp.now }

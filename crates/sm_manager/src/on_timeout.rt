@@ -9,14 +9,14 @@ use crate::handover::end_sweep;
 use crate::manager::Manager;
 
 impl Manager {
-    /// Handles the timeout of the request with the TransactionID `transaction`, which then no longer waits. If three
-    /// or more polls in a row were lost, a standby moves to Discovering. If the timeout ends the sweep, the state
-    /// changes according to the managers that the sweep saw. If the timeout ends a phase of a writing, the next phase
-    /// is queued.
+    /// Handles the timeout of the request with the TransactionID `transaction`, which is then no longer outstanding.
+    /// If three or more polls in a row were lost, a standby moves to Discovering. If the timeout ends the sweep, the
+    /// state changes according to the managers that the sweep saw. If the timeout ends a phase of a writing, the next
+    /// phase is queued.
     ///
     /// # Errors
     ///
-    /// Returns `Unasked` if no request with the TransactionID `transaction` waits. Returns `SequenceSpent` or
+    /// Returns `Unasked` if no outstanding request has the TransactionID `transaction`. Returns `SequenceSpent` or
     /// `Memory` only if the next phase of a writing is due and cannot be sent.
     pub fn on_timeout(&mut self, transaction: u64) -> Result<(), ManagerFault>
         ensures judged { JudgesButFor is_memory result (after_timeout self.old transaction).fault }
@@ -33,7 +33,7 @@ impl Manager {
     }
 
     /// Handles the timeout of the request of the last sweep with the TransactionID `transaction`. Returns `Unasked`
-    /// if no such request waits, or if no sweep has begun.
+    /// if no such request is outstanding, or if no sweep has begun.
     fn give_up(&mut self, transaction: u64) -> Result<(), ManagerFault>
         ensures judged { JudgesButFor is_memory result
             (sweep_gave_up self.old transaction self.old.sweep).fault }

@@ -6,15 +6,15 @@ use smp_bytes::{Lid, Smp};
 use std::collections::VecDeque;
 use sweep::Sweep;
 
-/// A packet that is to be sent to the LID `to` or, if `to` is `None`, over the path in the packet.
+/// A packet that is to be sent to the LID `to` or, if `to` is `None`, along the path in the packet.
 #[derive(Clone, Copy, Debug)]
 pub struct Outgoing {
     pub packet: Smp,
     pub to: Option<Lid>,
 }
 
-/// Moves all requests that `sweep` has queued to `outgoing`, which must have memory for them. The requests then wait
-/// for their replies. Does not allocate.
+/// Moves all requests that `sweep` has queued to `outgoing`, which must have memory for them. The requests are then
+/// outstanding. Does not allocate.
 pub(crate) fn send_queued(sweep: &mut Sweep, outgoing: &mut VecDeque<Outgoing>)
     requires { deque_len outgoing.old + length sweep.old.queued ≤ deque_capacity outgoing.old }
     ensures sweep { sweep.new ≡ with_all_sent sweep.old }

@@ -18,7 +18,7 @@ pub enum Purpose {
     },
 }
 
-/// A request outside sweeps that was sent and waits for its answer.
+/// A request outside sweeps that was sent and is outstanding.
 #[derive(Debug, Drop)]
 pub struct Pending {
     /// The low half of the TransactionID. The high half is 0.

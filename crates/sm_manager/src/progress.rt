@@ -6,7 +6,8 @@ pub enum Progress {
     Running {
         /// The number of requests that timed out.
         unanswered: u64,
-        /// The number of ports by which the sweep did not go on because the path would have had more than 63 hops.
+        /// The number of ports through which the sweep did not go on because the path would have had more than 63
+        /// hops.
         too_far: u64,
     },
     Done {

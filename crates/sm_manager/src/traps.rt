@@ -1,10 +1,12 @@
 //! The answers to traps.
 ghost use Rattle.std.specs.Prelude.{◌≡◌, Err, OnErr, OnOk};
+ghost use Rattle.sm_manager.specs.Packets.{noted_trap};
 ghost use Rattle.sm_manager.specs.Traps.{represses, repress_out, repressing, trap_in};
 
 use crate::fault::ManagerFault;
 use crate::manager::Manager;
 use crate::outgoing::Outgoing;
+use crate::sm_info_answers::is_info_request;
 use smp_bytes::wire::u16_at;
 use smp_bytes::{Lid, Method, Smp, SmpClass};
 
@@ -43,6 +45,17 @@ impl Manager {
         self.standing.conduct.is_live()
             && smp.method() == TRAP
             && smp.class() == SmpClass::LidRouted
+    }
+
+    /// Returns the content of `smp` if it is a trap that the manager represses, and otherwise `None`.
+    pub(crate) fn noted_trap(&self, smp: &Smp) -> Option<Trap>
+        ensures { result ≡ noted_trap self.now smp.now }
+    {
+        if !is_info_request(smp) && self.represses(smp) {
+            Some(Trap::of(smp))
+        } else {
+            None
+        }
     }
 
     /// Queues the answer to the trap `smp`, addressed to `from`, the LID of the sender. Once the sender has this

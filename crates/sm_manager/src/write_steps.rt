@@ -19,15 +19,16 @@ use sm_state::SmState;
 use sweep::Sweep;
 
 impl Manager {
-    /// Begins to write the plan of the manager's facts, over the paths of the last sweep. The plan is written in
+    /// Begins to write the plan of the manager's facts, along the paths of the last sweep. The plan is written in
     /// phases: the LIDs of end ports, the forwarding blocks of usable switches, their tops, and then the states of
     /// ports on wires. Each phase is queued as a whole, and the next one once each of its steps was answered or timed
     /// out.
     ///
     /// # Errors
     ///
-    /// Returns the first of these that applies: `NotMaster`, also if no sweep has begun; `SweepRunning`;
-    /// `WritingRunning`; `NoRoom`; `SequenceSpent` if fewer numbers are left than a phase could need; `Memory`.
+    /// Returns the first of these that applies: `NotMaster` if the manager is not master or has begun no sweep;
+    /// `SweepRunning` if the last sweep is not done; `WritingRunning` if a step of a writing is outstanding;
+    /// `NoRoom`; `SequenceSpent` if fewer numbers are left than a phase could need; `Memory`.
     pub fn write_steps(&mut self) -> Result<(), ManagerFault>
         ensures judged { JudgesButFor is_memory result (writing_fault self.old) }
         ensures ok { OnOk result (self.new ≡ after_write_steps self.old) }
@@ -66,8 +67,8 @@ impl Manager {
     ///
     /// # Errors
     ///
-    /// Returns the first of these that applies: `NotMaster`, also if no sweep has begun; `SweepRunning` if the sweep
-    /// is not done; `WritingRunning` if a step of a writing waits.
+    /// Returns the first of these that applies: `NotMaster` if the manager is not master or has begun no sweep;
+    /// `SweepRunning` if the last sweep is not done; `WritingRunning` if a step of a writing is outstanding.
     fn last_sweep(&self) -> Result<&Sweep, ManagerFault>
         ensures judged { Judges result (write_fault self.now) }
         ensures sweep { IfOk result (λ s. self.now.sweep ≡ Some s.now) }
@@ -87,9 +88,9 @@ impl Manager {
         Ok(sweep)
     }
 
-    /// Ends the waiting request at `index`. There must be one, and it must be a step. `was_done` says whether the
-    /// step was done. If no other step waits, queues the next phase. Returns `SequenceSpent` or `Memory` if that
-    /// phase cannot be sent.
+    /// Ends the outstanding request at `index`, in ascending order of number. There must be one, and it must be a
+    /// step. `was_done` says whether the step was done. If no other step is outstanding, queues the next phase.
+    /// Returns `SequenceSpent` or `Memory` if that phase cannot be sent.
     pub(crate) fn end_step(&mut self, index: usize, was_done: bool) -> Result<(), ManagerFault>
         requires within { index < length self.old.pending }
         requires step { (p : Pending) → slice_get self.old.pending index ≡ Some p
@@ -113,8 +114,8 @@ impl Manager {
         Ok(())
     }
 
-    /// Returns the number of steps that are sent when a waiting step ends: 0 if two or more steps wait, and otherwise
-    /// the number of steps of the next phase.
+    /// Returns the number of steps that are sent when an outstanding step ends: 0 if two or more steps are
+    /// outstanding or there is no writing, and otherwise the number of steps of the next phase.
     fn count_after(&self) -> usize
         ensures { result ≡ count_after self.now }
     {

@@ -14,7 +14,7 @@ use std::marker::Model;
 /// A plan that is being written, or was written last.
 #[derive(Drop)]
 pub(crate) struct Writing {
-    /// The phases that have not been sent, in their order. The first of them has steps.
+    /// The phases that have not been sent, the next one first. The first phase, if there is one, has steps.
     later: VecDeque<Phase>,
     /// Whether some step that counts (`Phase::counts`) was not done.
     has_failed: bool,
@@ -59,9 +59,9 @@ impl Writing {
         self.has_failed = self.has_failed || (counts && !was_done);
     }
 
-    /// Removes the next phase from the writing and queues its steps, which then wait for their answers. Does nothing
-    /// if no phase is left. `requests` must have memory and numbers for these steps, and `outgoing` must have memory
-    /// for their packets. Does not allocate.
+    /// Removes the next phase from the writing and queues its steps, which are then outstanding. Does nothing if no
+    /// phase is left. `requests` must have memory and numbers for these steps, and `outgoing` must have memory for
+    /// their packets. Does not allocate.
     pub(crate) fn send_next(
         &mut self,
         requests: &mut ManagerRequests,
@@ -113,7 +113,7 @@ fn pass(later: &mut VecDeque<Phase>)
     }
 }
 
-/// Queues `steps`, which then wait for their answers. If `counts`, the plan is written only if they are done.
+/// Queues `steps`, which are then outstanding. If `counts`, the plan is written only if all of `steps` are done.
 /// `requests` must have memory and numbers for these steps, and `outgoing` must have memory for their packets. Does
 /// not allocate.
 fn send_steps(

@@ -10,7 +10,7 @@ use Rattle.sm_state.specs.declared.event.Message.TheVariants as message
 use Rattle.sm_state.specs.declared.state.SmState.{SmState}
 use Rattle.sm_state.specs.declared.state.SmState.TheVariants.{NotActive, Discovering, Standby, Master}
 use Rattle.smp_bytes.specs.Header.{done}
-use Rattle.sm_state.specs.Controls.{control_of_modifier}
+use Rattle.sm_state.specs.Control.{control_of_modifier}
 use Rattle.sm_state.specs.StateLaws.{HandoversAreTaken, Is, IsNamed, MastersStay, NothingElseMoves, OthersAreTold, StatesAreNumbered}
 use Rattle.sm_state.specs.Transitions.{acknowledged_late, after_control, status_of}
 

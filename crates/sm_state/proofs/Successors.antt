@@ -7,7 +7,7 @@ use Rattle.std.specs.List.{AllByRecursion}
 use Rattle.std.specs.Prelude.{Option, Some, None, ◌&&◌, ◌==◌, filter, nat_lt}
 use Rattle.attr_codec.specs.declared.sm_info.SmInfo.{SmInfo}
 use Rattle.sm_state.proofs.Winning.{wins_is_an_order}
-use Rattle.sm_state.specs.Ranks.{wins}
+use Rattle.sm_state.specs.Precedence.{wins}
 use Rattle.sm_state.specs.declared.election.SeenManager.{SeenManager}
 use Rattle.sm_state.specs.Election.{SuccessorLaw, IsFirstGreatest, IsSuccessorOrNone, better, best_with, is_candidate, next_best}
 

@@ -8,9 +8,9 @@ use Rattle.attr_codec.specs.declared.sm_info.SmInfo.{SmInfo}
 use Rattle.smp_bytes.proofs.Members.{contains_here, contains_later}
 use Rattle.sm_state.specs.declared.election.SeenManager.{SeenManager}
 use Rattle.sm_state.specs.declared.state.SmState.TheVariants.{NotActive, Master}
-use Rattle.sm_state.specs.Conducts.{is_heard}
+use Rattle.sm_state.specs.Conduct.{is_heard}
 use Rattle.sm_state.specs.Election.{PolledLaw, IsPolledOrNone, best_with, better, greatest_of, is_above, is_heard_master, next_best, outranks, says}
-use Rattle.sm_state.specs.Ranks.{wins}
+use Rattle.sm_state.specs.Precedence.{wins}
 
 -- one of the list, which passes
 abbrev IsOne : (SeenManager → Bool) → List SeenManager → SeenManager → Type 0

@@ -3,7 +3,7 @@ use Rattle.std.proofs.Common.{◌≡◌, ◌<◌, true, ◌&&◌, ◌==◌, inl,
 use Rattle.std.proofs.lemmas.Bool.{and_from, and_parts, and_right, cases_order, eq-eqb, eqb-true, le-ltb, lt-ltb, ltb-true, or_cases, or_from, or_left, or_right}
 use Rattle.std.specs.Prelude.{◌⊎◌, nat_lt}
 use Rattle.attr_codec.specs.declared.sm_info.SmInfo.{SmInfo}
-use Rattle.sm_state.specs.Ranks.{HasSameRank, WinsIsAnOrder, wins}
+use Rattle.sm_state.specs.Precedence.{HasSameRank, WinsIsAnOrder, wins}
 
 -- the greater priority, or the lesser GUID at the same
 abbrev IsAhead : SmInfo → SmInfo → Type 0

@@ -8,9 +8,9 @@ use Rattle.sm_state.specs.declared.event.Event.{Event}
 use Rattle.sm_state.specs.declared.event.Event.TheVariants.{Outranked, Unrivalled}
 use Rattle.sm_state.specs.declared.state.SmState.{SmState}
 use Rattle.sm_state.specs.declared.state.SmState.TheVariants.{NotActive, Standby, Master}
-use Rattle.sm_state.specs.Conducts.{is_heard}
-use Rattle.sm_state.specs.Ranks.{wins}
-use Rattle.sm_state.specs.States.{number_of_state}
+use Rattle.sm_state.specs.Conduct.{is_heard}
+use Rattle.sm_state.specs.Precedence.{wins}
+use Rattle.sm_state.specs.State.{number_of_state}
 use Rattle.sm_state.specs.declared.election.SeenManager.{SeenManager}
 
 -- whether `info` reports the state `state`; a reserved number reports none of the states

@@ -1,8 +1,8 @@
-pub mod Conducts
-pub mod Controls
+pub mod Conduct
+pub mod Control
 pub mod Election
-pub mod Ranks
+pub mod Precedence
 pub mod Standing
 pub mod StateLaws
-pub mod States
+pub mod State
 pub mod Transitions

@@ -9,9 +9,9 @@ use Rattle.sm_state.specs.declared.event.Event.{Event}
 use Rattle.sm_state.specs.declared.event.Event.TheVariants.{PollsUnanswered}
 use Rattle.sm_state.specs.declared.state.SmState.{SmState}
 use Rattle.sm_state.specs.declared.state.SmState.TheVariants.{Discovering, Standby}
-use Rattle.sm_state.specs.Conducts.{is_live, key_of}
-use Rattle.sm_state.specs.Controls.{modifier_of_control}
-use Rattle.sm_state.specs.States.{number_of_state}
+use Rattle.sm_state.specs.Conduct.{is_live, key_of}
+use Rattle.sm_state.specs.Control.{modifier_of_control}
+use Rattle.sm_state.specs.State.{number_of_state}
 use Rattle.sm_state.specs.Transitions.{stepped}
 use Rattle.sm_state.specs.declared.standing.Standing.{Standing}
 

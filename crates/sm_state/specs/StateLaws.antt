@@ -8,8 +8,8 @@ use Rattle.sm_state.specs.declared.event.Event.TheVariants as event
 use Rattle.sm_state.specs.declared.event.Message.TheVariants as message
 use Rattle.sm_state.specs.declared.state.SmState.{SmState}
 use Rattle.sm_state.specs.declared.state.SmState.TheVariants.{NotActive, Discovering, Standby, Master}
-use Rattle.sm_state.specs.Controls.{control_of_modifier}
-use Rattle.sm_state.specs.States.{number_of_state, state_of_number}
+use Rattle.sm_state.specs.Control.{control_of_modifier}
+use Rattle.sm_state.specs.State.{number_of_state, state_of_number}
 use Rattle.smp_bytes.specs.Header.{done}
 use Rattle.sm_state.specs.Transitions.{status_of, stepped}
 
@@ -27,7 +27,8 @@ IsNamed NotActive e = Is control.Standby e
 IsNamed Master e =
     Is control.Handover e ⊎ (Is control.Acknowledge e ⊎ (Is control.Discover e ⊎ (e ≡ event.HandoverWanted)))
 
--- under either conduct, an event that is not one of `IsNamed` in a state does not change this state and sends nothing
+-- under either conduct, an event that is not named for a state (`IsNamed`) does not change this state, and the
+-- manager sends nothing
 abbrev pub NothingElseMoves : Type 0
 NothingElseMoves =
     (conduct : Conduct) (state : SmState) (e : Event) → (IsNamed state e → ⊥)

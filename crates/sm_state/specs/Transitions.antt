@@ -13,7 +13,7 @@ use Rattle.sm_state.specs.declared.event.Message.TheVariants as message
 use Rattle.sm_state.specs.declared.state.SmState.{SmState}
 use Rattle.sm_state.specs.declared.state.SmState.TheVariants.{NotActive, Discovering, Standby, Master}
 use Rattle.sm_state.specs.declared.transition.Transition.{Transition}
-use Rattle.sm_state.specs.Controls.{control_of_modifier}
+use Rattle.sm_state.specs.Control.{control_of_modifier}
 
 -- the move to `state` that is not refused and sends the message `sends`, or nothing if that is None
 abbrev pub to : SmState → Option Message → Transition

@@ -1,5 +1,5 @@
 ghost use Rattle.std.specs.Prelude.{◌≡◌};
-ghost use Rattle.sm_state.specs.Conducts.{conduct_with, is_live, key_of};
+ghost use Rattle.sm_state.specs.Conduct.{conduct_with, is_live, key_of};
 
 /// How a manager deals with the other managers of its subnet.
 #[derive(Clone, Copy, Debug, PartialEq, Eq)]
@@ -7,9 +7,9 @@ pub enum Conduct {
     /// Obeys only controls routed by LID. A master that hands over stays Master until the other manager sends
     /// ACKNOWLEDGE. The SM_Key is 0.
     Plain,
-    /// Deals with the managers of a live subnet as OpenSM does. Also obeys controls over directed routes. Becomes
-    /// Standby once its HANDOVER is answered with status 0. Hears only managers with the same SM_Key, unless its own
-    /// SM_Key is 0. Represses traps, and keeps what its sweeps read. The number is its SM_Key.
+    /// Deals with the managers of a live subnet as OpenSM does. Also obeys controls that come along directed routes.
+    /// Becomes Standby once its HANDOVER is answered with status 0. Hears only managers with the same SM_Key, unless
+    /// its own SM_Key is 0. Represses traps, and keeps what its sweeps read. The number is its SM_Key.
     Live(u64),
 }
 

@@ -1,5 +1,5 @@
 ghost use Rattle.std.specs.Prelude.{◌≡◌};
-ghost use Rattle.sm_state.specs.Controls.{control_of_modifier, modifier_of_control};
+ghost use Rattle.sm_state.specs.Control.{control_of_modifier, modifier_of_control};
 
 /// A command of one subnet manager to another, sent as a Set(SMInfo) (subnet management, SMInfo: controls).
 #[derive(Clone, Copy, Debug, PartialEq, Eq)]

@@ -1,6 +1,6 @@
 //! The choice among the managers that a sweep saw.
 ghost use Rattle.std.specs.Prelude.{◌≡◌, Some, find, if◌then◌else◌};
-ghost use Rattle.sm_state.specs.Conducts.{is_heard};
+ghost use Rattle.sm_state.specs.Conduct.{is_heard};
 ghost use Rattle.sm_state.specs.Election.{any_outranks, better, greatest_of, next_best, successor_of, is_above};
 ghost use Rattle.sm_state.specs.Election.{is_candidate, is_heard_master, outranks, polled_of, says, sweep_verdict};
 

@@ -1,5 +1,5 @@
 ghost use Rattle.std.specs.Prelude.{◌≡◌};
-ghost use Rattle.sm_state.specs.Controls.{control_of_message};
+ghost use Rattle.sm_state.specs.Control.{control_of_message};
 
 use crate::control::Control;
 

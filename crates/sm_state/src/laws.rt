@@ -1,5 +1,5 @@
 //! The laws of managers' states.
-ghost use Rattle.sm_state.specs.Ranks.{WinsIsAnOrder};
+ghost use Rattle.sm_state.specs.Precedence.{WinsIsAnOrder};
 ghost use Rattle.sm_state.specs.Election.{PolledLaw, SuccessorLaw};
 ghost use Rattle.sm_state.specs.StateLaws.{HandoversAreTaken, MastersStay, NothingElseMoves, OthersAreTold};
 ghost use Rattle.sm_state.specs.StateLaws.{StatesAreNumbered};

@@ -1,5 +1,5 @@
 ghost use Rattle.std.specs.Prelude.{◌≡◌};
-ghost use Rattle.sm_state.specs.Ranks.{wins};
+ghost use Rattle.sm_state.specs.Precedence.{wins};
 
 use attr_codec::SmInfo;
 

@@ -1,5 +1,5 @@
 ghost use Rattle.std.specs.Prelude.{◌≡◌};
-ghost use Rattle.sm_state.specs.States.{number_of_state, state_of_number, state_word};
+ghost use Rattle.sm_state.specs.State.{number_of_state, state_of_number, state_word};
 
 use attr_codec::SmStateNumber;
 

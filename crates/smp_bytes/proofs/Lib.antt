@@ -7,6 +7,7 @@ pub mod Kept
 pub mod LidRanges
 pub mod Made
 pub mod Members
+pub mod NodePorts
 pub mod OffsetLaws
 pub mod Ports
 pub mod RequestLaws

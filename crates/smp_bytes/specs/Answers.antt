@@ -4,12 +4,12 @@ use Rattle.std.specs.Prelude.{ℕ, ◌+◌, Bool, true, ◌&&◌, not, List, [],
 use Rattle.smp_bytes.specs.Field.{number_in}
 use Rattle.smp_bytes.specs.Packet.{transaction_id, attribute_id, attribute_modifier, hop_count, initial_path, is_directed}
 
--- whether InitialPath of `packet` has the ports `ports` from index `i` on
+-- whether InitialPath of `packet` has the ports `ports`, starting at index `i`
 abbrev pub has_ports : List ℕ → ℕ → List ℕ → Bool
 has_ports packet i [] = true
 has_ports packet i (port ∷ ports) = number_in (initial_path i) packet == port && has_ports packet (i + 1) ports
 
--- whether `packet` is directed over `path`; if `path` is None, whether `packet` is not directed
+-- whether `packet` is directed along `path`; if `path` is None, whether `packet` is not directed
 abbrev pub goes_by : List ℕ → Option (List ℕ) → Bool
 goes_by packet None = not (is_directed packet)
 goes_by packet (Some path) =

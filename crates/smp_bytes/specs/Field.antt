@@ -25,7 +25,7 @@ bits_in bits bytes = slice_index bytes bits.at / 2 ^ bits.shift % 2 ^ bits.width
 abbrev pub bytes_in : Field → List ℕ → List ℕ
 bytes_in field bytes = take field.len (drop field.at bytes)
 
--- `bytes`, overwritten by `written` from offset `at` on
+-- `bytes`, with `written` copied into it, starting at offset `at`
 unfoldable pub with_bytes : ℕ → List ℕ → List ℕ → List ℕ
 with_bytes at written bytes = take at bytes ++ (written ++ drop (at + length written) bytes)
 

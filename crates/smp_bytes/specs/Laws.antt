@@ -30,8 +30,8 @@ abbrev pub BytesOutsideStay : Type 0
 BytesOutsideStay = (field : Field) (number : ℕ) (bytes : List ℕ) → LiesIn field bytes
     → KeepsBytesOutside field bytes (with_number field number bytes)
 
--- if `new` has `number` in `field` and the bytes of `old` outside `field`, `new` is `old` with `number` written into
--- `field`. Two more premises: `field` lies within `old`, and the bytes of `new` are below 256
+-- suppose that `field` lies within `old`, and that each byte of `new` is below 256. If `new` has `number` in `field`,
+-- and keeps the length of `old` and its bytes outside `field`, `new` is `old` with `number` written into `field`
 abbrev pub WriteIsUnique : Type 0
 WriteIsUnique =
     (field : Field) (number : ℕ) (old new : List ℕ) → LiesIn field old → All (λ byte. byte < 256) new
@@ -56,8 +56,8 @@ abbrev pub BitsAreRead : Type 0
 BitsAreRead = (bits : Bits) (number : ℕ) (bytes : List ℕ) → AreBitsIn bits bytes → number < 2 ^ bits.width
     → bits_in bits (with_bits bits number bytes) ≡ number
 
--- if the bits `other` are apart from `bits`, a write into `bits` keeps the number in `other`. Two more premises: `bits`
--- lie in `bytes` (`AreBitsIn`), and the number fits in them
+-- if `bits` lie in `bytes` (`AreBitsIn`) and a number fits in `bits`, writing the number into `bits` changes no bits
+-- apart from them
 abbrev pub BitsApartStay : Type 0
 BitsApartStay = (other bits : Bits) (number : ℕ) (bytes : List ℕ) → AreBitsIn bits bytes → number < 2 ^ bits.width
     → are_bits_apart other bits ≡ true

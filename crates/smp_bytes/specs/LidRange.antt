@@ -1,8 +1,8 @@
--- The LIDs of a port: 2^LMC numbers from its LID on. InfiniBand Architecture Specification, Volume 1: addressing, LMC;
--- subnet management, PortInfo.
+-- The LIDs of a port: the 2^LMC numbers that start at its LID. InfiniBand Architecture Specification, Volume 1:
+-- addressing, LMC; subnet management, PortInfo.
 use Rattle.std.specs.Prelude.{ℕ, ◌+◌, ◌^◌, Bool, ◌&&◌, ◌||◌, ◌==◌, nat_le, nat_lt, ◌%◌, if◌then◌else◌}
 
--- whether `n` is one of the `count` numbers from `first` on
+-- whether `n` is one of the `count` numbers that start at `first`
 abbrev pub is_among : ℕ → ℕ → ℕ → Bool
 is_among first count n = nat_le first n && nat_lt n (first + count)
 

@@ -81,7 +81,8 @@ dr_dlid = record { at = 34; len = 2 }
 abbrev pub initial_path : ℕ → Field
 initial_path i = record { at = 128 + i; len = 1 }
 
--- ReturnPath at index `i`: the port by which the answer to a directed packet leaves on its way back over step `i`
+-- ReturnPath at index `i`: the port by which the answer to a directed packet leaves on its way back at step `i`;
+-- index 0 is not used
 abbrev pub return_path : ℕ → Field
 return_path i = record { at = 192 + i; len = 1 }
 

@@ -26,8 +26,8 @@ pub record HoldsRequest (packet : List ℕ) (method_number attribute modifier ti
   pub m_key : number_in m_key packet ≡ 0
   pub attribute_data : bytes_in attribute_data packet ≡ payload
 
--- `packet` is directed over `path`, with no LID-routed part. HopPointer is 0. InitialPath is 0 except for the ports of
--- `path`. ReturnPath and the reserved bytes after DrDLID are 0
+-- `packet` is directed along `path`, with no LID-routed part. HopPointer is 0. InitialPath is 0 except for the ports
+-- of `path`. ReturnPath and the reserved bytes after DrDLID are 0
 pub record HoldsPath (packet path : List ℕ) : Type 0 where
   pub class : number_in mgmt_class packet ≡ directed_class
   pub hop_pointer : number_in hop_pointer packet ≡ 0
@@ -92,7 +92,7 @@ pub record HoldsAnswer (request answer : List ℕ) (given : ℕ) (payload : List
   pub kept : (offset : ℕ) → IsKeptInAnswer offset → slice_index answer offset ≡ slice_index request offset
 
 -- if `payload` has 64 bytes and the status `given` fits, the answer to the packet `request` contains both
--- (`HoldsAnswer`). `given` fits if it is below 2^16, and below 2^15 if `request` is directed
+-- (`HoldsAnswer`). `given` fits if it is below 2^16 and, if `request` is directed, below 2^15
 abbrev pub AnswerReadsBack : Type 0
 AnswerReadsBack =
     (request : List ℕ) (given : ℕ) (payload : List ℕ) → length request ≡ 256 → fault_of request ≡ None → length payload
@@ -106,8 +106,9 @@ pub record HoldsStatus (old new : List ℕ) (given : ℕ) : Type 0 where
   pub status : status new ≡ given
   pub returning : is_directed old ≡ true → is_returning new ≡ is_returning old
 
--- if `packet` has 256 bytes and the status `given` fits, a packet contains the status that is written into it
--- (`HoldsStatus`). `given` fits if it is below 2^16, and below 2^15 if `packet` is directed
+-- if the status `given` fits, it is read back from a packet of 256 bytes into which it was written (`HoldsStatus`).
+-- `given` fits if it is below 2^16 and, if the packet is directed, below 2^15, since the highest bit is then the D
+-- bit
 abbrev pub StatusReadsBack : Type 0
 StatusReadsBack =
     (packet : List ℕ) (given : ℕ) → length packet ≡ 256 → All (λ byte. byte < 256) packet

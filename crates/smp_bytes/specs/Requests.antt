@@ -29,7 +29,7 @@ abbrev pub lid_routed : ℕ → ℕ → ℕ → ℕ → List ℕ → List ℕ
 lid_routed method_number attribute modifier tid payload =
     with_bytes attribute_data.at payload (request lid_routed_class method_number attribute modifier tid)
 
--- a directed request over the ports of `path`, with the attribute `payload`
+-- a directed request along the ports of `path`, with the attribute `payload`
 abbrev pub directed : ℕ → ℕ → ℕ → ℕ → List ℕ → List ℕ → List ℕ
 directed method_number attribute modifier tid path payload =
     with_bytes (initial_path 1).at path (with_bytes attribute_data.at payload

@@ -1,4 +1,4 @@
-/// How a packet is routed: by LID through the switches' tables, or over the path of ports that it carries.
+/// How a packet is routed: by LID through the switches' tables, or along the path of ports that it carries.
 #[derive(Clone, Copy, Debug, PartialEq, Eq)]
 pub enum SmpClass {
     LidRouted,

@@ -4,8 +4,8 @@ use crate::port_num::PortNum;
 use arrayvec::ArrayVec;
 use std::marker::Model;
 
-/// The path of a directed packet: at most `MAX` ports by which the packet leaves, in order. Contracts see the list of
-/// ports.
+/// The path of a directed packet: at most `MAX` ports by which the packet leaves, in the order of its hops. Contracts
+/// see the list of ports.
 #[derive(Debug, Drop)]
 pub struct Path<const MAX: usize> {
     ports: ArrayVec<u8, MAX>,

@@ -113,8 +113,8 @@ impl Smp {
         bits_at(&self.bytes, field::METHOD, field::RESPONSE_BIT, 1) == 1
     }
 
-    /// Returns whether the D bit is set. A directed packet with this bit is on its way back. In a LID-routed packet
-    /// this bit is the highest of the status.
+    /// Returns whether the D bit is set. A directed packet with this bit set is on its way back. In a LID-routed packet
+    /// this is the highest bit of the status.
     pub fn is_returning(&self) -> bool
         ensures { IsTrue result ↔ IsTrue (is_returning self.now) }
     {

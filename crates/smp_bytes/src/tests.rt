@@ -16,7 +16,7 @@ const REPLY: [u8; 101] = [
     0, 0, 0, 0, 1,
 ];
 
-/// A directed Get(NodeInfo) over one hop, through port 1. All later bytes are 0.
+/// A directed Get(NodeInfo) of one hop, through port 1. All later bytes are 0.
 const REQUEST: [u8; 130] = [
     0x01, 0x81, 0x01, 0x01, 0x00, 0x00, 0x00, 0x01, 0, 0, 0, 1, 0, 0, 0, 1, // up to TransactionID
     0x00, 0x11, 0, 0, 0, 0, 0, 0, 0, 0, 0, 0, 0, 0, 0, 0, // up to M_Key
@@ -38,7 +38,7 @@ fn packet(begin: &[u8]) -> [u8; 256] {
     bytes
 }
 
-/// Asserts that the packet has the bytes `wanted` from `offset` on.
+/// Asserts that the packet has the bytes `wanted`, starting at `offset`.
 fn assert_at(rt: &impl Abort, smp: &Smp, offset: usize, wanted: &[u8]) {
     let is_there = match smp.bytes().get(offset..) {
         Some(rest) => rest.starts_with(wanted),
@@ -47,7 +47,7 @@ fn assert_at(rt: &impl Abort, smp: &Smp, offset: usize, wanted: &[u8]) {
     assert!(rt; is_there, "from {offset} on");
 }
 
-/// Returns the fields of a packet as numbers, in their order.
+/// Returns the fields of a packet as numbers, in the order in which the packet has them.
 fn numbers(smp: &Smp) -> [u64; 14] {
     [
         u64::from(smp.base_version()),

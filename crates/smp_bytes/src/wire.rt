@@ -13,7 +13,7 @@ pub fn u8_at(bytes: &[u8], at: usize) -> u8
     bytes[at]
 }
 
-/// Returns the number in the two bytes from `at` on.
+/// Returns the number in the two bytes that start at offset `at`.
 pub fn u16_at(bytes: &[u8], at: usize) -> u16
     requires { at + 2 ≤ length bytes.now }
     ensures { result ≡ number_in (record { at = at; len = 2 }) bytes.now }
@@ -21,7 +21,7 @@ pub fn u16_at(bytes: &[u8], at: usize) -> u16
     BigEndian::read_u16(&bytes[at..])
 }
 
-/// Returns the number in the three bytes from `at` on.
+/// Returns the number in the three bytes that start at offset `at`.
 pub fn u24_at(bytes: &[u8], at: usize) -> u32
     requires { at + 3 ≤ length bytes.now }
     ensures number { result ≡ number_in (record { at = at; len = 3 }) bytes.now }
@@ -30,7 +30,7 @@ pub fn u24_at(bytes: &[u8], at: usize) -> u32
     BigEndian::read_u24(&bytes[at..])
 }
 
-/// Returns the number in the four bytes from `at` on.
+/// Returns the number in the four bytes that start at offset `at`.
 pub fn u32_at(bytes: &[u8], at: usize) -> u32
     requires { at + 4 ≤ length bytes.now }
     ensures { result ≡ number_in (record { at = at; len = 4 }) bytes.now }
@@ -38,7 +38,7 @@ pub fn u32_at(bytes: &[u8], at: usize) -> u32
     BigEndian::read_u32(&bytes[at..])
 }
 
-/// Returns the number in the eight bytes from `at` on.
+/// Returns the number in the eight bytes that start at offset `at`.
 pub fn u64_at(bytes: &[u8], at: usize) -> u64
     requires { at + 8 ≤ length bytes.now }
     ensures { result ≡ number_in (record { at = at; len = 8 }) bytes.now }
@@ -46,7 +46,7 @@ pub fn u64_at(bytes: &[u8], at: usize) -> u64
     BigEndian::read_u64(&bytes[at..])
 }
 
-/// Writes `number` into the byte at `at`.
+/// Writes `number` into the byte at offset `at`.
 pub fn put_u8(bytes: &mut [u8], at: usize, number: u8)
     requires { at < length bytes.old }
     ensures { bytes.new ≡ with_number (record { at = at; len = 1 }) number bytes.old }
@@ -54,7 +54,7 @@ pub fn put_u8(bytes: &mut [u8], at: usize, number: u8)
     bytes[at] = number;
 }
 
-/// Writes `number` into the two bytes from `at` on.
+/// Writes `number` into the two bytes that start at offset `at`.
 pub fn put_u16(bytes: &mut [u8], at: usize, number: u16)
     requires { at + 2 ≤ length bytes.old }
     ensures { bytes.new ≡ with_number (record { at = at; len = 2 }) number bytes.old }
@@ -62,7 +62,7 @@ pub fn put_u16(bytes: &mut [u8], at: usize, number: u16)
     BigEndian::write_u16(&mut bytes[at..], number);
 }
 
-/// Writes `number`, which must be less than 2^24, into the three bytes from `at` on.
+/// Writes `number`, which must be less than 2^24, into the three bytes that start at offset `at`.
 pub fn put_u24(bytes: &mut [u8], at: usize, number: u32)
     requires offset { at + 3 ≤ length bytes.old }
     requires fits { number < 2 ^ 24 }
@@ -71,7 +71,7 @@ pub fn put_u24(bytes: &mut [u8], at: usize, number: u32)
     BigEndian::write_u24(&mut bytes[at..], number);
 }
 
-/// Writes `number` into the four bytes from `at` on.
+/// Writes `number` into the four bytes that start at offset `at`.
 pub fn put_u32(bytes: &mut [u8], at: usize, number: u32)
     requires { at + 4 ≤ length bytes.old }
     ensures { bytes.new ≡ with_number (record { at = at; len = 4 }) number bytes.old }
@@ -79,7 +79,7 @@ pub fn put_u32(bytes: &mut [u8], at: usize, number: u32)
     BigEndian::write_u32(&mut bytes[at..], number);
 }
 
-/// Writes `number` into the eight bytes from `at` on.
+/// Writes `number` into the eight bytes that start at offset `at`.
 pub fn put_u64(bytes: &mut [u8], at: usize, number: u64)
     requires { at + 8 ≤ length bytes.old }
     ensures { bytes.new ≡ with_number (record { at = at; len = 8 }) number bytes.old }
@@ -87,7 +87,7 @@ pub fn put_u64(bytes: &mut [u8], at: usize, number: u64)
     BigEndian::write_u64(&mut bytes[at..], number);
 }
 
-/// Overwrites the bytes from `at` on with `written`.
+/// Copies `written` into `bytes`, starting at `at`. `written` must end within `bytes`.
 pub fn put_bytes(bytes: &mut [u8], at: usize, written: &[u8])
     requires { at + length written.now ≤ length bytes.old }
     ensures { bytes.new ≡ with_bytes at written.now bytes.old }

@@ -12,7 +12,7 @@ use Rattle.port_graph.proofs.WalkLemmas.{least_found}
 use Rattle.spread_labels.specs.declared.distance_class.DistanceSum.{DistanceSum}
 use Rattle.spread_labels.specs.Orders.{numbers_from}
 use Rattle.spread_labels.proofs.Earlier.{numbers_more}
-use Rattle.spread_labels.specs.DistanceClasses.{quarters_of, no_distances, with_distance, with_distances, distance_sum, IsDistanceSumOf, AreWithDistances}
+use Rattle.spread_labels.specs.DistanceClass.{quarters_of, no_distances, with_distance, with_distances, distance_sum, IsDistanceSumOf, AreWithDistances}
 
 -- four times a mean is four times the whole and the rest
 pub quarters_in_parts : (sum count : ℕ) → (count ≡ 0 → ⊥) → 4 * (sum / count) + 4 * (sum % count) / count ≡ quarters_of sum count

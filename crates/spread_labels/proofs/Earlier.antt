@@ -4,7 +4,7 @@ use Rattle.std.proofs.lemmas.List.{map-append}
 use Rattle.std.specs.Prelude.{◌<◌, MatchOption, Option, None, Some, filter}
 use Rattle.spread_labels.specs.declared.growth.Stage.{Stage}
 use Rattle.spread_labels.specs.Orders.{earliest, numbers_from}
-use Rattle.spread_labels.specs.Stages.{earlier_of, earliest_at, earliest_of, is_stage, stage_at}
+use Rattle.spread_labels.specs.Growth.{earlier_of, earliest_at, earliest_of, is_stage, stage_at}
 
 pub numbers_more : (k n : ℕ) → numbers_from k (suc n) ≡ numbers_from k n ++ (k + n) ∷ []
 numbers_more k zero = let is : k ≡ k + 0 = omega arith in ap (λ x. x ∷ []) is

@@ -13,13 +13,13 @@ use Rattle.port_graph.proofs.DistanceLaws.{shortest_found}
 use Rattle.port_graph.proofs.Lists.{contains_map}
 use Rattle.port_graph.proofs.Paths.{walk_append, walk_reverse}
 use Rattle.port_graph.proofs.WalkLemmas.{least_found, least_is, shortest_is, test_from_walk, walk_from_test}
-use Rattle.spread_labels.specs.declared.vertex_key.VertexKey.{VertexKey}
-use Rattle.spread_labels.specs.DistanceClasses.{distance}
+use Rattle.spread_labels.specs.declared.key_order.VertexKey.{VertexKey}
+use Rattle.spread_labels.specs.DistanceClass.{distance}
 use Rattle.spread_labels.specs.GrowthKeys.{AreFar, distances_from, first_among, first_at, from_first}
 use Rattle.spread_labels.specs.KeyOrder.{before_by}
 use Rattle.spread_labels.specs.LabelLaws.{IsSymmetric}
 use Rattle.spread_labels.specs.Orders.{earliest, numbers_from}
-use Rattle.spread_labels.specs.Stages.{earliest_of}
+use Rattle.spread_labels.specs.Growth.{earliest_of}
 use Rattle.spread_labels.proofs.Growing.{earliest_there, numbers_below, numbers_there}
 use Rattle.spread_labels.proofs.Nearer.{alike}
 use Rattle.spread_labels.proofs.Numbers.{made_at}

@@ -2,7 +2,7 @@
 use Rattle.std.proofs.Common.{◌<◌, ◌≤◌, ◌+◌, ℕ, zero, suc, List, All, arith, get_or, length}
 use Rattle.std.proofs.lemmas.List.Elements.{All-cons, All-filter, All-nil}
 use Rattle.std.specs.Prelude.{nat_lt}
-use Rattle.spread_labels.specs.LeafVertices.{leaf_vertices}
+use Rattle.spread_labels.specs.Leaves.{leaf_vertices}
 use Rattle.spread_labels.specs.Orders.{numbers_from}
 
 pub all_below : (n k m : ℕ) → k + m ≤ n → All (λ v. v < n) (numbers_from k m)

@@ -6,9 +6,9 @@ use Rattle.port_graph.specs.declared.edge.Edge.{Edge}
 use Rattle.port_graph.specs.Heads.{AreDistances}
 use Rattle.port_graph.proofs.Counts.{length_map}
 use Rattle.spread_labels.specs.declared.distance_class.DistanceSum.{DistanceSum}
-use Rattle.spread_labels.specs.DistanceClasses.{AreDistanceSums, distance_class_at, distance_class_by, distance_class_of, distance_classes_of, distance, no_distances}
+use Rattle.spread_labels.specs.DistanceClass.{AreDistanceSums, distance_class_at, distance_class_by, distance_class_of, distance_classes_of, distance, no_distances}
 use Rattle.spread_labels.specs.GrowthKeys.{distances_from}
-use Rattle.spread_labels.specs.Levels.{level_of, levels_of}
+use Rattle.spread_labels.specs.Level.{level_of, levels_of}
 use Rattle.spread_labels.specs.Orders.{numbers_from}
 
 pub numbers_long : {X : Type 0} (f : ℕ → X) (k n : ℕ) → length (map f (numbers_from k n)) ≡ n

@@ -15,7 +15,7 @@ use Rattle.spread_labels.specs.declared.growth.Stage.{Stage}
 use Rattle.spread_labels.specs.declared.growth.Stage.TheVariants.{Left, Beside, Placed}
 use Rattle.spread_labels.specs.LabelLaws.{IsSymmetric}
 use Rattle.spread_labels.specs.Orders.{choose, grown_behind, is_beside, next_placed, numbers_from, order, without}
-use Rattle.spread_labels.specs.Stages.{beside, beside_all, earliest_of, first_of, is_stage, next_at, after_add_vertex, stage_at}
+use Rattle.spread_labels.specs.Growth.{beside, beside_all, earliest_of, first_of, is_stage, next_at, after_add_vertex, stage_at}
 use Rattle.spread_labels.proofs.Growing.{numbers_below}
 use Rattle.spread_labels.proofs.Tests.{same_filter}
 

@@ -6,9 +6,9 @@ use Rattle.std.specs.Prelude.{slice_index_or, slice_set}
 use Rattle.port_graph.specs.declared.edge.Edge.{Edge}
 use Rattle.spread_labels.proofs.Tests.{other_test}
 use Rattle.spread_labels.specs.declared.target_set.TargetSet.{TargetSet}
-use Rattle.spread_labels.specs.TargetSets.{has}
+use Rattle.spread_labels.specs.TargetSet.{has}
 use Rattle.spread_labels.specs.MarkSets.{edge_at, picked, set_at}
-use Rattle.spread_labels.specs.PortLists.{added}
+use Rattle.spread_labels.specs.CandidateLists.{added}
 
 abbrev pub list_items : Vec ℕ Global → List ℕ
 list_items list = list.items

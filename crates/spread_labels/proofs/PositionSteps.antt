@@ -4,7 +4,7 @@ use Rattle.std.specs.Prelude.{Contains}
 use Rattle.smp_bytes.proofs.Members.{contains_here, contains_later}
 use Rattle.port_graph.specs.declared.edge.Edge.{Edge}
 use Rattle.spread_labels.specs.Orders.{position_of, positioned_edge}
-use Rattle.spread_labels.specs.Positions.{StandOnce, ArePositions, to_position}
+use Rattle.spread_labels.specs.VertexPositions.{StandOnce, ArePositions, to_position}
 use Rattle.spread_labels.proofs.ByPositions.{position_less}
 
 -- what was written for each position is the position of each vertex there

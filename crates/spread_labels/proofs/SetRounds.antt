@@ -14,7 +14,7 @@ use Rattle.spread_labels.specs.declared.target_set.TargetSet.{TargetSet}
 use Rattle.spread_labels.specs.Labels.{Marks, candidates, candidates_by, gives, gives_from, givers, givers_before, is_down, leads_up, mark_by, mark_or, marks, marks_after}
 use Rattle.spread_labels.proofs.Tests.{same_filter}
 use Rattle.spread_labels.proofs.TargetBits.{none_has}
-use Rattle.spread_labels.specs.TargetSets.{has, no_targets}
+use Rattle.spread_labels.specs.TargetSet.{has, no_targets}
 use Rattle.spread_labels.specs.MarkSets.{AreAtTargets, AreCandidateSets, AreRowsOf, AreSame, AreSetSteps, AreSetsAfter, AreSetsTowards, IsSetStep, down_of, edge_at, gave, gave_before, gave_by, giver_set, is_new, no_sets, picked, set_at, sets_at}
 
 -- an element more at the end of a list

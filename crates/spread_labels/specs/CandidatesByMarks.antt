@@ -14,8 +14,8 @@ abbrev pub is_nearer_by : ℕ → Edge → Option Mark → Option Mark → Bool
 is_nearer_by s e (Some m) (Some to) = (suc to.cost == m.cost) && (nat_lt e.to s || is_down to.label)
 is_nearer_by s e _ _ = false
 
--- whether, by `marks`, edge `e` of vertex `s` leads to a vertex whose cost is one less, and either leads up or leads to
--- a vertex labeled Down; false if either of the two vertices has no mark
+-- whether, according to `marks`, edge `e` of vertex `s` leads to a vertex whose cost is one less, and either leads up
+-- or leads to a vertex labeled Down; false if either of the two vertices has no mark
 abbrev pub is_nearer : ℕ → List (Option Mark) → Edge → Bool
 is_nearer s marks e = is_nearer_by s e (slice_index_or marks s None) (slice_index_or marks e.to None)
 

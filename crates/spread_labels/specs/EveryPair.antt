@@ -10,8 +10,8 @@ use Rattle.spread_labels.specs.LabelLaws.{IsSymmetric}
 use Rattle.spread_labels.specs.Ways.{Way, PicksCandidates}
 use Rattle.spread_labels.specs.Orders.{order, position_of, by_position}
 
--- vertex `s` has a label towards vertex `t`, at a cost less than the number of vertices. A way by the picked edges
--- leads from `s` to `t`, over as many edges as the cost
+-- vertex `s` has a label towards vertex `t`, at a cost less than the number of vertices. A way along the picked edges
+-- leads from `s` to `t`, and has as many edges as the cost
 pub record HasWay (edges : List (List Edge)) (pick : ℕ → Edge) (t s : ℕ) : Type 0 where
   pub mark : Mark
   pub labelled : marks edges t s ≡ Some mark
@@ -22,8 +22,8 @@ pub record HasWay (edges : List (List Edge)) (pick : ℕ → Edge) (t s : ℕ) :
 abbrev pub grown : List (List Edge) → (ℕ → ℕ → Bool) → List (List Edge)
 grown edges before = by_position edges (order edges before)
 
--- if edges go both ways and `pick` gives candidates, whichever these are, then in the grown order a way to a LID's home
--- (`HasWay`) leads from each vertex from which a walk leads to the home
+-- if the edges of a graph lead to vertices and go both ways, and `pick` gives candidates, then in the grown order a
+-- way to a LID's home (`HasWay`) leads from each vertex from which a walk leads to the home
 abbrev pub EveryPairLaw : Type 0
 EveryPairLaw = (edges : List (List Edge)) (before : ℕ → ℕ → Bool) → LeadToVertices edges → IsSymmetric edges
     → (home : ℕ → ℕ) (pick : ℕ → ℕ → Edge) → PicksCandidates (grown edges before) home pick

@@ -3,11 +3,11 @@
 use Rattle.std.specs.Prelude.{◌≡◌, ◌<◌, ℕ, true, List, map, filter, EachIndex, length, Option, is_some, option_and_then, unwrap_or, slice_index, slice_index_or, None, Some}
 use Rattle.std.specs.Option.{option_or}
 use Rattle.port_graph.specs.declared.edge.Edge.{Edge}
-use Rattle.spread_labels.specs.declared.vertex_key.VertexKey.{VertexKey}
-use Rattle.spread_labels.specs.DistanceClasses.{distance}
+use Rattle.spread_labels.specs.declared.key_order.VertexKey.{VertexKey}
+use Rattle.spread_labels.specs.DistanceClass.{distance}
 use Rattle.spread_labels.specs.KeyOrder.{before_by}
 use Rattle.spread_labels.specs.Orders.{numbers_from}
-use Rattle.spread_labels.specs.Stages.{earliest_of}
+use Rattle.spread_labels.specs.Growth.{earliest_of}
 
 -- the distance from vertex `s` to each vertex; None for a vertex to which no walk leads
 abbrev pub distances_from : List (List Edge) → ℕ → List (Option ℕ)

@@ -1,6 +1,6 @@
 -- The keys that order vertices: distance class first, then distance.
 use Rattle.std.specs.Prelude.{ℕ, Bool, not, ◌&&◌, ◌||◌, ◌==◌, nat_lt, List, slice_index_or}
-use Rattle.spread_labels.specs.declared.vertex_key.VertexKey.{VertexKey}
+use Rattle.spread_labels.specs.declared.key_order.VertexKey.{VertexKey}
 use Rattle.spread_labels.specs.Orders.{AreKeys}
 
 -- whether key `k` is earlier than key `l`: its distance class is less, or equal and its distance is less

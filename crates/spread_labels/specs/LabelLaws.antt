@@ -16,8 +16,8 @@ pub record Gives (edges : List (List Edge)) (marks : Marks) (s : ℕ) (e : Edge)
   pub labelled : marks e.to ≡ Some (record { cost = cost; label = label })
   pub up_or_down : (e.to < s) ⊎ (label ≡ Down)
 
--- an edge from a vertex of cost `round` gives vertex `s` a label, and no edge from a vertex of lesser cost does.
--- `label` is Up if one of the edges from cost `round` that give a label leads up, and otherwise Down
+-- an edge of vertex `s` to a vertex of cost `round` gives `s` a label, and no edge of `s` to a vertex of lesser cost
+-- does. `label` is Up if one of the edges to vertices of cost `round` that give a label leads up, and otherwise Down
 pub record IsGiven (edges : List (List Edge)) (marks : Marks) (s round : ℕ) (label : Label) : Type 0 where
   pub edge : Edge
   pub given : Gives edges marks s edge round
@@ -26,8 +26,8 @@ pub record IsGiven (edges : List (List Edge)) (marks : Marks) (s round : ℕ) (l
   pub when_down : label ≡ Down → (e : Edge) → Gives edges marks s e round → s ≤ e.to
 
 -- `marks` are labels and costs towards vertex `t`. `t` is Down at cost 0. Each other vertex with a mark has the label
--- that its edges give it. Its cost is one more than the least cost of a vertex over whose edge it gets a label. No edge
--- gives a label to a vertex that has no mark
+-- that its edges give it (`IsGiven`). Its cost is one more than the least cost among the vertices that the edges
+-- giving it a label lead to. No edge gives a label to a vertex that has no mark
 pub record AreMarks (edges : List (List Edge)) (t : ℕ) (marks : Marks) : Type 0 where
   pub target : marks t ≡ Some (record { cost = 0; label = Down })
   pub other : (s : ℕ) (m : Mark) → s ≢ t → marks s ≡ Some m → (round : ℕ) × (m.cost ≡ suc round)
@@ -66,8 +66,8 @@ pub record AreReached (edges : List (List Edge)) (t : ℕ) : Type 0 where
   pub no_other : (s : ℕ) (m : Mark) → marks edges t s ≡ Some m → Walk (heads edges) s t m.cost
   pub bounded : (s : ℕ) (m : Mark) → marks edges t s ≡ Some m → m.cost < length edges
 
--- in a graph that is numbered in a grown order, exactly the vertices of the target's component have labels
--- (`AreReached`)
+-- if a graph is numbered in a grown order, exactly the vertices from which a walk leads to `t` have labels towards
+-- `t`, and the costs are the lengths of walks (`AreReached`)
 abbrev pub ReachedLaw : Type 0
 ReachedLaw = (edges : List (List Edge)) (t : ℕ) → IsGrownGraph edges → t < length edges → AreReached edges t
 

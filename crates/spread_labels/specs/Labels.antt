@@ -25,11 +25,11 @@ abbrev pub gives_from : ℕ → Edge → Option Mark → Bool
 gives_from s e None = false
 gives_from s e (Some m) = nat_lt e.to s || is_down m.label
 
--- whether edge `e` gives vertex `s` a label, by `marks`
+-- whether edge `e` gives vertex `s` a label, according to `marks`
 abbrev pub gives : Marks → ℕ → Edge → Bool
 gives marks s e = gives_from s e (marks e.to)
 
--- the edges of vertex `s` that give `s` a label, by `marks`
+-- the edges of vertex `s` that give `s` a label, according to `marks`
 abbrev pub givers : List (List Edge) → Marks → ℕ → List Edge
 givers edges marks s = filter (gives marks s) (edges_at edges s)
 
@@ -49,8 +49,8 @@ mark_or None other = other
 mark_or (Some m) other = Some m
 
 -- the mark of vertex `s` towards vertex `t` after the given number of rounds. At first only `t` has a mark, Down at
--- cost 0. In each round, a vertex that has no mark gets one if an edge gives it a label, by the marks of the round
--- before
+-- cost 0. In each round, a vertex that has no mark gets one if an edge gives it a label, according to the marks of
+-- the round before
 abbrev pub marks_after : List (List Edge) → ℕ → ℕ → ℕ → Option Mark
 marks_after edges t zero s = if s == t then Some (record { cost = 0; label = Down }) else None
 marks_after edges t (suc round) s =
@@ -60,7 +60,8 @@ marks_after edges t (suc round) s =
 abbrev pub marks : List (List Edge) → ℕ → ℕ → Option Mark
 marks edges t s = marks_after edges t (length edges) s
 
--- the edges that give vertex `s` a label in the given round, by the marks of the round before; none in round 0
+-- the edges that give vertex `s` a label in the given round, according to the marks of the round before; none in
+-- round 0
 abbrev pub givers_before : List (List Edge) → ℕ → ℕ → ℕ → List Edge
 givers_before edges t s zero = []
 givers_before edges t s (suc round) = givers edges (marks_after edges t round) s

@@ -8,7 +8,7 @@ use Rattle.port_graph.specs.Heads.{edges_at}
 use Rattle.spread_labels.specs.declared.label.Mark.{Mark}
 use Rattle.spread_labels.specs.declared.target_set.TargetSet.{TargetSet}
 use Rattle.spread_labels.specs.Labels.{candidates, gives, is_down, marks_after}
-use Rattle.spread_labels.specs.TargetSets.{EachTarget, has, no_targets}
+use Rattle.spread_labels.specs.TargetSet.{EachTarget, has, no_targets}
 
 -- the set of a vertex or an edge, at index `i`; the empty set if `i` is past the end
 abbrev pub set_at : List TargetSet → ℕ → TargetSet
@@ -63,7 +63,8 @@ pub record AreSetSteps (edges : List (List Edge)) (marked downs : List TargetSet
   pub steps : (s : ℕ) → s < count → IsSetStep s (edges_at edges s) marked downs (sets_at rows s) (set_at next_marked s)
       (set_at next_downs s) (sets_at next_rows s)
 
--- whether edge `e` gives vertex `s` a label in the given round, by the marks of the round before; false in round 0
+-- whether edge `e` gives vertex `s` a label in the given round, according to the marks of the round before; false in
+-- round 0
 abbrev pub gave_before : List (List Edge) → ℕ → ℕ → Edge → ℕ → Bool
 gave_before edges t s e zero = false
 gave_before edges t s e (suc round) = gives (marks_after edges t round) s e
@@ -82,8 +83,8 @@ abbrev pub down_of : Option Mark → Bool
 down_of None = false
 down_of (Some m) = is_down m.label
 
--- after `round` rounds, target `k` is in the sets of the vertices that have a mark towards vertex `t`, of those that
--- are Down, and of the edges that gave a mark
+-- after `round` rounds, target `k` is in `marked` for exactly the vertices that have a mark towards vertex `t`, in
+-- `downs` for exactly those whose mark is Down, and in `rows` for exactly the edges that gave a mark
 pub record AreSetsTowards (edges : List (List Edge)) (t k round : ℕ) (marked downs : List TargetSet)
     (rows : List (List TargetSet)) : Type 0 where
   pub is_marked : (s : ℕ) → s < length edges → has (set_at marked s) k ≡ is_some (marks_after edges t round s)

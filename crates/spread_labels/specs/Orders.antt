@@ -8,7 +8,7 @@ use Rattle.port_graph.specs.Walks.{Walk}
 use Rattle.port_graph.specs.Heads.{edges_at, heads, LeadToVertices}
 use Rattle.spread_labels.specs.LabelLaws.{IsSymmetric, IsGrownGraph}
 
--- the `n` numbers from `k` on
+-- the `n` numbers that start at `k`
 abbrev pub numbers_from : ℕ → ℕ → List ℕ
 numbers_from k zero = []
 numbers_from k (suc n) = k ∷ numbers_from (suc k) n
@@ -83,12 +83,13 @@ positioned_edge vertices e = record { port = e.port; to = position_of vertices e
 abbrev pub by_position : List (List Edge) → List ℕ → List (List Edge)
 by_position edges vertices = map (λ s. map (positioned_edge vertices) (edges_at edges s)) vertices
 
--- the order that grows by `before` is a grown order, and the graph numbered by it is a grown graph
+-- the order that grows by `before` is a grown order, and the graph numbered by this order is a grown graph
 pub record Grows (edges : List (List Edge)) (before : ℕ → ℕ → Bool) : Type 0 where
   pub is_grown : IsGrownOrder edges (order edges before)
   pub graph : IsGrownGraph (by_position edges (order edges before))
 
--- if the edges of a graph go both ways, the order that grows by any test is a grown order (`Grows`)
+-- if the edges of a graph lead to vertices and go both ways, then for any test, the order that grows by it is a grown
+-- order, and the graph numbered by that order is a grown graph (`Grows`)
 abbrev pub OrderLaw : Type 0
 OrderLaw = (edges : List (List Edge)) (before : ℕ → ℕ → Bool) → LeadToVertices edges → IsSymmetric edges
     → Grows edges before
@@ -112,7 +113,8 @@ AreEarlier edges before placed [] = Unit {0}
 AreEarlier edges before placed (s ∷ ss) =
     ((y : ℕ) → Contains ss y → IsEarlier edges before placed s y) × AreEarlier edges before (s ∷ placed) ss
 
--- in the order that grows by keys, each vertex may be placed before each later vertex (`AreEarlier`)
+-- if the edges of a graph lead to vertices and `before` is a strict total order, then in the order that grows by
+-- `before`, each vertex may be placed before each later vertex (`AreEarlier`)
 abbrev pub KeysLaw : Type 0
 KeysLaw = (edges : List (List Edge)) (before : ℕ → ℕ → Bool) → LeadToVertices edges → AreKeys before
     → AreEarlier edges before [] (order edges before)

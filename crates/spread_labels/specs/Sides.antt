@@ -7,7 +7,7 @@ use Rattle.port_graph.specs.Routes.{Climbs, Descends}
 use Rattle.spread_labels.specs.LabelLaws.{IsSymmetric}
 use Rattle.spread_labels.specs.Ways.{Climbs as ClimbsBy, Descends as DescendsBy}
 
--- for each of some vertices, numbered from `k` on, its edges that pass `test`
+-- for each of some vertices, whose numbers start at `k`, its edges that pass `test`
 abbrev pub rows_from : (ℕ → Edge → Bool) → ℕ → List (List Edge) → List (List Edge)
 rows_from test k [] = []
 rows_from test k (es ∷ rows) = filter (test k) es ∷ rows_from test (suc k) rows

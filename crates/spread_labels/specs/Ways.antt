@@ -1,4 +1,4 @@
--- Ways by candidates, and the numbers of the channels that they take.
+-- Ways along candidates, and the numbers of the channels that they take.
 use Rattle.std.specs.Prelude.{◌≡◌, ◌≢◌, ◌<◌, ℕ, zero, suc, ◌+◌, ◌-◌, ◌==◌, nat_lt}
 use Rattle.std.specs.Prelude.{List, [], ◌∷◌, ◌++◌, length, Contains, Option, Some, option_map, if◌then◌else◌}
 use Rattle.std.specs.List.{IsDistinct}
@@ -33,12 +33,12 @@ CostsFall edges t n [] = Unit {0}
 CostsFall edges t zero (e ∷ es) = ⊥
 CostsFall edges t (suc n) (e ∷ es) = (cost edges t e.to ≡ Some n) × CostsFall edges t n es
 
--- the vertices along the edges from vertex `s` on, including the first and the last
+-- the vertices along the edges, starting at vertex `s` and including the last
 abbrev pub vertices_along : ℕ → List Edge → List ℕ
 vertices_along s [] = s ∷ []
 vertices_along s (e ∷ es) = s ∷ vertices_along e.to es
 
--- a way from vertex `s` to vertex `t` by the picked edges. It goes up and then down, and has `n` edges, each to a
+-- a way from vertex `s` to vertex `t` along the picked edges. It goes up and then down, and has `n` edges, each to a
 -- vertex whose cost is one less. It passes no vertex twice
 pub record Way (edges : List (List Edge)) (pick : ℕ → Edge) (t s n : ℕ) : Type 0 where
   pub ups : List Edge
@@ -56,8 +56,8 @@ abbrev pub PicksCandidates : List (List Edge) → (ℕ → ℕ) → (ℕ → ℕ
 PicksCandidates edges home pick = (lid s : ℕ) (m : Mark) → marks edges (home lid) s ≡ Some m → s ≢ home lid
     → Contains (candidates edges (home lid) s) (pick lid s)
 
--- whichever candidates are picked, a way by the picked edges leads from each vertex with a label to the LID's home,
--- over as many edges as the vertex's cost
+-- whichever candidates are picked for each LID, a way along the picked edges leads to the LID's home from each vertex
+-- that has a label towards the home. The way has as many edges as the vertex's cost
 abbrev pub WaysLaw : Type 0
 WaysLaw = (edges : List (List Edge)) (home : ℕ → ℕ) (pick : ℕ → ℕ → Edge) → PicksCandidates edges home pick
     → (lid s : ℕ) (m : Mark) → marks edges (home lid) s ≡ Some m → Way edges (pick lid) (home lid) s m.cost
@@ -67,7 +67,7 @@ WaysLaw = (edges : List (List Edge)) (home : ℕ → ℕ) (pick : ℕ → ℕ �
 abbrev pub channel_number : ℕ → ℕ → ℕ → ℕ
 channel_number n a b = if nat_lt b a then n - b else n + b
 
--- the numbers of the channels that the edges take from vertex `s` on, if there are `n` vertices
+-- the numbers of the channels that the edges take, starting at vertex `s`, if there are `n` vertices
 abbrev pub channels_along : ℕ → ℕ → List Edge → List ℕ
 channels_along n s [] = []
 channels_along n s (e ∷ es) = channel_number n s e.to ∷ channels_along n e.to es
@@ -90,7 +90,8 @@ pub record MayWait (edges : List (List Edge)) (held next : Channel) : Type 0 whe
   pub there : held.1.to ≡ next.0
   pub wants : Contains (candidates edges target next.0) next.1
 
--- over a number of steps, each channel, from `a` on, may wait for the next, and the last channel is `b`
+-- in the given number of steps, a sequence of channels leads from `a` to `b`. Each channel before the last may wait
+-- for the next
 abbrev pub MayWaitInTurn : List (List Edge) → ℕ → Channel → Channel → Type 0
 MayWaitInTurn edges zero a b = a ≡ b
 MayWaitInTurn edges (suc n) a b = (c : Channel) × MayWait edges a c × MayWaitInTurn edges n c b

@@ -1,8 +1,8 @@
 //! Lists of the ports of candidates, by target.
 ghost use Rattle.std.specs.Prelude.{◌≡◌, ◌<◌, ◌++◌, [], length, map, IfOk, OnOk, slice_index_or};
-ghost use Rattle.spread_labels.specs.TargetSets.{EachTarget};
+ghost use Rattle.spread_labels.specs.TargetSet.{EachTarget};
 ghost use Rattle.spread_labels.specs.MarkSets.{picked};
-ghost use Rattle.spread_labels.specs.PortLists.{added};
+ghost use Rattle.spread_labels.specs.CandidateLists.{added};
 
 use crate::target_set::{TARGETS, TargetSet};
 use port_graph::Edge;
@@ -39,8 +39,8 @@ impl CandidateLists {
     }
 
     /// Finds for each target the ports of the edges whose set in `sets` has the target, in the order of the edges.
-    /// There must be a set for each edge. Replaces the ports that were found before. Takes time linear in the number of
-    /// edges and of ports found.
+    /// There must be a set for each edge. Replaces the ports that were found before. Takes time linear in the number
+    /// of edges and of ports found. Returns an error if memory runs out.
     pub fn find(&mut self, edges: &[Edge], sets: &[TargetSet]) -> Result<(), AllocError>
         requires { length sets.now ≡ length edges.now }
         ensures { OnOk result (EachTarget (λ k. slice_index_or self.new k []

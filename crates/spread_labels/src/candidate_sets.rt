@@ -26,9 +26,9 @@ impl Model for CandidateSets {
 
 impl CandidateSets {
     /// Finds, for each edge, the indices in `targets` of the targets towards which the edge is a candidate. `targets`
-    /// must have at most 64 vertices. Each round takes time linear in the number of vertices and edges, for all targets
-    /// together. There is one more round than the greatest cost. Each of `targets` must be a vertex. Returns an error
-    /// if memory runs out.
+    /// must have at most 64 vertices. Each round takes time linear in the number of vertices and edges, for all
+    /// targets together. There is one more round than the greatest cost. All edges must lead to vertices, and each of
+    /// `targets` must be a vertex. Returns an error if memory runs out.
     pub fn towards(alloc: Global, edges: &Adjacency, targets: &[usize]) -> Result<Self, AllocError>
         requires lead { LeadToVertices edges.now }
         requires few { length targets.now ≤ 64 }
@@ -49,7 +49,7 @@ impl CandidateSets {
 }
 
 /// Returns, for each edge of each vertex, the indices in `targets` of the targets towards which the edge is a
-/// candidate. `targets` must have at most 64 elements, each a vertex.
+/// candidate. `targets` must have at most 64 elements, each a vertex, and all edges must lead to vertices.
 fn rows_towards(
     alloc: Global,
     edges: &Adjacency,

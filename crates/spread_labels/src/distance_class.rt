@@ -1,11 +1,11 @@
 //! The distances of vertices from others, and their distance classes.
 ghost use Rattle.std.specs.Prelude.{◌≡◌, ◌<◌, ◌≤◌, ◌*◌, ◌^◌, length, map, All, IfOk};
 ghost use Rattle.port_graph.specs.Heads.{LeadToVertices};
-ghost use Rattle.spread_labels.specs.DistanceClasses.{AreDistanceSums, AreWithDistances, HasRoom};
-ghost use Rattle.spread_labels.specs.DistanceClasses.{IsDistanceSum, IsDistanceSumOf, distance_classes_of};
-ghost use Rattle.spread_labels.specs.DistanceClasses.{distance_class_at, distance_class_by, quarters_of};
-ghost use Rattle.spread_labels.specs.DistanceClasses.{with_distance};
-ghost use Rattle.spread_labels.specs.Levels.{levels_of};
+ghost use Rattle.spread_labels.specs.DistanceClass.{AreDistanceSums, AreWithDistances, HasRoom};
+ghost use Rattle.spread_labels.specs.DistanceClass.{IsDistanceSum, IsDistanceSumOf, distance_classes_of};
+ghost use Rattle.spread_labels.specs.DistanceClass.{distance_class_at, distance_class_by, quarters_of};
+ghost use Rattle.spread_labels.specs.DistanceClass.{with_distance};
+ghost use Rattle.spread_labels.specs.Level.{levels_of};
 ghost use Rattle.spread_labels.specs.Orders.{numbers_from};
 
 use crate::level::near_or_0;
@@ -35,8 +35,8 @@ pub struct Grades {
 }
 
 /// Returns the distance classes and levels of all vertices, given the leaf vertices `leaves` and the roots `roots`.
-/// Does a breadth-first search from each leaf vertex and each root. Each of `leaves` and `roots` must be a vertex.
-/// Returns an error if memory runs out.
+/// Does a breadth-first search from each leaf vertex and each root. Each of `leaves` and `roots` must be a vertex,
+/// and all edges must lead to vertices. Returns an error if memory runs out.
 pub fn grade(
     alloc: Global,
     edges: &Adjacency,
@@ -79,8 +79,8 @@ fn distance_classes(
     Ok(distance_classes)
 }
 
-/// Returns the distance class of a vertex. `roots` summarizes its distances from the roots, and `leaves` summarizes its
-/// distances from the leaf vertices.
+/// Returns the distance class of a vertex. `roots` summarizes its distances from the roots, and `leaves` summarizes
+/// its distances from the leaf vertices. The sum in `leaves` must be at most 2^64 times the count.
 fn distance_class(roots: DistanceSum, leaves: DistanceSum) -> u128
     requires { IsDistanceSum leaves }
     ensures { result ≡ distance_class_by roots leaves }
@@ -104,7 +104,8 @@ fn quarters(sum: u128, count: usize) -> u128
     4 * (sum / count) + 4 * (sum % count) / count
 }
 
-/// Returns, for each vertex, the summary of its distances from the vertices `some`. Each of `some` must be a vertex.
+/// Returns, for each vertex, the summary of its distances from the vertices `some`. Each of `some` must be a vertex,
+/// and all edges must lead to vertices.
 pub(crate) fn distance_sums(
     alloc: Global,
     edges: &Adjacency,

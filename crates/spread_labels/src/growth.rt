@@ -4,9 +4,9 @@ ghost use Rattle.port_graph.specs.Heads.{LeadToVertices};
 ghost use Rattle.spread_labels.specs.LabelLaws.{IsSymmetric};
 ghost use Rattle.spread_labels.specs.Orders.{order};
 ghost use Rattle.spread_labels.specs.KeyOrder.{before_by};
-ghost use Rattle.spread_labels.specs.Stages.{earlier_of, earliest_at, is_stage, next_at, after_add_vertex};
+ghost use Rattle.spread_labels.specs.Growth.{earlier_of, earliest_at, is_stage, next_at, after_add_vertex};
 
-use crate::vertex_key::VertexKey;
+use crate::key_order::{VertexKey, is_before};
 use port_graph::{Adjacency, Edge};
 use std::alloc::{AllocError, Global};
 
@@ -23,9 +23,9 @@ pub(crate) enum Stage {
 
 /// Returns the vertices in their grown order. The next vertex is the one with the earliest key among the unplaced
 /// vertices that have an edge to a placed vertex. If no unplaced vertex has such an edge, it is the one with the
-/// earliest key among all unplaced vertices. If keys are equal, the lesser vertex comes first. There must be a key for
-/// each vertex. For each edge there must be an edge back. Takes time quadratic in the number of vertices, and linear in
-/// the number of edges.
+/// earliest key among all unplaced vertices. If keys are equal, the lesser vertex comes first. There must be a key
+/// for each vertex. For each edge there must be an edge back. Takes time quadratic in the number of vertices, and
+/// linear in the number of edges. Returns an error if memory runs out.
 pub fn grown_order(
     alloc: Global,
     edges: &Adjacency,
@@ -47,8 +47,8 @@ pub fn grown_order(
     Ok(vertices)
 }
 
-/// Returns the vertex that is placed next, or `None` if all vertices are placed. `stages` must have the stage of each
-/// vertex.
+/// Returns the next vertex of the order: the earliest of those beside a placed vertex or, if there is none, of all
+/// those left. Returns `None` if all vertices are placed. `stages` must have the stage of each vertex.
 fn next_vertex(keys: &[VertexKey], stages: &[Stage]) -> Option<usize>
     requires { length stages.now ≡ length keys.now }
     ensures next { result ≡ next_at (before_by keys.now) stages.now (length keys.now) }
@@ -61,7 +61,7 @@ fn next_vertex(keys: &[VertexKey], stages: &[Stage]) -> Option<usize>
 }
 
 /// Returns the vertex with the earliest key among the vertices at `stage`, or `None` if no vertex is at `stage`. If
-/// keys are equal, the lesser vertex comes first.
+/// keys are equal, the lesser vertex comes first. `stages` must have the stage of each vertex.
 fn earliest(keys: &[VertexKey], stages: &[Stage], stage: Stage) -> Option<usize>
     requires { length stages.now ≡ length keys.now }
     ensures earliest { result ≡ earliest_at (before_by keys.now) stages.now stage (length keys.now) }
@@ -83,7 +83,8 @@ fn is_at(one: Stage, stage: Stage) -> bool
     one == stage
 }
 
-/// Returns the earlier of `vertex` and `found` by `is_before`, or `vertex` if `found` is `None`.
+/// Returns the earlier of `vertex` and `found` by `is_before`, or `vertex` if `found` is `None`. `keys` must have a
+/// key for each of the two.
 pub(crate) fn earlier(keys: &[VertexKey], found: Option<usize>, vertex: usize) -> usize
     requires vertex { vertex < length keys.now }
     requires found { MatchOption found (Unit {0}) (λ other. other < length keys.now) }
@@ -93,17 +94,6 @@ pub(crate) fn earlier(keys: &[VertexKey], found: Option<usize>, vertex: usize) -
         Some(other) if !is_before(keys, vertex, other) => other,
         _ => vertex,
     }
-}
-
-/// Returns whether `one` comes before `other`: it has an earlier key, or an equal key and a lesser number. `keys` must
-/// have a key for each of the two.
-pub fn is_before(keys: &[VertexKey], one: usize, other: usize) -> bool
-    requires one { one < length keys.now }
-    requires other { other < length keys.now }
-    ensures { result ≡ before_by keys.now one other }
-{
-    let (one_key, other_key) = (keys[one], keys[other]);
-    one_key.is_less(&other_key) || (!other_key.is_less(&one_key) && one < other)
 }
 
 /// Sets the stage of `vertex` to `Placed`. Then each vertex that `edges` lead to and whose stage is `Left` gets the

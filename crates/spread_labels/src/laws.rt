@@ -1,4 +1,4 @@
-//! The laws of labels and of ways by candidates.
+//! The laws of labels and of ways along candidates.
 ghost use Rattle.spread_labels.specs.LabelLaws.{LabelledLaw, UniqueLaw, ReachedLaw, CandidatesLaw};
 ghost use Rattle.spread_labels.specs.CandidatesByMarks.{CandidatesAreNearer};
 ghost use Rattle.spread_labels.specs.KeyOrder.{KeysTellApart};
@@ -46,7 +46,7 @@ pub fn channels_law()
     ensures { ChannelsLaw }
 {}
 
-/// Packets to all targets together, by whichever candidates, never wait for each other in a credit loop.
+/// Packets to all targets together, whichever candidates they take, never wait for each other in a credit loop.
 pub fn no_cycle_law()
     ensures { NoCycleLaw }
 {}

@@ -1,7 +1,7 @@
 //! The levels of vertices, and the digit weights of levels.
 ghost use Rattle.std.specs.Prelude.{◌≡◌, ◌<◌, ◌*◌, suc, map, filter, min, length, All, IfOk, unwrap_or};
 ghost use Rattle.port_graph.specs.Heads.{LeadToVertices};
-ghost use Rattle.spread_labels.specs.Levels.{greatest, is_rise, digit_weight_of, digit_weights_of, width_of};
+ghost use Rattle.spread_labels.specs.Level.{greatest, is_rise, digit_weight_of, digit_weights_of, width_of};
 ghost use Rattle.spread_labels.specs.Orders.{numbers_from};
 
 use crate::distance_class::DistanceSum;
@@ -25,10 +25,10 @@ pub(crate) fn near_or_0(
         .collect(alloc)
 }
 
-/// Returns, for each vertex, the digit weight of its level. The digit weight is the product of the widths of all lesser
-/// levels, but at most 65536. The width of a level is the greatest number of edges from a vertex of the level to
-/// vertices of higher levels, but at least 1. `levels` must have a level for each vertex. Walks all vertices for each
-/// level.
+/// Returns, for each vertex, the digit weight of its level. The digit weight is the product of the widths of all
+/// lesser levels, but at most 65536. The width of a level is the greatest number of edges from a vertex of the level
+/// to vertices of higher levels, but at least 1. `levels` must have a level for each vertex, and all edges must lead
+/// to vertices. Walks all vertices for each level. Returns an error if memory runs out.
 pub fn digit_weights(
     alloc: Global,
     edges: &Adjacency,
@@ -47,7 +47,7 @@ pub fn digit_weights(
 }
 
 /// Returns the digit weight of each level from 0 to the greatest of `levels`. `levels` must have a level for each
-/// vertex.
+/// vertex, and all edges must lead to vertices.
 fn digit_weights_by_level(
     alloc: Global,
     edges: &Adjacency,
@@ -88,7 +88,7 @@ pub fn greatest_of(levels: &[usize]) -> usize
 }
 
 /// Returns the width of `level`: the greatest number of edges from a vertex of `level` to vertices of higher levels,
-/// but at least 1. `levels` must have a level for each vertex.
+/// but at least 1. `levels` must have a level for each vertex, and all edges must lead to vertices.
 fn width(edges: &Adjacency, levels: &[usize], level: usize) -> usize
     requires all { length levels.now ≡ length edges.now }
     requires lead { LeadToVertices edges.now }
@@ -104,6 +104,7 @@ fn width(edges: &Adjacency, levels: &[usize], level: usize) -> usize
 }
 
 /// Returns how many of `edges`, the edges of `vertex`, lead to vertices of a higher level than that of `vertex`.
+/// `levels` must have a level for `vertex` and for each vertex that `edges` lead to.
 fn rises(edges: &[Edge], vertex: usize, levels: &[usize]) -> usize
     requires vertex { vertex < length levels.now }
     requires lead { All (λ edge. edge.to < length levels.now) edges.now }

@@ -2,7 +2,7 @@
 ghost use Rattle.std.specs.Prelude.{◌≡◌, ◌↔◌, ◌<◌, ◌≤◌, ◌&&◌, ◌||◌, length, map, nat_lt, All, IfOk, IsTrue};
 ghost use Rattle.std.specs.List.{list_any};
 ghost use Rattle.port_graph.specs.Heads.{LeadToVertices};
-ghost use Rattle.spread_labels.specs.TargetSets.{EachTarget, has};
+ghost use Rattle.spread_labels.specs.TargetSet.{EachTarget, has};
 ghost use Rattle.spread_labels.specs.MarkSets.{AreAtTargets, AreNoted, AreRowsOf, AreSame, AreSetSteps};
 ghost use Rattle.spread_labels.specs.MarkSets.{IsSetStep, giver_set};
 
@@ -32,7 +32,8 @@ struct Givers {
     ups: TargetSet,
 }
 
-/// Returns the targets for which `edge` gives `vertex` a mark, by the sets of the vertex that `edge` leads to.
+/// Returns the targets for which `edge` gives `vertex` a mark, according to the sets of the vertex that `edge` leads
+/// to. `marks` must have these sets.
 fn giver_set(edge: &Edge, vertex: usize, marks: &MarkSets) -> TargetSet
     requires marked { edge.now.to < length marks.now.marked.items }
     requires downs { edge.now.to < length marks.now.downs.items }
@@ -45,8 +46,9 @@ fn giver_set(edge: &Edge, vertex: usize, marks: &MarkSets) -> TargetSet
     }
 }
 
-/// Returns the targets for which any of `edges` gives `vertex` a mark, and the targets for which an edge that leads up
-/// gives it one. `edges` are the edges of `vertex`.
+/// Returns the targets for which any of `edges` gives `vertex` a mark, and the targets for which an edge that leads
+/// up gives it one. `edges` are the edges of `vertex`. `marks` must have the sets of each vertex that `edges` lead
+/// to.
 fn given_by(edges: &[Edge], vertex: usize, marks: &MarkSets) -> Givers
     requires marked { All (λ edge. edge.to < length marks.now.marked.items) edges.now }
     requires downs { All (λ edge. edge.to < length marks.now.downs.items) edges.now }
@@ -68,8 +70,8 @@ fn given_by(edges: &[Edge], vertex: usize, marks: &MarkSets) -> Givers
     Givers { targets, ups }
 }
 
-/// Adds to the set of each edge in `row` the targets of `new` for which the edge gives `vertex` a mark. `row` must have
-/// a set for each of `edges`.
+/// Adds to the set of each edge in `row` the targets of `new` for which the edge gives `vertex` a mark. `row` must
+/// have a set for each of `edges`, and `marks` must have the sets of each vertex that `edges` lead to.
 fn note(row: &mut [TargetSet], edges: &[Edge], vertex: usize, marks: &MarkSets, new: TargetSet)
     requires all { length row.old ≡ length edges.now }
     requires marked { All (λ edge. edge.to < length marks.now.marked.items) edges.now }
@@ -85,7 +87,8 @@ fn note(row: &mut [TargetSet], edges: &[Edge], vertex: usize, marks: &MarkSets, 
 }
 
 /// Returns the sets of `vertex` after one more round. Adds to the set of each edge in `row` the targets for which the
-/// edge gives a mark in this round. `row` must have a set for each of `edges`.
+/// edge gives a mark in this round. `row` must have a set for each of `edges`. `marks` must have the sets of `vertex`
+/// and of each vertex that `edges` lead to.
 fn set_step(edges: &[Edge], vertex: usize, marks: &MarkSets, row: &mut [TargetSet]) -> VertexSets
     requires row { length row.old ≡ length edges.now }
     requires in_marked { vertex < length marks.now.marked.items }
@@ -104,8 +107,10 @@ fn set_step(edges: &[Edge], vertex: usize, marks: &MarkSets, row: &mut [TargetSe
     }
 }
 
-/// Returns the sets of all vertices after one more round. Adds to the set of each edge in `rows` the targets for which
-/// the edge gives a mark in this round. `rows` must have a row for each vertex, with a set for each of its edges.
+/// Returns the sets of all vertices after one more round. Adds to the set of each edge in `rows` the targets for
+/// which the edge gives a mark in this round. `rows` must have a row for each vertex, with a set for each of its
+/// edges. `marks` must have the sets of each vertex, and all edges must lead to vertices. Returns an error if memory
+/// runs out.
 pub(crate) fn after_round(
     alloc: Global,
     edges: &Adjacency,

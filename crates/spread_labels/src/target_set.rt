@@ -1,6 +1,6 @@
 //! Sets of targets.
 ghost use Rattle.std.specs.Prelude.{◌≡◌, ◌↔◌, ◌<◌, ◌&&◌, ◌||◌, ◌==◌, true, false, not, IsTrue, MatchOption};
-ghost use Rattle.spread_labels.specs.TargetSets.{EachTarget, has, no_targets};
+ghost use Rattle.spread_labels.specs.TargetSet.{EachTarget, has, no_targets};
 
 /// The greatest number of targets in a set.
 pub const TARGETS: usize = 64;

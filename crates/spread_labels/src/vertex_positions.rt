@@ -2,13 +2,13 @@
 ghost use Rattle.std.specs.Prelude.{◌≡◌, ◌<◌, ℕ, map, length, All, Contains, IfOk, slice_index};
 ghost use Rattle.port_graph.specs.Heads.{LeadToVertices};
 ghost use Rattle.spread_labels.specs.Orders.{by_position, position_of};
-ghost use Rattle.spread_labels.specs.Positions.{ArePositions, StandOnce, to_position};
+ghost use Rattle.spread_labels.specs.VertexPositions.{ArePositions, StandOnce, to_position};
 
 use port_graph::{Adjacency, Edge};
 use std::alloc::{AllocError, Global};
 
 /// Returns the position in `vertices` of each of `count` vertices, or 0 for a vertex that `vertices` does not have.
-/// `vertices` must have only vertices less than `count`, each at most once.
+/// `vertices` must have only vertices less than `count`, each at most once. Returns an error if memory runs out.
 pub fn positions(alloc: Global, vertices: &[usize], count: usize) -> Result<Vec<usize>, AllocError>
     requires { StandOnce count vertices.now }
     ensures { IfOk result (λ positions. ArePositions count vertices.now positions.items) }
@@ -33,8 +33,8 @@ pub fn position_of(vertices: &[usize], vertex: usize) -> usize
     vertices.len()
 }
 
-/// Returns the position of each of `vertices`, as `positions` says. `positions` must have a position for each of these
-/// vertices.
+/// Returns the position of each of `vertices`, as `positions` says. `positions` must have a position for each of
+/// these vertices. Returns an error if memory runs out.
 pub fn positions_at(
     alloc: Global,
     positions: &[usize],
@@ -50,7 +50,8 @@ pub fn positions_at(
     Ok(found)
 }
 
-/// Returns the count of each of `vertices`. `counts` must have a count for each of these vertices.
+/// Returns the count of each of `vertices`. `counts` must have a count for each of these vertices. Returns an error
+/// if memory runs out.
 pub fn counts_at(alloc: Global, counts: &[u16], vertices: &[usize]) -> Result<Vec<u16>, AllocError>
     requires { All (λ vertex. vertex < length counts.now) vertices.now }
     ensures { IfOk result (λ found. found.items ≡ map (slice_index counts.now) vertices.now) }
@@ -63,8 +64,8 @@ pub fn counts_at(alloc: Global, counts: &[u16], vertices: &[usize]) -> Result<Ve
 }
 
 /// Returns the edges of the vertex at each position of the order `vertices`, as edges to positions. `vertices` must
-/// have every vertex, and `positions` must have the position of each in `vertices`. Takes time linear in the number of
-/// vertices and edges.
+/// have every vertex, and `positions` must have the position of each in `vertices`. Takes time linear in the number
+/// of vertices and edges. Returns an error if memory runs out.
 pub fn by_positions(
     alloc: Global,
     edges: &Adjacency,

@@ -1,10 +1,10 @@
 -- Each switch has a key and a level.
 use Rattle.std.proofs.Common.{◌≡◌, ℕ, List, [], ◌∙◌, length}
 use Rattle.port_graph.proofs.Counts.{length_map}
-use Rattle.spread_labels.specs.DistanceClasses.{distance_classes_of}
+use Rattle.spread_labels.specs.DistanceClass.{distance_classes_of}
 use Rattle.spread_labels.specs.GrowthKeys.{key_of}
-use Rattle.spread_labels.specs.LeafVertices.{leaf_vertices}
-use Rattle.spread_labels.specs.Levels.{level_of, levels_of}
+use Rattle.spread_labels.specs.Leaves.{leaf_vertices}
+use Rattle.spread_labels.specs.Level.{level_of, levels_of}
 use Rattle.spread_labels.proofs.Numbers.{numbers_long}
 use Rattle.trial_loads.proofs.Least.{keys_long}
 use Rattle.subnet_view.specs.SwitchEdges.{SwitchEdges}
@@ -12,7 +12,7 @@ use Rattle.subnet_view.specs.Graph.{guids_of}
 use Rattle.spread_routes.specs.LeafNumbers.{leaf_number, leaf_numbers, least_neighbors}
 use Rattle.spread_routes.specs.Rule.{by_index}
 use Rattle.spread_routes.specs.Spread.{indices_of, keys_by, keys_from_roots}
-use Rattle.spread_routes.specs.SwitchOrders.{OrderValue, as_named, balanced_as, from_roots, least_loaded, key_as_named}
+use Rattle.spread_routes.specs.SwitchOrder.{OrderValue, as_named, balanced_as, from_roots, least_loaded, key_as_named}
 use Rattle.spread_routes.proofs.Positions.{indexed}
 
 pub keyed_from : (graph : List SwitchEdges) (adapters roots : List ℕ) → length (keys_from_roots graph adapters roots) ≡ length (by_index graph)

@@ -13,7 +13,7 @@ use Rattle.spread_labels.specs.CandidatesByMarks.{chosen}
 use Rattle.spread_labels.specs.Labels.{candidates}
 use Rattle.spread_labels.specs.MarkSets.{AreCandidateSets, AreRowsOf, edge_at, picked, set_at, sets_at}
 use Rattle.spread_labels.specs.Orders.{position_of}
-use Rattle.spread_labels.specs.TargetSets.{has}
+use Rattle.spread_labels.specs.TargetSet.{has}
 use Rattle.spread_labels.proofs.PortLists.{picked_first}
 use Rattle.subnet_view.specs.GraphLaws.{IsGraph}
 use Rattle.spread_routes.specs.declared.lid_digit.LidDigit.{LidDigit}

@@ -7,13 +7,13 @@ use Rattle.std.proofs.lemmas.Simd.{splat_is_map}
 use Rattle.std.specs.Prelude.{Contains, None, Some, slice_set}
 use Rattle.smp_bytes.proofs.Members.{contains_here, contains_later}
 use Rattle.port_graph.proofs.Counts.{length_map}
-use Rattle.spread_labels.specs.declared.vertex_key.VertexKey.{VertexKey}
+use Rattle.spread_labels.specs.declared.key_order.VertexKey.{VertexKey}
 use Rattle.spread_labels.specs.Orders.{at_position, position_of}
 use Rattle.subnet_view.specs.SwitchEdges.{SwitchEdges}
 use Rattle.subnet_view.specs.Graph.{guids_of}
 use Rattle.subnet_view.specs.GraphLaws.{IsGraph}
 use Rattle.subnet_view.specs.SwitchGraph.{IsIndexIn}
-use Rattle.spread_routes.specs.SwitchOrders.{key_as_named, keys_as_named}
+use Rattle.spread_routes.specs.SwitchOrder.{key_as_named, keys_as_named}
 use Rattle.spread_routes.proofs.Indices.{index_of_switch}
 
 -- the keys by what the list names from a number on

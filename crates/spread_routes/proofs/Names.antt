@@ -6,7 +6,7 @@ use Rattle.smp_bytes.proofs.Members.{contains_here, contains_later}
 use Rattle.port_graph.specs.declared.edge.Edge.{Edge}
 use Rattle.port_graph.specs.Heads.{edges_at}
 use Rattle.port_graph.proofs.Counts.{length_map}
-use Rattle.spread_labels.specs.declared.vertex_key.VertexKey.{VertexKey}
+use Rattle.spread_labels.specs.declared.key_order.VertexKey.{VertexKey}
 use Rattle.spread_labels.specs.LabelLaws.{IsGrownGraph}
 use Rattle.spread_labels.specs.Orders.{at_position, position_of, positioned_edge, IsGrownOrder}
 use Rattle.spread_labels.specs.KeyOrder.{before_by}

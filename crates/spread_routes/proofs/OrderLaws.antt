@@ -6,10 +6,10 @@ use Rattle.std.specs.Prelude.{Contains, Option, None, Some, nat_lt, option_map, 
 use Rattle.std.specs.List.{list_any}
 use Rattle.smp_bytes.proofs.Members.{contains_here, contains_later}
 use Rattle.port_graph.specs.declared.edge.Edge.{Edge}
-use Rattle.spread_labels.specs.declared.vertex_key.VertexKey.{VertexKey}
+use Rattle.spread_labels.specs.declared.key_order.VertexKey.{VertexKey}
 use Rattle.spread_labels.specs.Labels.{candidates}
-use Rattle.spread_labels.specs.LeafVertices.{leaf_vertices}
-use Rattle.spread_labels.specs.Levels.{levels_of}
+use Rattle.spread_labels.specs.Leaves.{leaf_vertices}
+use Rattle.spread_labels.specs.Level.{levels_of}
 use Rattle.spread_labels.specs.CandidatesByMarks.{chosen}
 use Rattle.spread_labels.specs.Ways.{cost, channel_number}
 use Rattle.spread_labels.specs.Orders.{at_position, position_of, by_position}
@@ -23,7 +23,7 @@ use Rattle.spread_routes.specs.AdapterChoices.{AdapterChoices, adapter_choices}
 use Rattle.spread_routes.specs.LeafNumbers.{leaf_numbers}
 use Rattle.spread_routes.specs.Rule.{by_index, order_by_keys}
 use Rattle.spread_routes.specs.Spread.{OrdersStand, balanced_by, keys_by, lid_digit_at, number_by, number_with, spread_at, spread_by, switches_in_order}
-use Rattle.spread_routes.specs.SwitchOrders.{as_named, balanced_as, from_roots, key_as_named, keys_as_named, least_loaded, switches_by_keys}
+use Rattle.spread_routes.specs.SwitchOrder.{as_named, balanced_as, from_roots, key_as_named, keys_as_named, least_loaded, switches_by_keys}
 use Rattle.spread_routes.proofs.Indices.{as_many, index_of_switch}
 use Rattle.spread_routes.proofs.Names.{grows}
 use Rattle.spread_routes.proofs.Standing.{order_again}

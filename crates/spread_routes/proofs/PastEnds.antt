@@ -5,7 +5,7 @@ use Rattle.std.proofs.lemmas.List.{get_or_past}
 use Rattle.std.proofs.lemmas.List.Elements.{All-map}
 use Rattle.std.specs.Prelude.{All, slice_index_or}
 use Rattle.balanced_choices.specs.declared.choice_rounds.Destination.{Destination}
-use Rattle.spread_labels.specs.LeafVertices.{leaf_vertices}
+use Rattle.spread_labels.specs.Leaves.{leaf_vertices}
 use Rattle.spread_labels.proofs.LeafVertices.{leaves_within}
 use Rattle.spread_routes.specs.AdapterChoices.{destination, destinations}
 

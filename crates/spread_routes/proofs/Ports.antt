@@ -9,7 +9,7 @@ use Rattle.port_graph.proofs.Counts.{length_map}
 use Rattle.port_graph.proofs.SearchSteps.{all_from_contained}
 use Rattle.spread_labels.specs.CandidatesByMarks.{chosen}
 use Rattle.spread_labels.specs.Labels.{candidates}
-use Rattle.spread_labels.specs.Levels.{rises_at, digit_weight_of, width_of}
+use Rattle.spread_labels.specs.Level.{rises_at, digit_weight_of, width_of}
 use Rattle.spread_labels.specs.Orders.{numbers_from, position_of}
 use Rattle.spread_labels.proofs.ByPositions.{position_less}
 use Rattle.spread_labels.proofs.Widths.{greatest_from}

@@ -14,8 +14,8 @@ use Rattle.subnet_view.specs.Graph.{guids_of}
 use Rattle.subnet_view.specs.GraphLaws.{IsGraph}
 use Rattle.subnet_view.specs.SwitchGraph.{AreEdgesAt, AreEdgesByIndex, IsIndexIn, LeadBelow, by_guid, switch_at}
 use Rattle.spread_labels.proofs.Growing.{contains_at}
-use Rattle.spread_labels.specs.declared.vertex_key.VertexKey.{VertexKey}
-use Rattle.spread_labels.specs.Positions.{ArePositions, StandOnce}
+use Rattle.spread_labels.specs.declared.key_order.VertexKey.{VertexKey}
+use Rattle.spread_labels.specs.VertexPositions.{ArePositions, StandOnce}
 use Rattle.spread_routes.specs.declared.lid_digit.LidDigit.{LidDigit}
 use Rattle.spread_routes.specs.AdapterChoices.{AdapterChoices}
 use Rattle.spread_routes.specs.Rule.{by_index, by_positions, order_by_keys}

@@ -3,8 +3,8 @@
 use Rattle.std.specs.Prelude.{ℕ, ◌+◌, ◌*◌, ◌==◌, List, [], map, slice_index, slice_index_or, sum_by, take, if◌then◌else◌}
 use Rattle.std.specs.Prelude.{Option, None, Some}
 use Rattle.port_graph.specs.declared.edge.Edge.{Edge}
-use Rattle.spread_labels.specs.LeafVertices.{leaf_vertices}
-use Rattle.spread_labels.specs.Levels.{greatest}
+use Rattle.spread_labels.specs.Leaves.{leaf_vertices}
+use Rattle.spread_labels.specs.Level.{greatest}
 use Rattle.balanced_choices.specs.BalancedChoices.{are_even, balanced_choices, digits_from, in_turn}
 use Rattle.balanced_choices.specs.Loads.{first_loads}
 use Rattle.balanced_choices.specs.declared.choice_rounds.Destination.{Destination}
@@ -32,8 +32,8 @@ adapter_of adapters lid q = first_at adapters q + in_turn (slice_index adapters 
 abbrev pub first_number : List ℕ → List ℕ → ℕ → ℕ
 first_number leaf_numbers adapters q = slice_index leaf_numbers q * greatest 0 adapters
 
--- the number, for first choices, of an adapter at position `q`: the one whose choices a LID with the number `lid`
--- takes. `first_number` if `q` has no adapters
+-- the number, for first choices, of the adapter at position `q` whose choices a LID with the number `lid` takes. If `q`
+-- has no adapters, it is the `first_number` of `q`
 abbrev pub end_number : AdapterChoices → ℕ → ℕ → ℕ
 end_number by lid q = first_number by.leaf_numbers by.adapters q + in_turn (slice_index by.adapters q) lid
 
@@ -62,7 +62,8 @@ destination leaf_numbers adapters q = record {
 abbrev pub destinations : List ℕ → List ℕ → List Destination
 destinations leaf_numbers adapters = map (destination leaf_numbers adapters) (leaf_vertices adapters)
 
--- the balanced choices, or None if the loads by first choices are even. Each adapter sends one packet to each adapter
+-- the balanced choices, or None if the loads under first choices are even. Each adapter sends one packet to each
+-- adapter
 abbrev pub counted_if_uneven : List (List Edge) → List ℕ → List ℕ → List Destination → Option (List (List ℕ))
 counted_if_uneven graph adapters weights ds =
     if are_even graph (first_loads graph adapters weights ds) then None

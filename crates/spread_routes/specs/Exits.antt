@@ -6,7 +6,7 @@ use Rattle.port_graph.specs.Heads.{edges_at}
 use Rattle.spread_labels.specs.declared.target_set.TargetSet.{TargetSet}
 use Rattle.spread_labels.specs.Labels.{candidates}
 use Rattle.spread_labels.specs.MarkSets.{AreRowsOf, picked, sets_at}
-use Rattle.spread_labels.specs.TargetSets.{has}
+use Rattle.spread_labels.specs.TargetSet.{has}
 use Rattle.spread_labels.specs.Orders.{position_of}
 use Rattle.subnet_view.specs.GraphLaws.{IsGraph}
 use Rattle.subnet_view.specs.SwitchGraph.{switch_at}

@@ -2,7 +2,7 @@
 -- spread over the wires of that neighbor.
 use Rattle.std.specs.Prelude.{ℕ, ◌%◌, ◌^◌, Bool, ◌&&◌, ◌||◌, List, [], ◌∷◌, ◌==◌, filter, length, map, min, nat_lt, slice_index}
 use Rattle.port_graph.specs.declared.edge.Edge.{Edge}
-use Rattle.spread_labels.specs.LeafVertices.{leaf_vertices}
+use Rattle.spread_labels.specs.Leaves.{leaf_vertices}
 use Rattle.spread_labels.specs.Orders.{numbers_from}
 use Rattle.subnet_view.specs.SwitchEdges.{SwitchEdges}
 use Rattle.spread_routes.specs.Rule.{by_index}

@@ -1,6 +1,6 @@
 pub mod Rule
 pub mod Adapters
-pub mod SwitchOrders
+pub mod SwitchOrder
 pub mod AdapterChoices
 pub mod LeafNumbers
 pub mod Spread

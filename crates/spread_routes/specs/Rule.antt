@@ -2,7 +2,7 @@
 -- that gave a switch its label, chosen by a number.
 use Rattle.std.specs.Prelude.{ℕ, List, map, length, Option, option_map}
 use Rattle.port_graph.specs.declared.edge.Edge.{Edge}
-use Rattle.spread_labels.specs.declared.vertex_key.VertexKey.{VertexKey}
+use Rattle.spread_labels.specs.declared.key_order.VertexKey.{VertexKey}
 use Rattle.spread_labels.specs.Labels.{candidates}
 use Rattle.spread_labels.specs.CandidatesByMarks.{chosen}
 use Rattle.spread_labels.specs.Ways.{cost, channel_number}
@@ -50,8 +50,8 @@ taken by lid p q edges = chosen edges (by.number lid p q edges)
 abbrev pub edge_to : List SwitchEdges → Spreading → ℕ → ℕ → ℕ → Option Edge
 edge_to graph by lid p q = taken by lid p q (candidates (by_positions graph by.keys) q p)
 
--- the spread rule. The port is that of the candidate that is taken. The cost and the channels go by positions in the
--- order that grows by the keys
+-- the spread rule. The port is that of the candidate that is taken. The cost and the channels follow from the
+-- positions in the order that grows by the keys
 abbrev pub spread : List SwitchEdges → Spreading → Routing
 spread graph by = record {
   next = λ lid s t.

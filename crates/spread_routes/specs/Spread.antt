@@ -4,11 +4,11 @@ use Rattle.std.specs.Prelude.{◌≡◌, ℕ, Bool, List, [], map, filter, lengt
 use Rattle.std.specs.Prelude.{Option, None, Some}
 use Rattle.std.specs.List.{list_any}
 use Rattle.port_graph.specs.declared.edge.Edge.{Edge}
-use Rattle.spread_labels.specs.declared.vertex_key.VertexKey.{VertexKey}
-use Rattle.spread_labels.specs.DistanceClasses.{distance_classes_of}
+use Rattle.spread_labels.specs.declared.key_order.VertexKey.{VertexKey}
+use Rattle.spread_labels.specs.DistanceClass.{distance_classes_of}
 use Rattle.spread_labels.specs.GrowthKeys.{keys_of}
-use Rattle.spread_labels.specs.LeafVertices.{leaf_vertices}
-use Rattle.spread_labels.specs.Levels.{levels_of, digit_weight_of}
+use Rattle.spread_labels.specs.Leaves.{leaf_vertices}
+use Rattle.spread_labels.specs.Level.{levels_of, digit_weight_of}
 use Rattle.spread_labels.specs.Orders.{at_position, position_of}
 use Rattle.subnet_view.specs.SwitchEdges.{SwitchEdges}
 use Rattle.subnet_view.specs.Graph.{guids_of}
@@ -19,7 +19,7 @@ use Rattle.spread_routes.specs.declared.lid_digit.LidDigit.{LidDigit}
 use Rattle.spread_routes.specs.AdapterChoices.{AdapterChoices, adapter_choices, choice_towards}
 use Rattle.spread_routes.specs.LeafNumbers.{leaf_numbers}
 use Rattle.spread_routes.specs.Rule.{by_index, by_positions, order_by_keys, spread}
-use Rattle.spread_routes.specs.SwitchOrders.{OrderValue, as_named, balanced_as, from_roots, least_loaded, keys_as_named, named_in, switches_by_keys}
+use Rattle.spread_routes.specs.SwitchOrder.{OrderValue, as_named, balanced_as, from_roots, least_loaded, keys_as_named, named_in, switches_by_keys}
 
 -- what a spread rule is made from: the graph; the key and the level of each switch, in ascending order of the switches'
 -- GUIDs; and the choices for adapters, which are None unless loads are balanced
@@ -150,7 +150,7 @@ pub record OrderStands (graph : List SwitchEdges) (adapters : List ℕ) (by : Or
   pub routing : spread_by graph adapters (named_in by (switches_in_order graph adapters by))
       ≡ spread_by graph adapters by
 
--- on each graph `OrderStands` holds, however many adapters switches have and however the order is grown
+-- on each graph, orders stand (`OrderStands`), however many adapters switches have and however the order is grown
 abbrev pub OrdersStand : Type 0
 OrdersStand = (graph : List SwitchEdges) (adapters : List ℕ) (order : OrderValue) → IsGraph graph
     → OrderStands graph adapters order

@@ -7,7 +7,7 @@ ghost use Rattle.spread_labels.specs.Orders.{numbers_from};
 ghost use Rattle.balanced_choices.specs.BalancedChoices.{in_turn};
 ghost use Rattle.spread_routes.specs.AdapterChoices.{adapter_choices, adapter_of, choice_towards, counted_if_uneven};
 ghost use Rattle.spread_routes.specs.AdapterChoices.{destinations, first_at, first_number};
-ghost use Rattle.balanced_choices.specs.RoundRobins.{IsTurn};
+ghost use Rattle.balanced_choices.specs.RoundRobin.{IsTurn};
 
 use crate::adapters::most_adapters;
 use balanced_choices::{Destination, RoundRobin, are_even, balanced_choices, first_loads};
@@ -30,15 +30,15 @@ pub(crate) struct AdapterChoices {
     /// The index in `counted` of the first adapter at each position: the number of adapters at earlier positions, but
     /// at most 2^64 - 1.
     firsts: Vec<usize>,
-    /// For each adapter, the number of the candidate that each position takes towards it. `None` if the loads by first
-    /// choices are even.
+    /// For each adapter, the number of the candidate that each position takes towards the adapter. `None` if the loads
+    /// under first choices are even.
     counted: Option<Vec<Vec<u8>>>,
 }
 
 impl Model for AdapterChoices {
     ghost use Rattle.std.specs.Prelude.{◌≡◌, ◌-◌, ◌^◌, length, map, min};
     ghost use Rattle.std.specs.Option.{option_map};
-    ghost use Rattle.spread_labels.specs.Levels.{greatest};
+    ghost use Rattle.spread_labels.specs.Level.{greatest};
     ghost use Rattle.spread_labels.specs.Orders.{numbers_from};
     ghost use Rattle.spread_routes.specs.AdapterChoices.{AdapterChoices as AdapterChoicesValue, first_at};
 
@@ -58,9 +58,9 @@ impl Model for AdapterChoices {
 
 impl AdapterChoices {
     /// Balances the loads of `edges`, a graph by positions, where each adapter sends one packet to each adapter.
-    /// `weights`, `leaf_numbers` and `adapters` must have the digit weight, the leaf number and the number of adapters
-    /// of each position. Takes as long as `first_loads`. If these loads are not even, it also takes as long as
-    /// `balanced_choices`.
+    /// `weights`, `leaf_numbers` and `adapters` must have the digit weight, the leaf number and the number of
+    /// adapters of each position, and all edges must lead to positions. Takes as long as `first_loads`. If these
+    /// loads are not even, it also takes as long as `balanced_choices`.
     pub(crate) fn of(
         alloc: Global,
         edges: &Adjacency,
@@ -90,7 +90,7 @@ impl AdapterChoices {
         })
     }
 
-    /// Returns whether the choices were made by counted loads, that is, by `balanced_choices`.
+    /// Returns whether the choices were made from counted loads, that is, by `balanced_choices`.
     pub(crate) fn are_counted(&self) -> bool
         ensures { result ≡ is_some self.now.counted }
     {
@@ -99,7 +99,7 @@ impl AdapterChoices {
 
     /// Returns the number of the candidate that packets for a LID with the number `number` take at the position `own`
     /// towards the position `target`. Returns 0 if there are no adapters at `target`. The choices must have been made
-    /// by counted loads.
+    /// from counted loads.
     pub(crate) fn towards(&self, number: usize, own: usize, target: usize) -> usize
         requires { IsTrue (is_some self.now.counted) }
         ensures { result ≡ choice_towards self.now number own target }
@@ -235,8 +235,8 @@ fn destinations(
     Ok(found)
 }
 
-/// Returns balanced choices, or `None` if the loads by first choices are even. `sent` and `weights` must have an entry
-/// for each position, and destinations must be at positions.
+/// Returns balanced choices, or `None` if the loads under first choices are even. `sent` and `weights` must have an
+/// entry for each position, destinations must be at positions, and all edges must lead to positions.
 fn counted_if_uneven(
     alloc: Global,
     edges: &Adjacency,

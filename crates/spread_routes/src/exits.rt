@@ -2,7 +2,7 @@
 ghost use Rattle.std.specs.Prelude.{◌≡◌, ◌<◌, ◌^◌, [], All, IfOk, IsTrue, None, OnOk, is_some};
 ghost use Rattle.std.specs.Prelude.{length, map, slice_index, slice_index_or};
 ghost use Rattle.std.specs.Prelude.{unwrap_or};
-ghost use Rattle.spread_labels.specs.TargetSets.{EachTarget};
+ghost use Rattle.spread_labels.specs.TargetSet.{EachTarget};
 ghost use Rattle.spread_labels.specs.MarkSets.{picked};
 ghost use Rattle.std.specs.Option.{option_copied};
 ghost use Rattle.spread_routes.specs.AdapterChoices.{choice_towards};
@@ -53,7 +53,7 @@ impl<'s> Model for Exits<'s> {
 }
 
 impl<'s> Exits<'s> {
-    /// Creates exits without ports, choices or targets.
+    /// Creates exits without ports, choices or targets. Returns an error if memory runs out.
     pub fn new(alloc: Global) -> Result<Self, AllocError>
         ensures ports { IfOk result (λ exits. EachTarget (λ k. slice_index_or exits.ports k [] ≡ [])) }
         ensures choices { IfOk result (λ exits. exits.choices ≡ None) }
@@ -160,8 +160,8 @@ impl<'s> Exits<'s> {
 }
 
 /// Writes, in the entry of each of `lids`, the one of `ports` that is chosen by the LID's number in `numbers`, at the
-/// position `own` towards the position `target`, as `choices` says. The choices must have been made by counted loads,
-/// and there must be a port. `entries` and `numbers` must be equally long, and each LID must be within them.
+/// position `own` towards the position `target`, as `choices` says. The choices must have been made from counted
+/// loads, and there must be a port. `entries` and `numbers` must be equally long, and each LID must be within them.
 fn write_chosen(
     entries: &mut [u8],
     lids: &[Lid],
@@ -187,7 +187,7 @@ fn write_chosen(
 }
 
 /// Writes, in the entry of each of `lids`, the one of `ports` that is the first choice for the LID's number in
-/// `numbers`, at the position `own` towards the position `target`. The choices must not have been made by counted
+/// `numbers`, at the position `own` towards the position `target`. The choices must not have been made from counted
 /// loads, and there must be a port. `entries` and `numbers` must be equally long, and each LID must be within them.
 fn write_in_turn(
     entries: &mut [u8],

@@ -7,11 +7,11 @@ use spread_labels::leaf_vertices;
 use std::alloc::{AllocError, Global};
 use subnet_view::SwitchGraph;
 
-/// Returns the leaf number of each switch, in ascending order of the switches' GUIDs. The leaf number is the number of
-/// leaf switches that come before the switch, modulo 2^16. Leaf switches come in the order of their least neighbors,
-/// and then of their GUIDs, so those with the same least neighbor follow one another. `adapters` must have the number
-/// of adapters at each switch, in ascending order of GUID. Takes time linear in the number of edges and, for each
-/// switch, in the number of leaf switches.
+/// Returns the leaf number of each switch, in ascending order of the switches' GUIDs. The leaf number is the number
+/// of leaf switches that come before the switch, modulo 2^16. Leaf switches come in the order of their least
+/// neighbors, and then of their GUIDs, so those with the same least neighbor follow one another. `adapters` must have
+/// the number of adapters at each switch, in ascending order of GUID. Takes time linear in the number of edges and,
+/// for each switch, in the number of leaf switches. Returns an error if memory runs out.
 pub fn leaf_numbers(
     alloc: Global,
     graph: &SwitchGraph,
@@ -40,7 +40,8 @@ fn leaf_number(neighbors: &[usize], leaves: &[usize], index: usize) -> u16
     (count_before(neighbors, leaves, index) % 65536) as u16
 }
 
-/// Returns the number of leaf vertices that come before the vertex `index`.
+/// Returns the number of leaf vertices that come before the vertex `index`. `neighbors` must have the least neighbor
+/// of each vertex, and `leaves` the leaf vertices.
 fn count_before(neighbors: &[usize], leaves: &[usize], index: usize) -> usize
     requires index { index < length neighbors.now }
     requires leaves { All (λ leaf. leaf < length neighbors.now) leaves.now }
@@ -52,8 +53,8 @@ fn count_before(neighbors: &[usize], leaves: &[usize], index: usize) -> usize
         .count()
 }
 
-/// Returns whether vertex `a` comes before vertex `b`: its least neighbor is less, or the least neighbors are equal and
-/// `a` is less.
+/// Returns whether vertex `a` comes before vertex `b`: its least neighbor is less, or the least neighbors are equal
+/// and `a` is less. `neighbors` must have the least neighbor of each of the two.
 fn goes_first(neighbors: &[usize], a: usize, b: usize) -> bool
     requires a { a < length neighbors.now }
     requires b { b < length neighbors.now }

@@ -2,12 +2,12 @@
 ghost use Rattle.std.specs.Prelude.{◌≡◌, ◌<◌, All, IfOk, length, map, nat_lt, slice_index_or, if◌then◌else◌};
 ghost use Rattle.std.specs.List.{list_any};
 ghost use Rattle.port_graph.specs.Heads.{LeadToVertices};
-ghost use Rattle.spread_labels.specs.TargetSets.{EachTarget, has};
+ghost use Rattle.spread_labels.specs.TargetSet.{EachTarget, has};
 ghost use Rattle.spread_labels.specs.MarkSets.{picked};
 ghost use Rattle.spread_routes.specs.Rule.{by_index};
 ghost use Rattle.spread_routes.specs.Spread.{lid_digit_at};
 ghost use Rattle.spread_routes.specs.Exits.{no_lid_digit};
-ghost use Rattle.balanced_choices.specs.RoundRobins.{IsTurn};
+ghost use Rattle.balanced_choices.specs.RoundRobin.{IsTurn};
 
 use balanced_choices::RoundRobin;
 use port_graph::{Adjacency, Edge};

@@ -3,7 +3,7 @@ ghost use Rattle.std.specs.Prelude.{drop, length, min};
 ghost use Rattle.spread_routes.specs.AdapterChoices.{adapter_choices};
 ghost use Rattle.spread_routes.specs.Rule.{by_positions, order_by_keys};
 ghost use Rattle.spread_routes.specs.Spread.{grading_of, weights_there};
-ghost use Rattle.spread_routes.specs.SwitchOrders.{is_balanced, order_value_of};
+ghost use Rattle.spread_routes.specs.SwitchOrder.{is_balanced, order_value_of};
 ghost use Rattle.spread_routes.specs.Exits.{AreExits, AreTowards};
 
 use crate::SwitchOrder;
@@ -94,8 +94,8 @@ impl<'g> Spread<'g> {
     /// Computes the routes. `adapters` must have the number of adapters at each switch, in ascending order of GUID.
     /// `order` says how the order of switches is grown and whether loads are balanced. Ignores GUIDs in `order` that
     /// are not switches of `graph`. Does a breadth-first search from each leaf switch and each root, and two more
-    /// searches for each component unless `order` names switches. For the order of the least trial load, also computes
-    /// trial loads. If `order` asks for it, also balances loads.
+    /// searches for each component unless `order` names switches. For the order of the least trial load, also
+    /// computes trial loads. If `order` asks for it, also balances loads. Returns an error if memory runs out.
     pub fn of(
         alloc: Global,
         graph: &'g SwitchGraph,
@@ -172,9 +172,10 @@ impl<'g> Spread<'g> {
         })
     }
 
-    /// Finds the candidates of all switches towards the 64 switches from index `first` on, or towards all switches from
-    /// there on if there are fewer. There must be a switch at index `first`. Each round takes time linear in the number
-    /// of switches and edges, for all these targets together. There is one more round than the greatest cost.
+    /// Finds the candidates of all switches towards the 64 switches that start at index `first`, or towards the
+    /// switch at that index and all later ones if these are fewer. There must be a switch at index `first`. Each
+    /// round takes time linear in the number of switches and edges, for all these targets together. There is one more
+    /// round than the greatest cost. Returns an error if memory runs out.
     pub fn towards(&self, alloc: Global, first: usize) -> Result<Towards, AllocError>
         requires { first < length self.now.graph }
         ensures are { IfOk result (λ towards. AreTowards self.now towards) }
@@ -188,7 +189,7 @@ impl<'g> Spread<'g> {
 
     /// Sets `exits` to the ports by which packets leave the switch at index `own` towards each target of `towards`.
     /// There must be a switch at index `own`. `towards` must be candidates of these routes. Takes time linear in the
-    /// number of edges and candidates of the switch.
+    /// number of edges and candidates of the switch. Returns an error if memory runs out.
     pub fn exits_from<'s>(
         &'s self,
         own: usize,
@@ -210,7 +211,7 @@ impl<'g> Spread<'g> {
     }
 }
 
-/// Returns the part of `list` from index `first` on, or an empty list if `first` is past the end.
+/// Returns the part of `list` that starts at index `first`, or an empty list if `first` is past the end.
 fn behind(list: &[usize], first: usize) -> &[usize]
     ensures { result.now ≡ drop first list.now }
 {

@@ -1,16 +1,16 @@
 //! The keys by which switches are ordered, and the order that grows by them.
 ghost use Rattle.std.specs.Prelude.{◌≡◌, ◌<◌, All, IfOk, length, map};
-ghost use Rattle.subnet_view.specs.GraphLaws.{IsGraph};
-ghost use Rattle.spread_labels.specs.LeafVertices.{leaf_vertices};
-ghost use Rattle.spread_labels.specs.Levels.{levels_of};
+ghost use Rattle.spread_labels.specs.Leaves.{leaf_vertices};
+ghost use Rattle.spread_labels.specs.Level.{levels_of};
 ghost use Rattle.spread_labels.specs.Orders.{at_position};
 ghost use Rattle.spread_routes.specs.Rule.{by_index};
 ghost use Rattle.spread_routes.specs.Spread.{keys_by, keys_from_roots, keys_least_loaded};
 ghost use Rattle.spread_routes.specs.Spread.{switches_in_order};
-ghost use Rattle.spread_routes.specs.SwitchOrders.{keys_as_named, order_value_of};
+ghost use Rattle.spread_routes.specs.SwitchOrder.{keys_as_named, order_value_of};
 
 use crate::SwitchOrder;
 use crate::index::indices;
+use crate::switch_order::keys_as_named;
 use smp_bytes::Guid;
 use spread_labels::{Grades, VertexKey, grade, grown_order, keys, leaf_vertices};
 use std::alloc::{AllocError, Global};
@@ -26,8 +26,9 @@ pub(crate) struct SwitchKeys {
     pub(crate) levels: Vec<usize>,
 }
 
-/// Returns the switches of `graph` in the order of the rule that spreads by `order`. `adapters` must have the number of
-/// adapters at each switch, in ascending order of GUID. Takes no longer than `Spread::of`.
+/// Returns the switches of `graph` in the order of the rule that spreads by `order`. `adapters` must have the number
+/// of adapters at each switch, in ascending order of GUID. Takes no longer than `Spread::of`. Returns an error if
+/// memory runs out.
 pub fn switches_in_order(
     alloc: Global,
     graph: &SwitchGraph,
@@ -140,35 +141,4 @@ fn least_loaded(
     let SwitchKeys { keys, levels } = from_roots(alloc, graph, adapters, &[])?;
     let keys = least_loaded_keys(alloc, edges, adapters, &keys)?;
     Ok(SwitchKeys { keys, levels })
-}
-
-/// Returns the keys of the switches of `graph` according to the list `switches`. The list may name only some of them.
-/// Does a binary search among the switches of the graph for each switch of the list.
-fn keys_as_named(
-    alloc: Global,
-    graph: &SwitchGraph,
-    switches: &[Guid],
-) -> Result<Vec<VertexKey>, AllocError>
-    requires { IsGraph graph.now }
-    ensures { IfOk result (λ keys. keys.items ≡ keys_as_named graph.now switches.now) }
-{
-    let mut keys = vec![in alloc; key_at(switches.len()); graph.switches().len()]?;
-    let mut number = switches.len();
-    while number > 0 {
-        number -= 1;
-        if let Some(index) = graph.index_of(switches[number]) {
-            keys[index] = key_at(number);
-        }
-    }
-    Ok(keys)
-}
-
-/// Returns the key of a switch that has `number` switches before it in a list.
-fn key_at(number: usize) -> VertexKey
-    ensures { result ≡ record { distance_class = 0; distance = number } }
-{
-    VertexKey {
-        distance_class: 0,
-        distance: number,
-    }
 }

@@ -1,8 +1,11 @@
 ghost use Rattle.std.specs.Prelude.{◌≡◌, IfOk};
-ghost use Rattle.spread_routes.specs.SwitchOrders.{is_balanced, order_value_of};
+ghost use Rattle.subnet_view.specs.GraphLaws.{IsGraph};
+ghost use Rattle.spread_routes.specs.SwitchOrder.{is_balanced, keys_as_named, order_value_of};
 
 use smp_bytes::Guid;
+use spread_labels::VertexKey;
 use std::alloc::{AllocError, Global};
+use subnet_view::SwitchGraph;
 
 /// How the order of the switches is grown, and whether loads are balanced.
 #[derive(Drop)]
@@ -41,7 +44,7 @@ impl SwitchOrder {
         )
     }
 
-    /// Returns a copy. Takes time linear in the number of GUIDs.
+    /// Returns a copy. Takes time linear in the number of GUIDs. Returns an error if memory runs out.
     pub fn try_clone(&self, alloc: Global) -> Result<Self, AllocError>
         ensures { IfOk result (λ copy. order_value_of copy ≡ order_value_of self.now) }
     {
@@ -57,5 +60,36 @@ impl SwitchOrder {
             }),
             SwitchOrder::LeastLoaded => Ok(SwitchOrder::LeastLoaded),
         }
+    }
+}
+
+/// Returns the keys of the switches of `graph` according to the list `switches`. The list may name only some of them.
+/// Does a binary search among the switches of the graph for each switch of the list.
+pub(crate) fn keys_as_named(
+    alloc: Global,
+    graph: &SwitchGraph,
+    switches: &[Guid],
+) -> Result<Vec<VertexKey>, AllocError>
+    requires { IsGraph graph.now }
+    ensures { IfOk result (λ keys. keys.items ≡ keys_as_named graph.now switches.now) }
+{
+    let mut keys = vec![in alloc; key_at(switches.len()); graph.switches().len()]?;
+    let mut number = switches.len();
+    while number > 0 {
+        number -= 1;
+        if let Some(index) = graph.index_of(switches[number]) {
+            keys[index] = key_at(number);
+        }
+    }
+    Ok(keys)
+}
+
+/// Returns the key of a switch that has `number` switches before it in a list.
+fn key_at(number: usize) -> VertexKey
+    ensures { result ≡ record { distance_class = 0; distance = number } }
+{
+    VertexKey {
+        distance_class: 0,
+        distance: number,
     }
 }

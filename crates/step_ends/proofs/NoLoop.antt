@@ -19,7 +19,7 @@ use Rattle.between_orders.specs.Between.{Goal, IsGoal}
 use Rattle.between_orders.specs.GoalLaws.{next_towards as next_to}
 use Rattle.between_orders.proofs.Safe.{goals_are_safe}
 use Rattle.ordered_steps.proofs.Waits.{numbers_rise_by_order}
-use Rattle.next_run.specs.RunNext.{IsGoalFrom, stepped}
+use Rattle.next_run.specs.NextRun.{IsGoalFrom, stepped}
 use Rattle.held_tables.specs.PlanTables.{planned}
 use Rattle.next_run.specs.StepLoops.{IsCycleInStep}
 use Rattle.step_ends.specs.StepLaws.{IsFreeByTold, RightTablesMakeNoLoop, ToldStepsMakeNoLoop}

@@ -8,7 +8,7 @@ use Rattle.next_tables.specs.SwitchPositions.{position_at}
 use Rattle.ordered_steps.specs.Rightness.{are_right}
 use Rattle.between_orders.specs.Between.{Goal}
 use Rattle.between_orders.proofs.OneGoal.{one_goal}
-use Rattle.next_run.specs.RunNext.{IsGoalFrom, next_towards}
+use Rattle.next_run.specs.NextRun.{IsGoalFrom, next_towards}
 use Rattle.step_ends.specs.StepLaws.{StepsHaveOneResult}
 
 one_goal_from : (cells : Cells) (held plan : HeldPlan) (by preferred : List ℕ) (told right : Bool) (g h : Option Goal)

@@ -8,7 +8,7 @@ use Rattle.std.proofs.lemmas.Bool.{eqb-true}
 use Rattle.fact_store.specs.View.{Facts, cells_of, AreInRange}
 use Rattle.port_graph.specs.declared.edge.Edge.{Edge}
 use Rattle.subnet_view.specs.declared.end_port.EndPort.{EndPort}
-use Rattle.subnet_view.specs.EndPorts.{end_ports}
+use Rattle.subnet_view.specs.EndPort.{end_ports}
 use Rattle.subnet_view.specs.Reading.{Cells, switches}
 use Rattle.subnet_view.specs.SwitchEdges.{SwitchEdges}
 use Rattle.subnet_view.specs.Graph.{edges_at, graph_of}
@@ -23,14 +23,14 @@ use Rattle.lid_assign.specs.Lids.{IsNoRoom, lids, owner_of, top_of as greatest_o
 use Rattle.lft_blocks.specs.Entries.{attachment_of, block_count, port_to}
 use Rattle.lft_blocks.specs.Plan.{PlanValue, SwitchTable, plan_of, lid_routing}
 use Rattle.lft_blocks.specs.PlanText.{lids_text, table_text}
-use Rattle.lft_blocks.specs.Rules.{RuleValue}
+use Rattle.lft_blocks.specs.Rule.{RuleValue}
 use Rattle.lft_blocks.proofs.HeldEntries.{entry_by_attachment, entry_of as planned_entry}
 use Rattle.lft_blocks.proofs.RulesRoute.{lids_are_routed}
 use Rattle.held_tables.specs.declared.held.HeldLid.{HeldLid}
 use Rattle.held_tables.specs.Held.{HeldPlan, nothing_held}
 use Rattle.held_tables.specs.PlanTables.{blocks_of, held_plan, with_top}
 use Rattle.tables_file.specs.Reading.{held_of}
-use Rattle.tables_file.specs.TablesText.{next_text}
+use Rattle.tables_file.specs.PrintedTables.{next_text}
 use Rattle.held_tables.proofs.NextPorts.{lid_has_cost}
 use Rattle.held_tables.proofs.OwnedLids.{line_owned, owner_listed as owner_has_line}
 use Rattle.tables_file.proofs.TablesText.{tables_are_text}
@@ -45,7 +45,7 @@ use Rattle.packet_walks.proofs.OwnerLines.{line_owner, owner_line}
 use Rattle.packet_walks.proofs.PlanPackets.{attachment_there, from_switch}
 use Rattle.packet_walks.proofs.PlanSteps.{contains_at}
 use Rattle.next_tables.specs.NextTables.{StepRuleValue, next_at, next_switch, next_table, next_tables, next_top}
-use Rattle.next_run.specs.RunNext.{step_rule}
+use Rattle.next_run.specs.NextRun.{step_rule}
 use Rattle.next_tables.proofs.Whole.{entry_next, top_next}
 use Rattle.step_ends.specs.StepEnds.{LastTextIsThePlans}
 use Rattle.step_ends.proofs.Alone.{each_alone}

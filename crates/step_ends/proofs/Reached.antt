@@ -13,7 +13,7 @@ use Rattle.fact_store.specs.View.{Facts, cells_of, AreInRange}
 use Rattle.port_graph.specs.declared.edge.Edge.{Edge}
 use Rattle.port_graph.proofs.Lists.{contains_mapped}
 use Rattle.subnet_view.specs.declared.end_port.EndPort.{EndPort}
-use Rattle.subnet_view.specs.EndPorts.{end_ports}
+use Rattle.subnet_view.specs.EndPort.{end_ports}
 use Rattle.subnet_view.specs.Reading.{Cells, is_switch_node, is_usable, switches}
 use Rattle.subnet_view.specs.Wires.{across, attached}
 use Rattle.subnet_view.specs.SwitchEdges.{SwitchEdges}
@@ -32,7 +32,7 @@ use Rattle.subnet_view.proofs.WireLaws.{wire_law}
 use Rattle.lid_assign.specs.Lids.{IsNoRoom, Given, has_number, lids, owner_of, top_of}
 use Rattle.lid_assign.proofs.LidLaws.{lids_law}
 use Rattle.lft_blocks.specs.Entries.{attachment_of}
-use Rattle.lft_blocks.specs.Rules.{RuleValue}
+use Rattle.lft_blocks.specs.Rule.{RuleValue}
 use Rattle.held_tables.specs.declared.held.HeldLid.{HeldLid}
 use Rattle.held_tables.specs.Held.{HeldPlan, nothing_held}
 use Rattle.held_tables.specs.declared.far_end.Far.{Far}
@@ -40,8 +40,8 @@ use Rattle.held_tables.specs.declared.far_end.Far.TheVariants.{Nothing, Port, Sw
 use Rattle.held_tables.specs.Switches.{far_at, far_of, far_to, index_in, row_of}
 use Rattle.held_tables.specs.Tables.{entry_for, is_owner, owners_of}
 use Rattle.held_tables.proofs.HeldPlans.{made}
-use Rattle.packet_walks.specs.declared.packet_end.Cause.{Cause}
-use Rattle.packet_walks.specs.declared.packet_end.Cause.TheVariants.{Foreign}
+use Rattle.packet_walks.specs.declared.cause.Cause.{Cause}
+use Rattle.packet_walks.specs.declared.cause.Cause.TheVariants.{Foreign}
 use Rattle.packet_walks.specs.declared.packet_end.End.TheVariants.{Lost, Taken}
 use Rattle.packet_walks.specs.declared.next_hop.NextHop.{NextHop}
 use Rattle.packet_walks.specs.declared.next_hop.NextHop.TheVariants.{To, Ends}

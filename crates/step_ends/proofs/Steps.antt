@@ -5,7 +5,7 @@ use Rattle.std.proofs.lemmas.Bool.{cases_lt}
 use Rattle.fact_store.specs.View.{Facts, cells_of, AreInRange}
 use Rattle.subnet_view.specs.Reading.{Cells, switches}
 use Rattle.lid_assign.specs.Lids.{IsNoRoom}
-use Rattle.lft_blocks.specs.Rules.{RuleValue}
+use Rattle.lft_blocks.specs.Rule.{RuleValue}
 use Rattle.plan_order.specs.PlanOrder.{positions_by}
 use Rattle.held_tables.specs.Held.{HeldPlan}
 use Rattle.held_tables.specs.Tables.{top_of}
@@ -16,7 +16,7 @@ use Rattle.next_tables.proofs.Whole.{entry_next, top_next}
 use Rattle.ordered_steps.specs.Rightness.{are_right}
 use Rattle.ordered_steps.proofs.ToldRight.{rightness_is_told}
 use Rattle.plan_order_laws.specs.PlanLaws.{plan_position}
-use Rattle.next_run.specs.RunNext.{step_rule, stepped}
+use Rattle.next_run.specs.NextRun.{step_rule, stepped}
 use Rattle.held_tables.specs.PlanTables.{planned}
 use Rattle.step_ends.specs.StepEnds.{AreEnough}
 use Rattle.step_ends.proofs.Alone.{each_alone}

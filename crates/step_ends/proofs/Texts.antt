@@ -5,10 +5,10 @@ use Rattle.fact_store.specs.View.{Facts, cells_of, AreInRange}
 use Rattle.subnet_view.specs.Reading.{switches}
 use Rattle.lid_assign.specs.Lids.{IsNoRoom}
 use Rattle.lft_blocks.specs.Plan.{PlanValue, plan_of}
-use Rattle.lft_blocks.specs.Rules.{RuleValue}
+use Rattle.lft_blocks.specs.Rule.{RuleValue}
 use Rattle.held_tables.specs.Held.{HeldPlan}
 use Rattle.tables_file.specs.Reading.{held_of}
-use Rattle.tables_file.specs.TablesText.{next_text}
+use Rattle.tables_file.specs.PrintedTables.{next_text}
 use Rattle.packet_walks.specs.declared.packet_end.End.TheVariants.{Taken}
 use Rattle.packet_walks.specs.declared.next_hop.NextHop.{NextHop}
 use Rattle.packet_walks.specs.declared.next_hop.NextHop.TheVariants.{To, Ends}
@@ -17,7 +17,7 @@ use Rattle.packet_walks.specs.EndsBySwitch.{after, end_of}
 use Rattle.packet_walks.proofs.InTime.{ends_in_time, one_end}
 use Rattle.next_tables.specs.SettledRule.{step_at}
 use Rattle.next_tables.proofs.NextText.{step_texts_are_read}
-use Rattle.next_run.specs.RunNext.{step_rule, stepped}
+use Rattle.next_run.specs.NextRun.{step_rule, stepped}
 use Rattle.step_ends.specs.StepEnds.{AreEnough, PrintedStepsEnd, WaysMeetAtMostAll, printed}
 use Rattle.step_ends.proofs.Steps.{repeated, steps}
 

@@ -7,7 +7,7 @@ use Rattle.std.proofs.lemmas.Option.{same_Some}
 use Rattle.fact_store.specs.View.{AreInRange, Facts, cells_of}
 use Rattle.port_graph.proofs.Lists.{contains_map}
 use Rattle.subnet_view.specs.declared.end_port.EndPort.{EndPort}
-use Rattle.subnet_view.specs.EndPorts.{end_ports}
+use Rattle.subnet_view.specs.EndPort.{end_ports}
 use Rattle.subnet_view.specs.Reading.{Cells, is_usable, switches}
 use Rattle.subnet_view.specs.Wires.{attached}
 use Rattle.subnet_view.specs.Graph.{graph_of}
@@ -19,7 +19,7 @@ use Rattle.lid_assign.specs.Lids.{Given, IsNoRoom, lids, lmc_of, owner_of, top_o
 use Rattle.lid_assign.proofs.LidLaws.{lids_law}
 use Rattle.lft_blocks.specs.Entries.{attachment_of}
 use Rattle.lft_blocks.specs.Plan.{plan_of}
-use Rattle.lft_blocks.specs.Rules.{RuleValue}
+use Rattle.lft_blocks.specs.Rule.{RuleValue}
 use Rattle.lft_blocks.proofs.HeldEntries.{owned_from_one, owned_to_top}
 use Rattle.held_tables.specs.declared.held.HeldLid.{HeldLid}
 use Rattle.held_tables.specs.Held.{HeldPlan, nothing_held}

@@ -5,7 +5,7 @@ use Rattle.subnet_view.specs.Reading.{Cells, switches}
 use Rattle.lid_assign.specs.Lids.{IsNoRoom, lids, top_of as greatest_of}
 use Rattle.lft_blocks.specs.Plan.{plan_of}
 use Rattle.lft_blocks.specs.PlanText.{plan_text}
-use Rattle.lft_blocks.specs.Rules.{RuleValue}
+use Rattle.lft_blocks.specs.Rule.{RuleValue}
 use Rattle.held_tables.specs.declared.held.HeldLid.{HeldLid}
 use Rattle.held_tables.specs.Held.{HeldPlan}
 use Rattle.held_tables.specs.PlanTables.{held_plan, planned}
@@ -17,7 +17,7 @@ use Rattle.packet_walks.specs.HopsByTables.{next_hops_of}
 use Rattle.packet_walks.specs.EndsBySwitch.{after}
 use Rattle.next_tables.specs.NextTables.{IsKept}
 use Rattle.next_tables.specs.SettledStepLaws.{stepped as settled}
-use Rattle.next_run.specs.RunNext.{step_text}
+use Rattle.next_run.specs.NextRun.{step_text}
 
 -- if some tables deliver from a switch to the end port that alone holds a LID in these tables and in the plan, the plan
 -- delivers from that switch too
@@ -48,22 +48,23 @@ PlansDeliverWhatTablesCan =
     (rule : RuleValue) (lmc : ℕ) (facts : Facts) → AreInRange facts → ¬ (IsNoRoom lmc (cells_of facts))
     → DeliversWhatTablesCan (cells_of facts) (held_plan (plan_of rule lmc (cells_of facts)))
 
--- the text that the last of the given number of steps by `next` prints; `text` itself if the number is 0. The first
--- step is from the tables of `text`, and each later step from those of the text that the step before it printed
+-- if the given number of steps by `next` is not 0, the text that the last of these steps prints; otherwise `text`
+-- itself. The first step is from the tables of `text`, and each later step from those of the text that the step
+-- before it printed
 abbrev pub printed : ℕ → RuleValue → Facts → List ℕ → ℕ → List ℕ
 printed lmc rule facts text zero = text
 printed lmc rule facts text (suc n) = step_text lmc rule facts (held_of (printed lmc rule facts text n))
 
--- n steps are enough: n is at least `most` + 2m + 2, for m usable switches; `most` is at least 2; and no route of the
--- plan passes more than `most` switches
+-- n steps are enough: n is at least `most` + 2m + 2, where m is the number of usable switches; `most` is at least 2;
+-- and no route of the plan passes more than `most` switches
 pub record AreEnough (rule : RuleValue) (lmc : ℕ) (facts : Facts) (n : ℕ) : Type 0 where
   pub most : ℕ
   pub meet : MeetAtMost (cells_of facts) (planned lmc rule facts) most
   pub two : 2 ≤ most
   pub enough : most + 2 * length (switches (cells_of facts)) + 2 ≤ n
 
--- step n + 1 prints what step n printed, byte for byte, if n steps are enough. The facts must be in range and have
--- room, and the LMC must be at most 7
+-- if the facts are in range and have room, the LMC is at most 7, and n steps are enough (`AreEnough`), step n + 1
+-- prints what step n printed, byte for byte
 abbrev pub PrintedStepsEnd : Type 0
 PrintedStepsEnd =
     (rule : RuleValue) (lmc : ℕ) (facts : Facts) (text : List ℕ) (n : ℕ) → lmc ≤ 7 → AreInRange facts
@@ -74,9 +75,9 @@ PrintedStepsEnd =
 abbrev pub WaysMeetAtMostAll : Type 0
 WaysMeetAtMostAll = (cells : Cells) (plan : HeldPlan) → MeetAtMost cells plan (length (switches cells))
 
--- after enough steps (`AreEnough`), `next` prints what `plan` prints, if the plan gives a LID, and no usable switch
--- has a top in the tables of `text` above the plan's greatest LID. The facts must be in range and have room, and the
--- LMC must be at most 7
+-- suppose the facts are in range and have room, the LMC is at most 7, the plan gives a LID, and no usable switch has
+-- a top in the tables of `text` above the plan's greatest LID. Then after enough steps (`AreEnough`), `next` prints
+-- what `plan` prints
 abbrev pub LastTextIsThePlans : Type 0
 LastTextIsThePlans =
     (rule : RuleValue) (lmc : ℕ) (facts : Facts) (text : List ℕ) (n top : ℕ) → lmc ≤ 7 → AreInRange facts

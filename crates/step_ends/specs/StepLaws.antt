@@ -2,7 +2,7 @@
 use Rattle.std.specs.Prelude.{◌≡◌, ℕ, Bool, true, List, [], Option, Some}
 use Rattle.fact_store.specs.View.{Facts, cells_of, AreInRange}
 use Rattle.lid_assign.specs.Lids.{IsNoRoom, lids}
-use Rattle.lft_blocks.specs.Rules.{RuleValue}
+use Rattle.lft_blocks.specs.Rule.{RuleValue}
 use Rattle.held_tables.specs.Held.{HeldPlan}
 use Rattle.held_tables.specs.PlanTables.{planned}
 use Rattle.ordered_steps.specs.Rightness.{are_right}
@@ -10,7 +10,7 @@ use Rattle.plan_order_laws.specs.PlanLaws.{plan_position}
 use Rattle.between_orders.specs.Between.{Goal}
 use Rattle.next_tables.specs.SwitchPositions.{position_at}
 use Rattle.next_run.specs.StepLoops.{IsLoopInStep}
-use Rattle.next_run.specs.RunNext.{IsGoalOf, IsNextStep, next_towards, stepped}
+use Rattle.next_run.specs.NextRun.{IsGoalOf, IsNextStep, next_towards, stepped}
 
 -- the step from `held` towards the plan of `facts` makes no credit loop, and the next tables are right by the order of
 -- the plan's switches
@@ -27,7 +27,7 @@ RightTablesMakeNoLoop =
     → ¬ (IsNoRoom lmc (cells_of facts)) → are_right (cells_of facts) (plan_position rule (cells_of facts)) held ≡ true
     → IsFreeOfLoops lmc rule facts held
 
--- equal facts, options, held tables and plans give equal goals and equal next tables
+-- equal sets of facts, options, held tables and plans give equal goals and equal next tables
 abbrev pub StepsHaveOneResult : Type 0
 StepsHaveOneResult =
     (told : Bool) (rule preferred : RuleValue) (facts : Facts) (held plan : HeldPlan)

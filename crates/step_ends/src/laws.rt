@@ -6,28 +6,28 @@ ghost use Rattle.step_ends.specs.StepEnds.{WaysMeetAtMostAll};
 ghost use Rattle.step_ends.specs.StepLaws.{ToldStepsMakeNoLoop};
 ghost use Rattle.step_ends.specs.WholePlans.{PlansAreWhole, PlansGiveOwnLids};
 
-/// After n steps by settled entries, `next_tables` returns what it was given, if three conditions hold: n is at least
-/// 2; no route of the plan passes more than n switches; and the plan delivers from each switch from which some tables
-/// can deliver.
+/// After n or more steps by settled entries, `next_tables` returns what it was given, if three conditions hold: n is at
+/// least 2; no route of the plan passes more than n switches; and the plan delivers from each switch from which some
+/// tables can deliver.
 pub fn steps_end()
     ensures law { StepsEnd }
 {}
 
-/// The plan of a view with room, by each rule and under each LMC, delivers from each switch from which some tables can
+/// The plan of a view with room, under each rule and each LMC, delivers from each switch from which some tables can
 /// deliver, at the end port that alone holds the LID in these tables and in the plan.
 pub fn plans_deliver_what_tables_can()
     ensures law { PlansDeliverWhatTablesCan }
 {}
 
-/// If the held tables are right by the order of the plan's switches, a step of `next` by facts with room can make no
-/// credit loop in any mixture, and the tables that it leads to are right by that order. Tables are right by an order
-/// if they send packets for no LID down and then up.
+/// If the held tables are right by the order of the plan's switches, a step of `next` with facts that have room can
+/// make no credit loop in any mixture, and the tables that it leads to are right by that order. Tables are right by
+/// an order if they send packets for no LID down and then up.
 pub fn right_tables_make_no_loop()
     ensures law { RightTablesMakeNoLoop }
 {}
 
-/// Equal facts, options, held tables and plans give equal next tables and, if a step goes towards a goal in between,
-/// equal goals.
+/// Equal sets of facts, options, held tables and plans give equal next tables and, if a step goes towards a goal in
+/// between, equal goals.
 pub fn steps_have_one_result()
     ensures law { StepsHaveOneResult }
 {}
@@ -39,17 +39,17 @@ pub fn told_steps_make_no_loop()
     ensures law { ToldStepsMakeNoLoop }
 {}
 
-/// After enough steps with the same facts, LMC and rule, and without `--told-order` and `--last-order`, `next` prints
-/// what it was given, byte for byte, if there is room for the LIDs. This is so even if LIDs are new or gone, or entries
-/// lead nowhere. For m usable switches, n + 2m + 2 steps are enough, if n is at least 2 and no route of the plan passes
-/// more than n switches.
+/// If there is room for the LIDs, then after enough steps with the same facts, LMC and rule, and without
+/// `--told-order` and `--last-order`, `next` prints what it was given, byte for byte. This is so even if LIDs are new
+/// or gone, or entries lead nowhere. If n is at least 2 and no route of the plan passes more than n switches, n + 2m
+/// + 2 steps are enough, where m is the number of usable switches.
 pub fn printed_steps_end()
     ensures law { PrintedStepsEnd }
 {}
 
-/// After enough steps without `--told-order` and `--last-order`, `next` prints what `plan` prints, if three conditions
-/// hold: there is room for the LIDs; at least one end port has a LID; and no usable switch has a greater top in the
-/// tables at the start than the greatest LID of the plan.
+/// If there is room for the LIDs, at least one end port has a LID, and no usable switch has, in the tables at the
+/// start, a top above the greatest LID of the plan, then after enough steps without `--told-order` and
+/// `--last-order`, `next` prints what `plan` prints.
 pub fn last_text_is_the_plans()
     ensures law { LastTextIsThePlans }
 {}
@@ -65,8 +65,8 @@ pub fn plans_are_whole()
     ensures law { PlansAreWhole }
 {}
 
-/// Each usable switch has a LID in the plan of a view with room, if the port GUID of port 0 of each usable switch is
-/// known, so that this port is an end port.
+/// If the port GUID of port 0 of each usable switch is known, so that this port is an end port, each usable switch
+/// has a LID in the plan of a view with room.
 pub fn plans_give_own_lids()
     ensures law { PlansGiveOwnLids }
 {}

@@ -13,9 +13,9 @@ use Rattle.held_tables.specs.declared.far_end.Far.TheVariants.{Nothing, Switch, 
 use Rattle.packet_walks.specs.Edges.{edge_by, edge_to, edges_of, greatest_top}
 use Rattle.held_tables.specs.Switches.{far_of, row_of}
 use Rattle.held_tables.specs.Tables.{entry_for}
-use Rattle.audit_channels.specs.Columns.{number_of, TakesAcross}
+use Rattle.audit_channels.specs.Column.{number_of, TakesAcross}
 use Rattle.audit_channels.proofs.Columns.{same_edge}
-use Rattle.step_loops.specs.LoopLids.{AreLoopLids, AreNoted, IsLeastLid, IsNoted, TakesFrom, TakesHere, are_known, turned}
+use Rattle.step_loops.specs.LidsInLoop.{AreLoopLids, AreNoted, IsLeastLid, IsNoted, TakesFrom, TakesHere, are_known, turned}
 use Rattle.next_tables.specs.Mixtures.{TakesBy, TakesInStep, WaitsInStep}
 use Rattle.step_loops.specs.StepOrder.{WaitInCycle, WaitOn, WaitsFor}
 use Rattle.step_loops.proofs.InStep.{above_both}

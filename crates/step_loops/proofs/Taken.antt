@@ -3,7 +3,7 @@ use Rattle.std.proofs.Common.{◌≡◌, ℕ, List, [], length, refl, sym, ◌�
 use Rattle.std.specs.Prelude.{OnOk, Option}
 use Rattle.port_graph.specs.declared.edge.Edge.{Edge}
 use Rattle.audit_channels.specs.ChannelOrders.{Follows}
-use Rattle.audit_channels.specs.Columns.{IsWithAcross, IsWithColumn, TakesAmong}
+use Rattle.audit_channels.specs.Column.{IsWithAcross, IsWithColumn, TakesAmong}
 use Rattle.audit_channels.proofs.Columns.{within}
 use Rattle.next_tables.specs.Mixtures.{TakesBy, TakesInStep}
 use Rattle.step_loops.specs.StepOrder.{IsAddedInStep, IsWithStep}

@@ -1,2 +1,2 @@
-pub mod LoopLids
+pub mod LidsInLoop
 pub mod StepOrder

@@ -30,8 +30,8 @@ pub record AreWaits (cells : Cells) (held next : HeldPlan) (waits : List (List �
   pub as_many : length waits ≡ 256 * length (switches cells)
   pub follows : (a b : ℕ) → Follows waits a b ↔ WaitsFor cells held next a b
 
--- `numbers` has a number for each channel of each switch. It is less than the numbers of the channels that the channel
--- waits for in the step
+-- `numbers` has a number for each channel of each switch, and this number is less than the numbers of the channels
+-- that the channel waits for in the step
 pub record NumbersRise (cells : Cells) (held next : HeldPlan) (numbers : List ℕ) : Type 0 where
   pub as_many : length numbers ≡ 256 * length (switches cells)
   pub rise : RiseInStep cells held next numbers
@@ -48,7 +48,7 @@ abbrev pub WaitInCycle : Cells → HeldPlan → HeldPlan → List ℕ → Type 0
 WaitInCycle cells held next [] = ⊥
 WaitInCycle cells held next (channel ∷ later) = WaitOn cells held next channel later channel
 
--- a channel order holds for the step: its numbers rise, or its channels wait in a credit loop
+-- a channel order is right for the step: its numbers rise, or its channels wait in a credit loop
 abbrev pub IsStepOrder : Cells → HeldPlan → HeldPlan → ChannelOrder → Type 0
 IsStepOrder cells held next (Rises numbers) = NumbersRise cells held next numbers.items
 IsStepOrder cells held next (Cycle channels) = WaitInCycle cells held next channels.items

@@ -9,7 +9,7 @@ use packet_walks::LidCursor;
 use port_graph::Edge;
 use std::alloc::{AllocError, Global};
 
-/// The edges along which packets for one LID leave the switches, by the held tables and by the next ones.
+/// The edges along which packets for one LID leave the switches, under the held tables and under the next ones.
 #[derive(Drop)]
 pub(crate) struct Columns {
     pub held: Vec<Option<Edge>>,
@@ -29,8 +29,8 @@ impl Columns {
     }
 }
 
-/// Returns the edges by the held tables for the LID of `held`, and the edges by the next tables for the LID of `next`.
-/// Takes the time that `LidCursor::edges` takes for each.
+/// Returns the edges under the held tables for the LID of `held`, and the edges under the next tables for the LID of
+/// `next`. Takes the time that `LidCursor::edges` takes for each.
 pub(crate) fn columns_of(
     alloc: Global,
     held: &LidCursor,
@@ -50,10 +50,11 @@ pub(crate) fn columns_of(
 }
 
 /// Records in `waits` that a channel follows another if packets for the LID of `columns` take the two in this order,
-/// each by the held or by the next table. `before` has the columns of an earlier LID, whose channels must be recorded
-/// already. Equal columns are not added again. `waits` must have 256 channels for each vertex of each column, fewer
-/// than 2^64 in all. Takes time linear in the number of switches. If it is not recorded yet that a switch's channel is
-/// followed by the next one, also takes time linear in the number of channels that are recorded to follow it.
+/// each under the held or the next tables. `before` has the columns of an earlier LID, whose channels must be
+/// recorded already. Equal columns are not added again. `waits` must have 256 channels for each vertex of each
+/// column, fewer than 2^64 in all. Takes time linear in the number of switches. If it is not recorded yet that a
+/// switch's channel is followed by the next one, also takes time linear in the number of channels that are recorded
+/// to follow it.
 pub(crate) fn add_step(
     waits: &mut Waits,
     before: &Columns,
@@ -74,8 +75,8 @@ pub(crate) fn add_step(
     add_all(waits, &columns.held, &columns.next)
 }
 
-/// Records in `waits` that a channel follows another if packets take the two in this order, each by `held` or by
-/// `next`. `waits` must have 256 channels for each vertex of each column, fewer than 2^64 in all.
+/// Records in `waits` that a channel follows another if packets take the two in this order, each along an edge of
+/// `held` or of `next`. `waits` must have 256 channels for each vertex of each column, fewer than 2^64 in all.
 fn add_all(
     waits: &mut Waits,
     held: &[Option<Edge>],

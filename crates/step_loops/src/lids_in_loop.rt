@@ -1,8 +1,8 @@
 //! The LIDs for which packets wait in a credit loop of a step.
 ghost use Rattle.std.specs.Prelude.{◌≡◌, ◌↔◌, IfOk, IsTrue, length, replicate};
 ghost use Rattle.fact_store.specs.View.{cells_of};
-ghost use Rattle.audit_channels.specs.Columns.{number_of};
-ghost use Rattle.step_loops.specs.LoopLids.{AreLoopLids, AreNoted, IsNoted, TakesFrom, TakesHere, are_known, turned};
+ghost use Rattle.audit_channels.specs.Column.{number_of};
+ghost use Rattle.step_loops.specs.LidsInLoop.{AreLoopLids, AreNoted, IsNoted, TakesFrom, TakesHere, are_known, turned};
 ghost use Rattle.step_loops.specs.StepOrder.{WaitInCycle};
 
 use crate::across::columns_of;
@@ -14,9 +14,9 @@ use smp_bytes::Lid;
 use std::alloc::{AllocError, Global};
 
 /// Returns, for each channel of the credit loop `cycle` of a step, the least LID for which packets that hold the
-/// channel wait for the next one. After the last channel comes the first. Packets may take each of the two channels by
-/// the held or by the next tables. `held` and `next` must have the same facts, and `cycle` must be a credit loop of
-/// the step. Goes through the LIDs until each channel has one. For each LID, takes time linear in the number of
+/// channel wait for the next one. After the last channel comes the first. Packets may take each of the two channels
+/// under the held or the next tables. `held` and `next` must have the same facts, and `cycle` must be a credit loop
+/// of the step. Goes through the LIDs until each channel has one. For each LID, takes time linear in the number of
 /// switches and in the number of channels.
 pub fn loop_lids(
     alloc: Global,

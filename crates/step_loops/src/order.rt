@@ -10,7 +10,7 @@ use packet_walks::{LidCursor, Network};
 use smp_bytes::Lid;
 use std::alloc::{AllocError, Global};
 
-/// Returns numbers of channels that rise along the route of every packet, by any mixtures of the held and the next
+/// Returns numbers of channels that rise along the route of every packet, under any mixtures of the held and the next
 /// tables. If there are no such numbers, returns a shortest credit loop of some mixtures. Channels are numbered as in
 /// `audit_channels::channel_order`. `held` and `next` must have the same facts. Takes the time that `channel_order`
 /// takes for both tables together, up to a constant factor.
@@ -27,7 +27,7 @@ pub fn step_order(alloc: Global, held: &Network, next: &Network) -> Result<Chann
     Ok(found)
 }
 
-/// Returns, for each channel, the channels that packets take next, each of the two by the held or by the next tables.
+/// Returns, for each channel, the channels that packets take next, each of the two under the held or the next tables.
 /// `held` and `next` must have the same facts.
 fn waits(alloc: Global, held: &Network, next: &Network) -> Result<Waits, AllocError>
     requires facts { next.now.facts ≡ held.now.facts }

@@ -4,7 +4,7 @@ use Rattle.std.proofs.lemmas.Bool.{and_parts}
 use Rattle.std.specs.Prelude.{Option, None, Some, is_some, option_and_then}
 use Rattle.reply_facts.specs.Known.{cap_of}
 use Rattle.subnet_view.specs.Reading.{Cells, is_switch_node, is_usable, is_port_of, is_up}
-use Rattle.subnet_view.specs.EndPorts.{is_end_port}
+use Rattle.subnet_view.specs.EndPort.{is_end_port}
 use Rattle.subnet_view.specs.Wires.{across, is_wire_end, IsAttached, AttachedLaw}
 use Rattle.subnet_view.proofs.UsableSwitches.{usable_law}
 use Rattle.subnet_view.proofs.WireEnds.{linked}

@@ -16,7 +16,7 @@ use Rattle.fact_store.proofs.Entries.{cell_is_found, cells_in_order}
 use Rattle.reply_facts.proofs.Keys.{key_total, key_exact}
 use Rattle.subnet_view.specs.Reading.{Cells, is_up}
 use Rattle.subnet_view.specs.Reading.{is_switch_node, port_count_of, is_usable, is_port_of, usable_guid, switches}
-use Rattle.subnet_view.specs.EndPorts.{is_end_port_number, is_end_port, guid_and_port, in_order, end_ports}
+use Rattle.subnet_view.specs.EndPort.{is_end_port_number, is_end_port, guid_and_port, in_order, end_ports}
 use Rattle.subnet_view.specs.Wires.{is_wire_end, is_at, is_wire, across, attached}
 
 -- what a port claims

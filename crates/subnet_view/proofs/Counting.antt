@@ -4,7 +4,7 @@ use Rattle.std.specs.Prelude.{Option, None, Some, is_some}
 use Rattle.std.specs.List.{cons_option, filter_map}
 use Rattle.std.proofs.lemmas.Bool.{cond_both}
 use Rattle.subnet_view.specs.declared.end_port.EndPort.{EndPort}
-use Rattle.subnet_view.specs.EndPorts.{comes_before, in_order, put_in_order}
+use Rattle.subnet_view.specs.EndPort.{comes_before, in_order, put_in_order}
 
 pub is_None : {Y : Type 0} (o : Option Y) → is_some o ≡ false → o ≡ None
 is_None None e = refl

@@ -15,7 +15,7 @@ use Rattle.reply_facts.specs.Key.{key_cmp}
 use Rattle.reply_facts.specs.Known.{value_in, guid_in, port_guid_of}
 use Rattle.subnet_view.specs.declared.end_port.EndPort.{EndPort}
 use Rattle.subnet_view.specs.Reading.{Cells}
-use Rattle.subnet_view.specs.EndPorts.{is_end_port_number, is_end_port, guid_and_port, port_cmp, in_order, end_ports, IsEndPort, ComesBefore, EndPortsLaw}
+use Rattle.subnet_view.specs.EndPort.{is_end_port_number, is_end_port, guid_and_port, port_cmp, in_order, end_ports, IsEndPort, ComesBefore, EndPortsLaw}
 use Rattle.subnet_view.proofs.Apart.{contains_map, contains-from_map}
 use Rattle.subnet_view.proofs.EndPortOrder.{Rises, in_order_rises, was_ordered, is_ordered}
 use Rattle.subnet_view.proofs.EndPorts.{found_apart}

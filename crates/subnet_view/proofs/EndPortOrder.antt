@@ -15,7 +15,7 @@ use Rattle.std.proofs.lemmas.Map.Keys.{IsDistinct-IsPermutation}
 use Rattle.reply_facts.proofs.Keys.{equal_from_test}
 use Rattle.std.proofs.lemmas.List.Sorted.{Contains-permutation, IsPermutation-sym, ranks_by, sorted_far}
 use Rattle.subnet_view.specs.declared.end_port.EndPort.{EndPort}
-use Rattle.subnet_view.specs.EndPorts.{port_numbers, port_cmp, comes_before, put_in_order, in_order}
+use Rattle.subnet_view.specs.EndPort.{port_numbers, port_cmp, comes_before, put_in_order, in_order}
 use Rattle.subnet_view.proofs.Apart.{Apart}
 use Rattle.subnet_view.proofs.Members.{contains_here, contains_later, contains_cases, contains_none, contains_as, contains_first}
 

@@ -16,7 +16,7 @@ use Rattle.fact_store.proofs.Entries.{cells_in_order}
 use Rattle.subnet_view.specs.declared.end_port.EndPort.{EndPort}
 use Rattle.reply_facts.specs.Known.{port_guid_of}
 use Rattle.subnet_view.specs.Reading.{Cells}
-use Rattle.subnet_view.specs.EndPorts.{is_end_port_number, guid_and_port, comes_before, put_in_order, in_order, end_ports}
+use Rattle.subnet_view.specs.EndPort.{is_end_port_number, guid_and_port, comes_before, put_in_order, in_order, end_ports}
 use Rattle.subnet_view.proofs.Apart.{Apart, apart-from_map}
 use Rattle.reply_facts.proofs.Keys.{key_total}
 use Rattle.subnet_view.proofs.Members.{contains_here, contains_later, contains_cases, contains_none, contains_as, contains_first}

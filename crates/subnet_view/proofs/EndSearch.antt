@@ -1,15 +1,13 @@
 -- What a search finds among the ports that can have a wire.
 use Rattle.std.proofs.Common.{◌≡◌, ℕ, ◌+◌, ◌<◌, List, [], ◌∷◌, Bool, true, false, cond, get_or, length, inl, inr, refl, sym, ap, ◌∙◌, subst, arith}
-use Rattle.std.proofs.lemmas.Cmp.{nat_cmp_total, on_total, then_total}
 use Rattle.std.proofs.lemmas.List.Elements.{Contains-get_or}
 use Rattle.std.proofs.lemmas.List.Kept.{AllPairs-cons}
 use Rattle.std.proofs.lemmas.List.Sorted.{searchable_from_sorted}
-use Rattle.std.proofs.lemmas.Map.Lookups.{exact_pairs}
 use Rattle.std.proofs.lemmas.Bool.{cases_lt}
 use Rattle.std.specs.Prelude.{T, Contains, Option, None, Some, option_map}
 use Rattle.std.specs.Result.{result_ok}
-use Rattle.std.specs.Cmp.{IsTotalOrder, tied_itself}
-use Rattle.std.specs.FinMap.{find, is_sorted, nat_cmp-IsAntisymmetric}
+use Rattle.std.specs.Cmp.{tied_itself}
+use Rattle.std.specs.FinMap.{find, is_sorted}
 use Rattle.std.specs.List.{filter_map, cons_option, AllPairs}
 use Rattle.std.specs.List.Sorted.{IsBinarySearchResult, IsNonDecreasingBy, IsPartitionPoint, IsSearchInRange, IsSortedBy}
 use Rattle.std.specs.declared.cmp.Ordering.{Ordering}
@@ -17,6 +15,8 @@ use Rattle.std.specs.declared.cmp.Ordering.TheVariants.{Less, Equal, Greater}
 use Rattle.std.specs.declared.result.Result.{Result}
 use Rattle.std.specs.declared.result.Result.TheVariants.{Ok, Err}
 use Rattle.std.specs.Ordering.{is_lt, nat_cmp, ordering_index, ordering_reverse, ordering_then}
+use Rattle.smp_bytes.specs.Ports.{node_port_cmp}
+use Rattle.smp_bytes.proofs.NodePorts.{node_port_exact, node_port_total}
 use Rattle.fact_join.specs.declared.cell.Cell.{Cell}
 use Rattle.reply_facts.specs.declared.key.Key.{Key}
 use Rattle.reply_facts.specs.declared.key.Key.TheVariants.{Node, PortGuid, Link, Port, Claim, Cap}
@@ -34,13 +34,6 @@ use Rattle.subnet_view.proofs.Taken.{taken_from, is_taken, found_in, all_from}
 -- a port with another
 abbrev End : Type 0
 End = (ℕ × ℕ) × (ℕ × ℕ)
-
--- the order of nodes and ports
-abbrev pub node_port_cmp : ℕ × ℕ → ℕ × ℕ → Ordering
-node_port_cmp a b = ordering_then (nat_cmp a.0 b.0) (nat_cmp a.1 b.1)
-
-node_port_total : IsTotalOrder node_port_cmp
-node_port_total = then_total (on_total (λ (x : ℕ × ℕ). x.0) nat_cmp_total) (on_total (λ (x : ℕ × ℕ). x.1) nat_cmp_total)
 
 -- what is in the list, and what is not ----------------------------------------------------
 
@@ -143,7 +136,7 @@ module _ (facts : Facts) (ends : List End) (g p : ℕ) (are : ends ≡ wire_ends
       → Some (get_or ends i d).1 ≡ end_link (cells_of facts) g p
   link_at i d within tied =
       let e = get_or ends i d in
-      let same : e.0 ≡ (g, p) = exact_pairs nat_cmp nat_cmp nat_cmp-IsAntisymmetric nat_cmp-IsAntisymmetric e.0 (g, p) tied in
+      let same : e.0 ≡ (g, p) = node_port_exact e.0 (g, p) tied in
       sym (sym (ap (λ (x : ℕ × ℕ). end_link (cells_of facts) x.0 x.1) same)
       ∙ listed_end (cells_of facts) e (subst (λ (es : List End). Contains es e) are (Contains-get_or ends i d within)))
 

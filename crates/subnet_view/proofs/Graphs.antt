@@ -12,7 +12,7 @@ use Rattle.port_graph.specs.declared.edge.Edge.{Edge}
 use Rattle.port_graph.proofs.Lists.{contains_map, contains_filter_map, contains-from_filter_map}
 use Rattle.reply_facts.specs.Known.{cap_of}
 use Rattle.subnet_view.specs.Reading.{Cells, is_switch_node, port_count_of, is_usable, is_up, is_port_of, switches}
-use Rattle.subnet_view.specs.EndPorts.{is_end_port}
+use Rattle.subnet_view.specs.EndPort.{is_end_port}
 use Rattle.subnet_view.specs.Wires.{across, is_wire_end}
 use Rattle.subnet_view.specs.Graph.{edge_at, edges_of, graph_of, edges_at, neighbors}
 use Rattle.subnet_view.specs.GraphLaws.{GraphLaw, EdgeLaw}

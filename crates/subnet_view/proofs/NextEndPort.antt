@@ -12,8 +12,8 @@ use Rattle.reply_facts.specs.declared.value.Value.{Value}
 use Rattle.fact_store.specs.View.{cells_of, Facts}
 use Rattle.subnet_view.specs.declared.end_port.EndPort.{EndPort}
 use Rattle.subnet_view.specs.Reading.{Cells}
-use Rattle.subnet_view.specs.EndPorts.{comes_before, guid_and_port, in_order, port_cmp, ports_after}
-use Rattle.subnet_view.specs.NextEndPort.{is_after, nearer}
+use Rattle.subnet_view.specs.EndPort.{comes_before, guid_and_port, in_order, port_cmp, ports_after}
+use Rattle.subnet_view.specs.EndPortAfter.{is_after, nearer}
 use Rattle.subnet_view.proofs.Apart.{Apart, before_apart}
 use Rattle.subnet_view.proofs.EndPortOrder.{Rises, port_total, in_order_rises, was_ordered, is_ordered, rises_once, less_from_test, from_not_less}
 use Rattle.subnet_view.proofs.EndPorts.{found_end_ports, found_apart}

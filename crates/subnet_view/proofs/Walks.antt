@@ -13,7 +13,7 @@ use Rattle.fact_store.proofs.Entries.{cell_is_found}
 use Rattle.fact_store.proofs.Orders.{contained_get}
 use Rattle.subnet_view.specs.Reading.{Cells, is_switch_in, usable_guid}
 use Rattle.subnet_view.specs.declared.end_port.EndPort.{EndPort}
-use Rattle.subnet_view.specs.EndPorts.{guid_and_port, is_end_port_number}
+use Rattle.subnet_view.specs.EndPort.{guid_and_port, is_end_port_number}
 use Rattle.subnet_view.proofs.Members.{contains_here, contains_later, contains_in}
 
 -- what stands between two lists

@@ -7,7 +7,7 @@ use Rattle.smp_bytes.specs.declared.node_type.NodeType.{NodeType}
 use Rattle.smp_bytes.specs.NodeType.{is_switch}
 use Rattle.reply_facts.specs.Known.{node_of, port_guid_of, cap_of}
 use Rattle.subnet_view.specs.Reading.{Cells, is_up, is_switch_node, port_count_of, is_usable, is_port_of}
-use Rattle.subnet_view.specs.EndPorts.{is_end_port, IsNodeWith, IsEndPort, EndPortLaw}
+use Rattle.subnet_view.specs.EndPort.{is_end_port, IsNodeWith, IsEndPort, EndPortLaw}
 use Rattle.subnet_view.specs.Wires.{is_wire_end, is_at, CanHaveWire, WireLaw}
 use Rattle.subnet_view.proofs.WireEnds.{same_port, at_itself, linked, across_from}
 

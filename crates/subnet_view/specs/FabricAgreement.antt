@@ -9,7 +9,7 @@ use Rattle.fabric_model.specs.FabricWalks as walks
 use Rattle.fabric_model.specs.FabricWalks.{vertex_of}
 use Rattle.reply_facts.specs.Known.{node_of, port_guid_of, cap_of}
 use Rattle.subnet_view.specs.Reading.{Cells, IsUsable}
-use Rattle.subnet_view.specs.EndPorts.{IsEndPort}
+use Rattle.subnet_view.specs.EndPort.{IsEndPort}
 use Rattle.subnet_view.specs.Wires.{IsWire}
 
 -- a part of a fabric, as a set of vertices. Examples are the whole fabric, and everything that is joined to one vertex

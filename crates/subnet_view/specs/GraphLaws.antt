@@ -19,11 +19,11 @@ pub record IsGraph (graph : List SwitchEdges) : Type 0 where
   pub leads_to_switch : (a b : ℕ) → Contains (neighbors graph a) b → IsSwitch graph b
   pub both_ways : (a b : ℕ) → Contains (neighbors graph a) b → Contains (neighbors graph b) a
 
--- for the cells of any facts, `graph_of` gives a graph (`IsGraph`)
+-- for the cells of any set of facts, `graph_of` gives a graph (`IsGraph`)
 abbrev pub GraphLaw : Type 0
 GraphLaw = (facts : Facts) → IsGraph (graph_of (cells_of facts))
 
--- the switches of the graph of facts are exactly their usable switches
+-- for any set of facts, the switches of the graph are exactly the usable switches
 abbrev pub SwitchLaw : Type 0
 SwitchLaw = (facts : Facts) (g : ℕ) → IsSwitch (graph_of (cells_of facts)) g ↔ IsTrue (is_usable (cells_of facts) g)
 
@@ -31,7 +31,7 @@ SwitchLaw = (facts : Facts) (g : ℕ) → IsSwitch (graph_of (cells_of facts)) g
 abbrev pub IsSwitchWire : Facts → ℕ → ℕ → ℕ → Type 0
 IsSwitchWire facts g p h = IsTrue (is_usable (cells_of facts) h) × ((q : ℕ) × IsWire (cells_of facts) g p h q)
 
--- the edges of a usable switch in the graph of facts are exactly its wires to usable switches
+-- for any set of facts, the edges of a usable switch in the graph are exactly its wires to usable switches
 abbrev pub EdgeLaw : Type 0
 EdgeLaw = (facts : Facts) (g p h : ℕ) → IsTrue (is_usable (cells_of facts) g)
     → Contains (edges_at (graph_of (cells_of facts)) g) (record { port = p; to = h }) ↔ IsSwitchWire facts g p h

@@ -1,10 +1,10 @@
 pub mod CellCursor
 pub mod Components
-pub mod EndPorts
+pub mod EndPort
 pub mod FabricAgreement
 pub mod Graph
 pub mod GraphLaws
-pub mod NextEndPort
+pub mod EndPortAfter
 pub mod Reading
 pub mod RootSearch
 pub mod Routing

@@ -47,7 +47,7 @@ abbrev pub usable_guid : Cells → Key × Cell Value → Option ℕ
 usable_guid cells ((Node g), c) = if is_usable cells g then Some g else None
 usable_guid cells (_, c) = None
 
--- the usable switches of facts, in ascending order of GUID
+-- the usable switches of a set of facts, in ascending order of GUID
 abbrev pub switches : Cells → List ℕ
 switches cells = filter_map (usable_guid cells) cells
 

@@ -31,13 +31,13 @@ FollowsRule rule lid t s (e ∷ es) =
 abbrev pub stops : ℕ → List Edge → List ℕ
 stops s es = s ∷ map (λ e. e.to) es
 
--- the numbers of the channels that the edges take, from switch `s` on
+-- the numbers of the channels that the edges take, starting at switch `s`
 abbrev pub numbers_along : (ℕ → ℕ → ℕ) → ℕ → List Edge → List ℕ
 numbers_along number s [] = []
 numbers_along number s (e ∷ es) = number s e.to ∷ numbers_along number e.to es
 
--- `rule` leads a packet for the LID `lid` from switch `s` to switch `t` over `n` edges of the graph. The packet passes
--- no switch twice, and the numbers of the channels that it takes rise
+-- `rule` leads a packet for the LID `lid` from switch `s` to switch `t` along `n` edges of the graph. The packet
+-- passes no switch twice, and the numbers of the channels that it takes rise
 pub record Leads (graph : List SwitchEdges) (rule : Routing) (lid s t n : ℕ) : Type 0 where
   pub edges : List Edge
   pub by_rule : FollowsRule rule lid t s edges
@@ -47,7 +47,7 @@ pub record Leads (graph : List SwitchEdges) (rule : Routing) (lid s t n : ℕ) :
   pub channels_rise : IsStrictlyIncreasing (numbers_along rule.channel s edges)
 
 -- `rule` is a rule of routing on the graph. Each switch has a cost to each switch of its component. If a switch has a
--- cost to a target, `rule` leads to the target over as many wires, for each LID
+-- cost to a target, `rule` leads to the target along as many wires, for each LID
 pub record IsRouting (graph : List SwitchEdges) (rule : Routing) : Type 0 where
   pub reaches : (s t : ℕ) → IsSwitch graph s → IsSwitch graph t → in_one_component graph s t ≡ true → (n : ℕ)
       × (rule.cost s t ≡ Some n)

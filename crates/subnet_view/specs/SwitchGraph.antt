@@ -1,4 +1,4 @@
--- Switches by index, in the order of their GUIDs, with edges that lead to indices.
+-- Switches by index, in ascending order of GUID, with edges that lead to indices.
 use Rattle.std.specs.Prelude.{◌≡◌, ◌<◌, ℕ, Option, MatchOption, List, [], ◌∷◌, map, length, slice_index, slice_index_or, Contains}
 use Rattle.port_graph.specs.declared.edge.Edge.{Edge}
 use Rattle.port_graph.specs.Heads.{LeadToVertices}

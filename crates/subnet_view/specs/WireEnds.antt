@@ -36,7 +36,7 @@ wire_ends cells = filter_map (wire_end cells) cells
 abbrev pub is_pair : ℕ × ℕ → ℕ × ℕ → Option (ℕ × ℕ) → Bool
 is_pair near far back = not (is_at near.0 near.1 far) && option_map_or (is_at near.0 near.1) back false
 
--- by what a reader has left: -----------------------------------------------------------
+-- according to what a reader has left: -----------------------------------------------------------
 
 -- the number of ports in `node`, which is what is known of a node; 0 if nothing is known
 abbrev pub count_of : Option (NodeType × ℕ) → ℕ

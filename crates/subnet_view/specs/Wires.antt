@@ -6,7 +6,7 @@ use Rattle.smp_bytes.specs.declared.node_type.NodeType.{NodeType}
 use Rattle.smp_bytes.specs.NodeType.{is_switch}
 use Rattle.reply_facts.specs.Known.{port_guid_of, link_of, cap_of}
 use Rattle.subnet_view.specs.Reading.{Cells, is_up, is_switch_node, is_usable, is_port_of, IsUsable}
-use Rattle.subnet_view.specs.EndPorts.{is_end_port, IsNodeWith}
+use Rattle.subnet_view.specs.EndPort.{is_end_port, IsNodeWith}
 use Rattle.subnet_view.specs.declared.end_port.EndPort.{EndPort}
 
 -- whether port `p` of node `g` can have a wire. The port must be up, `p` must be from 1 to the node's number of ports,

@@ -20,7 +20,7 @@ pub(crate) struct CellCursor<'s> {
 
 impl<'s> Model for CellCursor<'s> {
     ghost use Rattle.std.specs.List.{cons_option};
-    ghost use Rattle.fact_store.specs.Walk.{cells_left};
+    ghost use Rattle.fact_store.specs.Iter.{cells_left};
     ghost use Rattle.subnet_view.specs.CellCursor.{AreLeft};
     ghost use Rattle.subnet_view.specs.Reading.{Cells as ViewCells};
 

@@ -2,8 +2,8 @@ ghost use Rattle.std.specs.Prelude.{◌≡◌, Some, length, map, IfOk};
 ghost use Rattle.std.specs.List.{filter_map};
 ghost use Rattle.std.specs.List.Sorted.{IsPermutation, IsSorted};
 ghost use Rattle.fact_store.specs.View.{cell_for, cells_of};
-ghost use Rattle.subnet_view.specs.EndPorts.{is_end_port, is_end_port_number, guid_and_port, port_numbers};
-ghost use Rattle.subnet_view.specs.EndPorts.{port_cmp, in_order, end_ports};
+ghost use Rattle.subnet_view.specs.EndPort.{is_end_port, is_end_port_number, guid_and_port, port_numbers};
+ghost use Rattle.subnet_view.specs.EndPort.{port_cmp, in_order, end_ports};
 
 use crate::reading::guid_said;
 use fact_store::{Key, Refused, Sighting, Store};

@@ -1,5 +1,5 @@
 //! What the readers of a view return, and what the graph of switches is.
-ghost use Rattle.subnet_view.specs.EndPorts.{EndPortLaw, EndPortsLaw};
+ghost use Rattle.subnet_view.specs.EndPort.{EndPortLaw, EndPortsLaw};
 ghost use Rattle.subnet_view.specs.GraphLaws.{GraphLaw, SwitchLaw, EdgeLaw};
 ghost use Rattle.subnet_view.specs.Reading.{UsableLaw, SwitchesLaw};
 ghost use Rattle.subnet_view.specs.Wires.{WireLaw, WiresGoBothWays, AttachedLaw};
@@ -41,8 +41,8 @@ pub fn attachment_is_in_words()
     ensures { AttachedLaw }
 {}
 
-/// Facts give a graph. Its switches are in ascending order of GUID. The edges of each switch are in ascending order of
-/// port, and each edge leads to a switch that has an edge back.
+/// Each set of facts gives a graph. Its switches are in ascending order of GUID. The edges of each switch are in
+/// ascending order of port, and each edge leads to a switch that has an edge back.
 pub fn facts_give_a_graph()
     ensures { GraphLaw }
 {}

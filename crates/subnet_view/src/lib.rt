@@ -3,7 +3,7 @@
 
 mod cell_cursor;
 mod end_port;
-mod end_port_walk;
+mod end_port_after;
 pub mod laws;
 mod port_reader;
 mod reading;
@@ -14,7 +14,7 @@ mod wire_lookup;
 mod wire_table;
 
 pub use end_port::{EndPort, count_end_ports, end_ports, is_end_port};
-pub use end_port_walk::next_end_port;
+pub use end_port_after::next_end_port;
 pub use reading::port_count;
 pub use switch::{is_usable, switches, usable_guid};
 pub use switch_graph::SwitchGraph;

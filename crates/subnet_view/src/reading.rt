@@ -38,7 +38,7 @@ pub(crate) fn is_switch_said(sighting: &Sighting) -> bool
     matches!(sighting.value(), Some(Value::Kind(NodeType::Switch, _)))
 }
 
-/// Returns the GUID that is the value of `sighting`, or `None` if the value is disputed or is not a GUID.
+/// Returns the value of `sighting` if it is a GUID. Returns `None` if the value is of another kind or disputed.
 pub(crate) fn guid_said(sighting: &Sighting) -> Option<Guid>
     ensures { result ≡ guid_in (value_in (Some sighting.now.1)) }
 {
@@ -48,8 +48,8 @@ pub(crate) fn guid_said(sighting: &Sighting) -> Option<Guid>
     }
 }
 
-/// Returns the far end of a link that is the value of `sighting`, or `None` if the value is disputed or is not a far
-/// end.
+/// Returns the value of `sighting` if it is the far end of a link. Returns `None` if the value is of another kind or
+/// disputed.
 pub(crate) fn peer_said(sighting: &Sighting) -> Option<(Guid, PortNum)>
     ensures { result ≡ peer_in (value_in (Some sighting.now.1)) }
 {

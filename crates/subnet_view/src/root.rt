@@ -8,8 +8,8 @@ use crate::switch_graph::SwitchGraph;
 use smp_bytes::Guid;
 use std::alloc::{AllocError, Global};
 
-/// Returns the root of the component of each switch. A switch to which no walk leads from an earlier switch is the root
-/// of its component. Does a breadth-first search for each component.
+/// Returns the root of the component of each switch, in ascending order of the switches' GUIDs. A switch to which no
+/// walk leads from an earlier switch is the root of its component. Does a breadth-first search for each component.
 pub(crate) fn roots(alloc: Global, graph: &SwitchGraph) -> Result<Vec<Option<Guid>>, AllocError>
     ensures { IfOk result (λ roots. roots.items ≡ map (root_of graph.now) (guids_of graph.now)) }
 {

@@ -17,6 +17,7 @@ pub fn is_usable(store: &Store, node: Guid) -> bool
 }
 
 /// Returns the usable switches, in ascending order of GUID. Walks the cells, with a binary search for each switch.
+/// Returns an error if memory runs out.
 pub fn switches(alloc: Global, store: &Store) -> Result<Vec<Guid>, Refused>
     ensures { IfOk result (λ found. found.items ≡ switches (cells_of store.now)) }
 {

@@ -100,7 +100,8 @@ impl SwitchGraph {
         self.edges.at(index)
     }
 
-    /// Returns the edges of each switch, in the order of the switches' GUIDs. The edges lead to indices of switches.
+    /// Returns the edges of each switch, in ascending order of the switches' GUIDs. The edges lead to indices of
+    /// switches.
     pub fn adjacency(&self) -> &Adjacency
         ensures edges { AreEdgesByIndex self.now result.now }
         ensures is_graph { IsGraph self.now }
@@ -108,8 +109,9 @@ impl SwitchGraph {
         &self.edges
     }
 
-    /// Returns for each switch, in ascending order of GUID, its distance from the switch at index `from`. There must be
-    /// a switch at this index. The distance is `None` if no walk leads to the switch. Does a breadth-first search.
+    /// Returns for each switch, in ascending order of GUID, its distance from the switch at index `from`. There must
+    /// be a switch at this index. The distance is `None` if no walk leads to the switch. Does a breadth-first search.
+    /// Returns an error if memory runs out.
     pub fn distances(&self, alloc: Global, from: usize) -> Result<Vec<Option<usize>>, AllocError>
         requires { from < length self.now }
         ensures { IfOk result (λ found. found.items ≡ distances_from self.now from) }
@@ -118,7 +120,7 @@ impl SwitchGraph {
     }
 
     /// Returns for each switch, in ascending order of GUID, the root of its component, which is the least GUID in the
-    /// component. Does a breadth-first search for each component.
+    /// component. Does a breadth-first search for each component. Returns an error if memory runs out.
     pub fn roots(&self, alloc: Global) -> Result<Vec<Option<Guid>>, AllocError>
         ensures { IfOk result (λ roots. roots.items ≡ map (root_of self.now) (guids_of self.now)) }
     {

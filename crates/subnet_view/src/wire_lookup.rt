@@ -6,10 +6,10 @@ use crate::reading::{is_switch, is_up};
 use fact_store::Store;
 use smp_bytes::{Guid, NodeType, PortNum};
 
-/// Returns the node and the port at the other end of the wire in `port` of `node`, or `None` if no wire is in the port.
-/// A wire joins two different ports if both can have a wire and their links name each other. A port can have a wire if
-/// it is up, and is either a port from 1 on of a usable switch or an end port of another node. Does at most eight
-/// binary searches among the cells.
+/// Returns the node and the port at the other end of the wire in `port` of `node`, or `None` if no wire is in the
+/// port. A wire joins two different ports if both can have a wire and their links name each other. A port can have a
+/// wire if it is up, has a number from 1 to its node's number of ports, and is a port of a usable switch or an end
+/// port of another node. Does at most eight binary searches among the cells.
 pub fn wire(store: &Store, node: Guid, port: PortNum) -> Option<(Guid, PortNum)>
     ensures { result ≡ across (cells_of store.now) node port }
 {

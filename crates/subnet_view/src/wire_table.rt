@@ -10,7 +10,7 @@ use smp_bytes::{Guid, PortNum};
 use std::alloc::{AllocError, Global};
 use std::marker::Model;
 
-/// The wires of a view, found in one walk over its cells.
+/// The wires of a view, found in one walk through the cells of the view.
 #[derive(Drop)]
 pub struct Wires<'s> {
     store: &'s Store,

@@ -4,9 +4,9 @@ use Rattle.reply_facts.specs.declared.report.Context.{Context}
 use Rattle.reply_facts.specs.declared.report.Context.TheVariants.{About}
 use Rattle.smp_bytes.specs.NodeType.{is_switch}
 use Rattle.std.proofs.lemmas.Bool.{cond-true, cond-false}
-use Rattle.sweep.specs.declared.request.Question.TheVariants as ask
+use Rattle.sweep.specs.declared.question.Question.TheVariants as ask
 use Rattle.sweep.specs.declared.vertex.Vertex.{Vertex}
-use Rattle.sweep.specs.Finding.{port_questions, vertex_questions}
+use Rattle.sweep.specs.Questions.{port_questions, vertex_questions}
 use Rattle.sweep.specs.SweepRequests.{HasAsked, SweepRequests}
 use Rattle.sweep.specs.Sweep.{Asking, numbered}
 

@@ -9,7 +9,8 @@ use Rattle.smp_bytes.specs.Packet.{fault_of}
 use Rattle.sweep.specs.declared.answer.Answer.{Answer}
 use Rattle.sweep.specs.declared.fault.SweepFault.{SweepFault}
 use Rattle.sweep.specs.declared.request.Request.{Request}
-use Rattle.sweep.specs.Finding.{finding, questions}
+use Rattle.sweep.specs.Finding.{finding}
+use Rattle.sweep.specs.Questions.{questions}
 use Rattle.sweep.specs.Replies.{belongs, judged, judged_as, judged_for, after_reply_to, request_of}
 use Rattle.sweep.specs.Runs.{EachCounts, Event, Hears, Sends, TimesOut, after, heard, replies_taken, taken_by, unended}
 use Rattle.sweep.specs.Sweep.{AreRising, Sweep, first_question, numbered, request_with, after_next_request_of, started, after_timeout_of, transaction_of, without_number}

@@ -17,14 +17,15 @@ use Rattle.reply_facts.specs.declared.report_fault.ReportFault.TheVariants as fa
 use Rattle.reply_facts.specs.Report.{about_of, are_ports_in_range, attribute_fault, fits_node_info, kind_fault, may_be_asked_by, node_info_of, or_else, payload_of, packet_fault, report_fault}
 use Rattle.reply_facts.specs.Sighting.{is_cabled_port}
 use Rattle.sweep.specs.declared.vertex.Vertex.{Vertex}
-use Rattle.sweep.specs.declared.request.Question.{Question}
-use Rattle.sweep.specs.declared.request.Question.TheVariants as ask
+use Rattle.sweep.specs.declared.question.Question.{Question}
+use Rattle.sweep.specs.declared.question.Question.TheVariants as ask
 use Rattle.sweep.specs.declared.request.Request.{Request}
 use Rattle.sweep.specs.declared.finding.Finding.TheVariants.{Nothing, NewVertex}
 use Rattle.sweep.specs.declared.finding.Onward.{Onward}
 use Rattle.sweep.specs.declared.finding.PortFinding.{PortFinding}
 use Rattle.sweep.specs.declared.finding.Onward.TheVariants.{Stays, Leads, TooFar}
-use Rattle.sweep.specs.Finding.{IsWithinReach, finding, finding_of, found_again, found_anew, leads_on, manager_questions, node_found_of, onward_questions, port_finding_of, port_found, port_found_questions, questions, vertex_of, vertex_questions}
+use Rattle.sweep.specs.Finding.{IsWithinReach, finding, finding_of, found_again, found_anew, leads_on, node_found_of, port_finding_of, port_found, vertex_of}
+use Rattle.sweep.specs.Questions.{manager_questions, onward_questions, port_found_questions, questions, vertex_questions}
 use Rattle.sweep.specs.Replies.{fault_by, fault_for, is_for, report_for}
 use Rattle.sweep.specs.Sweep.{Asking, Sweep, attribute_asked, vertex_at, first_vertex}
 use Rattle.sweep.proofs.Asked.{length_adapter, length_switch}

@@ -9,10 +9,11 @@ use Rattle.reply_facts.specs.declared.report_fault.ReportFault.{ReportFault}
 use Rattle.reply_facts.specs.declared.report_fault.ReportFault.TheVariants.{Generation, Smp}
 use Rattle.reply_facts.specs.Report.{answer_fault, attribute_fault, or_else, packet_fault, reply_fault, report_fault, sightings_by_packet}
 use Rattle.sweep.specs.declared.fault.SweepFault.TheVariants.{NotOutstanding, Bad, SequenceSpent}
-use Rattle.sweep.specs.declared.request.Question.{Question}
-use Rattle.sweep.specs.declared.request.Question.TheVariants as ask
+use Rattle.sweep.specs.declared.question.Question.{Question}
+use Rattle.sweep.specs.declared.question.Question.TheVariants as ask
 use Rattle.sweep.specs.declared.request.Request.{Request}
-use Rattle.sweep.specs.Finding.{finding, questions}
+use Rattle.sweep.specs.Finding.{finding}
+use Rattle.sweep.specs.Questions.{questions}
 use Rattle.sweep.specs.Replies.{answer_by, answer_for, belongs, fault_by, fault_for, is_for, is_spent, judged, judged_as, judged_by, judged_for, report_for, request_of, sightings_by}
 use Rattle.sweep.specs.Sweep.{Sweep, transaction_of}
 use Rattle.sweep.proofs.Few.{few_questions}

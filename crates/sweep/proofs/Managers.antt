@@ -8,8 +8,8 @@ use Rattle.reply_facts.specs.declared.report_fault.ReportFault.{ReportFault}
 use Rattle.sweep.specs.declared.answer.Answer.{Answer}
 use Rattle.sweep.specs.declared.fault.SweepFault.{SweepFault}
 use Rattle.sweep.specs.declared.fault.SweepFault.TheVariants.{SequenceSpent}
-use Rattle.sweep.specs.declared.request.Question.{Question}
-use Rattle.sweep.specs.declared.request.Question.TheVariants as ask
+use Rattle.sweep.specs.declared.question.Question.{Question}
+use Rattle.sweep.specs.declared.question.Question.TheVariants as ask
 use Rattle.sweep.specs.declared.request.Request.{Request}
 use Rattle.reply_facts.specs.declared.report.Report.{Report}
 use Rattle.sweep.specs.Replies.{after_reply_to, answer_by, answer_for, belongs, fault_for, is_spent, judged, judged_as, judged_by, judged_for, request_of}

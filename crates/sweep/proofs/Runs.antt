@@ -5,7 +5,8 @@ use Rattle.std.specs.List.{AllByRecursion}
 use Rattle.sweep.specs.declared.answer.Answer.{Answer}
 use Rattle.sweep.specs.declared.fault.SweepFault.{SweepFault}
 use Rattle.sweep.specs.declared.request.Request.{Request}
-use Rattle.sweep.specs.Finding.{finding, questions}
+use Rattle.sweep.specs.Finding.{finding}
+use Rattle.sweep.specs.Questions.{questions}
 use Rattle.request_table.specs.Order.{AreOrdered}
 use Rattle.sweep.specs.Replies.{judged, after_reply_to, request_of}
 use Rattle.sweep.specs.Runs.{Event, Sends, Hears, TimesOut, NumbersRise, first_number, heard, numbers_sent}

@@ -21,7 +21,8 @@ use Rattle.sweep.specs.declared.vertex.SeenState.{SeenState}
 use Rattle.sweep.specs.declared.on_reply.Accepted.{Accepted}
 use Rattle.sweep.specs.declared.request.Request.{Request}
 use Rattle.sweep.specs.Accepting.{IsAccepted}
-use Rattle.sweep.specs.Finding.{one_too_far, questions, too_far_by, with_vertex, with_state, with_state_of}
+use Rattle.sweep.specs.Finding.{one_too_far, too_far_by, with_vertex, with_state, with_state_of}
+use Rattle.sweep.specs.Questions.{questions}
 use Rattle.sweep.specs.Discovered.{Discovered}
 use Rattle.sweep.specs.Images.{Images}
 use Rattle.sweep.specs.Order.{AreInOrder}

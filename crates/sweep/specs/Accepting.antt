@@ -3,7 +3,8 @@ use Rattle.std.specs.Prelude.{◌≡◌, ℕ, ◌+◌, ◌^◌, ◌≤◌, List,
 use Rattle.sweep.specs.declared.on_reply.Accepted.{Accepted}
 use Rattle.sweep.specs.declared.request.Request.{Request}
 use Rattle.sweep.specs.Sweep.{Sweep}
-use Rattle.sweep.specs.Finding.{finding, questions, IsWithinReach}
+use Rattle.sweep.specs.Finding.{finding, IsWithinReach}
+use Rattle.sweep.specs.Questions.{questions}
 use Rattle.sweep.specs.Replies.{judged, request_of, sightings_by}
 
 -- the sweep `s` accepts the reply `packet`. `accepted` has the index, the question and the context of the request that

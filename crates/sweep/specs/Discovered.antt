@@ -1,4 +1,4 @@
--- What a sweep has found, in the order of GUIDs and ports.
+-- What a sweep has found, in ascending order of GUID and port.
 use Rattle.std.specs.Prelude.{ℕ, List}
 use Rattle.sweep.specs.declared.vertex.Vertex.{Vertex}
 use Rattle.sweep.specs.declared.vertex.SeenState.{SeenState}

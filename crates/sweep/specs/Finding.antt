@@ -1,6 +1,6 @@
--- What a reply to a sweep shows, a new vertex or a port's state, and what is asked next. InfiniBand Architecture
--- Specification, Volume 1: subnet management, NodeInfo and PortInfo; topology discovery.
-use Rattle.std.specs.Prelude.{◌≡◌, ℕ, zero, suc, ◌+◌, ◌<◌, Bool, true, false, ◌&&◌, ◌||◌, not, List, [], ◌∷◌, ◌++◌}
+-- What a reply to a sweep shows: a new vertex, or a port's state. InfiniBand Architecture Specification, Volume 1:
+-- subnet management, NodeInfo and PortInfo; topology discovery.
+use Rattle.std.specs.Prelude.{◌≡◌, ℕ, ◌+◌, ◌<◌, Bool, true, false, ◌&&◌, ◌||◌, not, List, [], ◌∷◌}
 use Rattle.std.specs.Prelude.{length, nat_lt, ◌==◌, if◌then◌else◌, Option, Some, None, is_some}
 use Rattle.std.specs.Option.{option_map_or}
 use Rattle.smp_bytes.specs.declared.node_type.NodeType.{NodeType}
@@ -11,11 +11,9 @@ use Rattle.attr_codec.specs.declared.node_info.NodeInfo.{NodeInfo}
 use Rattle.attr_codec.specs.declared.port_state.PortState.{PortState}
 use Rattle.attr_codec.specs.NodeTypeNumber.{type_of_number}
 use Rattle.attr_codec.specs.PortInfo.{port_state, state_of_number, has_manager}
-use Rattle.reply_facts.specs.declared.report.Context.{Context}
-use Rattle.reply_facts.specs.declared.report.Context.TheVariants.{Via, About}
 use Rattle.reply_facts.specs.Report.{about_of, guid_port, is_up_state, node_info_of, payload_of}
-use Rattle.sweep.specs.declared.request.Question.{Question}
-use Rattle.sweep.specs.declared.request.Question.TheVariants as ask
+use Rattle.sweep.specs.declared.question.Question.{Question}
+use Rattle.sweep.specs.declared.question.Question.TheVariants as ask
 use Rattle.sweep.specs.declared.request.Request.{Request}
 use Rattle.sweep.specs.declared.vertex.Vertex.{Vertex}
 use Rattle.sweep.specs.declared.vertex.SeenState.{SeenState}
@@ -25,12 +23,13 @@ use Rattle.sweep.specs.declared.finding.Onward.{Onward}
 use Rattle.sweep.specs.declared.finding.PortFinding.{PortFinding}
 use Rattle.sweep.specs.declared.finding.Onward.TheVariants.{Stays, Leads, TooFar}
 use Rattle.sweep.specs.Order.{placed}
-use Rattle.sweep.specs.Sweep.{Sweep, Asking, asking, first_vertex, vertex_at, vertex_key, state_key}
+use Rattle.sweep.specs.Sweep.{Sweep, asking, first_vertex, vertex_at, vertex_key, state_key}
+use Rattle.sweep.specs.Questions.{questions}
 
 -- by NodeInfo ---------------------------------------------------------------------------------
 
--- the vertex that the NodeInfo `info` over `path` reports, for a node of the type `kind` with `ports` ports. Its port
--- is 0 for a switch, and the port that was reached for another node
+-- the vertex that the NodeInfo `info`, read along `path`, reports, for a node of the type `kind` with `ports` ports.
+-- Its port is 0 for a switch, and the port that was reached for another node
 abbrev pub vertex_of : List ℕ → NodeInfo → NodeType → ℕ → Vertex
 vertex_of path info kind ports =
     record {
@@ -42,25 +41,26 @@ vertex_of path info kind ports =
       path = path;
     }
 
--- what NodeInfo over `path` shows about a node that is new to the sweep: a vertex; nothing if the node's type is
--- None, which stands for a reserved type
+-- what NodeInfo, read along `path`, shows about a node that is new to the sweep: a vertex; nothing if the node's type
+-- is None, which stands for a reserved type
 abbrev pub found_anew : List ℕ → NodeInfo → Option NodeType → Finding
 found_anew path info None = Nothing
 found_anew path info (Some kind) = NewVertex (vertex_of path info kind info.num_ports)
 
--- what NodeInfo over `path` shows about a node whose first vertex is `first`: nothing if the node is a switch, or has
--- a vertex for the port that was reached; else a vertex for that port, with the type and port count of `first`
+-- what NodeInfo, read along `path`, shows about a node whose first vertex is `first`: nothing if the node is a
+-- switch, or has a vertex for the port that was reached; else a vertex for that port, with the type and port count of
+-- `first`
 abbrev pub found_again : Sweep → List ℕ → NodeInfo → Vertex → Finding
 found_again s path info first =
     if is_switch first.kind || is_some (vertex_at s.reached info.node_guid info.local_port_num) then Nothing
     else NewVertex (vertex_of path info first.kind first.ports)
 
--- what NodeInfo over `path` shows, given the node's first vertex, or None if the node is new
+-- what NodeInfo, read along `path`, shows. The last argument is the node's first vertex, or None if the node is new
 abbrev pub node_found_of : Sweep → List ℕ → NodeInfo → Option Vertex → Finding
 node_found_of s path info None = found_anew path info (type_of_number info.node_type)
 node_found_of s path info (Some first) = found_again s path info first
 
--- what NodeInfo over `path` shows: a new vertex, or nothing
+-- what NodeInfo, read along `path`, shows: a new vertex, or nothing
 abbrev pub node_found : Sweep → List ℕ → NodeInfo → Finding
 node_found s path info = node_found_of s path info (first_vertex s.reached info.node_guid)
 
@@ -71,19 +71,20 @@ abbrev pub is_start : List ℕ → Bool
 is_start [] = true
 is_start (port ∷ path) = false
 
--- whether node `guid` is known to be a switch, and `port` is neither 0 nor the port by which the sweep first reached
+-- whether node `guid` is known to be a switch, and `port` is neither 0 nor the port at which the sweep first reached
 -- the node
 abbrev pub is_way_on : Sweep → ℕ → ℕ → Bool
 is_way_on s guid port =
     option_map_or (λ first. is_switch first.kind
     && (not (port == 0) && not (port == first.arrival))) (first_vertex s.reached guid) false
 
--- whether the sweep goes on by `port` of node `guid`, if the port is up: `path` is empty and `port` is the one that the
--- sweep starts from, or `port` is a way on from a switch
+-- whether the sweep goes on through `port` of node `guid` if the port is up: `path` is empty and `port` is the one
+-- that the sweep starts from, or `port` is a way on from a switch (`is_way_on`)
 abbrev pub goes_by : Sweep → List ℕ → ℕ → ℕ → Bool
 goes_by s path guid port = (is_start path && port == s.origin) || is_way_on s guid port
 
--- whether the PortInfo `info` says that the port is up, and the port is one by which the sweep goes on (`goes_by`)
+-- whether the PortInfo `info` says that the port is up, and the port is one through which the sweep goes on
+-- (`goes_by`)
 abbrev pub leads_on : Sweep → List ℕ → ℕ → ℕ → List ℕ → Bool
 leads_on s path guid port info = is_up_state (bits_in port_state info) && goes_by s path guid port
 
@@ -127,7 +128,8 @@ port_found s path (Some guid) port info = port_found_of s path guid port info
 
 -- by any reply -----------------------------------------------------------------------------------
 
--- what the reply `packet` to the request `r` shows, by the given question; SwitchInfo and SMInfo show nothing
+-- what the reply `packet` to the request `r` shows, according to the given question; SwitchInfo and SMInfo show
+-- nothing
 abbrev pub finding_of : Sweep → Request → List ℕ → Question → Finding
 finding_of s r packet ask.Node = node_found s r.path (node_info_of packet)
 finding_of s r packet ask.Switch = Nothing
@@ -138,65 +140,23 @@ finding_of s r packet (ask.Manager guid port) = Nothing
 abbrev pub finding : Sweep → Request → List ℕ → Finding
 finding s r packet = finding_of s r packet r.question
 
--- what is asked next --------------------------------------------------------------------------------
-
--- the questions for PortInfo of some consecutive ports, from `port` on
-abbrev pub port_questions : ℕ → ℕ → List ℕ → Context → List Asking
-port_questions port zero path context = []
-port_questions port (suc more) path context =
-    record { question = ask.Port port; path = path; context = context } ∷ port_questions (port + 1) more path context
-
--- the questions about a new vertex: for a switch, SwitchInfo and PortInfo of its ports from 0 on; for another node,
--- PortInfo of the port that was reached
-abbrev pub vertex_questions : Vertex → List Asking
-vertex_questions v =
-    if is_switch v.kind
-    then record { question = ask.Switch; path = v.path; context = About v.guid }
-    ∷ port_questions 0 (v.ports + 1) v.path (About v.guid)
-    else record { question = ask.Port v.port; path = v.path; context = About v.guid } ∷ []
-
--- the question for SMInfo of the manager at a port, over `path`; none if the manager is not asked
-abbrev pub manager_questions : List ℕ → PortFinding → List Asking
-manager_questions path found =
-    if found.asks_manager
-    then record { question = ask.Manager found.guid found.port; path = path; context = About found.guid } ∷ []
-    else []
-
--- the question for NodeInfo of the node behind a port, over `path` with the port appended; none if the sweep does not
--- go on through the port
-abbrev pub onward_questions : List ℕ → ℕ → ℕ → Onward → List Asking
-onward_questions path guid port Stays = []
-onward_questions path guid port Leads =
-    record { question = ask.Node; path = path ++ port ∷ []; context = Via guid port } ∷ []
-onward_questions path guid port TooFar = []
-
--- the questions that follow from PortInfo of a port: for the manager at the port, and then for the node behind the port
-abbrev pub port_found_questions : List ℕ → PortFinding → List Asking
-port_found_questions path found =
-    manager_questions path found ++ onward_questions path found.guid found.port found.onward
-
--- the questions that follow from a finding over `path`
-abbrev pub questions : List ℕ → Finding → List Asking
-questions path Nothing = []
-questions path (NewVertex v) = vertex_questions v
-questions path (Port found) = port_found_questions path found
-
 -- what the sweep has then ----------------------------------------------------------------------------
 
--- the vertices, with the finding placed in order if it is a new vertex
+-- the vertices, with the finding inserted in ascending order of GUID and port if it is a new vertex
 abbrev pub with_vertex : Finding → List Vertex → List Vertex
 with_vertex Nothing reached = reached
 with_vertex (NewVertex v) reached = placed vertex_key v reached
 with_vertex (Port found) reached = reached
 
--- the states, with the state of a port placed in order; unchanged if the state is None, which stands for a reserved
--- state, or if the port has a state already
+-- the states, with the state of a port inserted in ascending order of GUID and port; unchanged if the state is None,
+-- which stands for a reserved state, or if the port has a state already
 abbrev pub with_state_of : ℕ → ℕ → Option PortState → List SeenState → List SeenState
 with_state_of guid port None states = states
 with_state_of guid port (Some state) states =
     placed state_key (record { guid = guid; port = port; state = state }) states
 
--- the states, with the state in the finding placed in order; unchanged if the finding is not about a port
+-- the states, with the state in the finding inserted in ascending order of GUID and port; unchanged if the finding is
+-- not about a port
 abbrev pub with_state : Finding → List SeenState → List SeenState
 with_state Nothing states = states
 with_state (NewVertex v) states = states
@@ -208,13 +168,13 @@ one_too_far Stays = 0
 one_too_far Leads = 0
 one_too_far TooFar = 1
 
--- the number of ports that lead too far by a finding: 0 or 1
+-- the number of ports that lead too far according to a finding: 0 or 1
 abbrev pub too_far_by : Finding → ℕ
 too_far_by Nothing = 0
 too_far_by (NewVertex v) = 0
 too_far_by (Port found) = one_too_far found.onward
 
--- the sweep with the finding over `path` added, and its questions queued
+-- the sweep with the finding at the end of `path` added, and the questions that follow from it queued
 abbrev pub with_finding : Sweep → List ℕ → Finding → Sweep
 with_finding s path found =
     record (asking s (questions path found)) {

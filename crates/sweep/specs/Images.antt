@@ -4,13 +4,13 @@
 use Rattle.std.specs.Prelude.{◌≡◌, ℕ, ◌≤◌, Bool, true, false, List, [], Option, Some, None, option_map}
 use Rattle.reply_facts.specs.Report.{about_of, payload_of}
 use Rattle.sweep.specs.declared.images.SeenImage.{SeenImage}
-use Rattle.sweep.specs.declared.request.Question.{Question}
-use Rattle.sweep.specs.declared.request.Question.TheVariants as ask
+use Rattle.sweep.specs.declared.question.Question.{Question}
+use Rattle.sweep.specs.declared.question.Question.TheVariants as ask
 use Rattle.sweep.specs.declared.request.Request.{Request}
 use Rattle.sweep.specs.Order.{AreInOrder, found_at, placed}
 
 -- whether images are kept; the images of PortInfo, one for a port, and the images of SwitchInfo, one for port 0 of a
--- switch. Each list is in the order of GUIDs and ports
+-- switch. Each list is in ascending order of GUID and port
 pub record Images : Type 0 where
   pub keeps : Bool
   pub ports : List SeenImage
@@ -30,8 +30,8 @@ image_at images guid port = option_map (λ i. i.bytes) (found_at image_key guid 
 
 -- what a reply adds ---------------------------------------------------------------------------
 
--- `images` with `image` placed in order; unchanged if `images` has one with this GUID and port already, or if images
--- are not kept
+-- `images` with `image` inserted in ascending order of GUID and port; unchanged if `images` has one with this GUID
+-- and port already, or if images are not kept
 abbrev pub with_image : Bool → SeenImage → List SeenImage → List SeenImage
 with_image true image images = placed image_key image images
 with_image false image images = images
@@ -71,7 +71,7 @@ pub record ImageTable : Type 0 where
 abbrev pub HasImageRoom : ImageTable → Type 0
 HasImageRoom table = table.kept.keeps ≡ true → (1 ≤ table.port_room) × (1 ≤ table.switch_room)
 
--- the images are in the order of GUIDs and ports, at most one for each GUID and port
+-- the images are in ascending order of GUID and port, at most one for each GUID and port
 pub record AreImages (images : Images) : Type 0 where
   pub ports : AreInOrder image_key images.ports
   pub switches : AreInOrder image_key images.switches

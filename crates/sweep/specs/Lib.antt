@@ -9,3 +9,4 @@ pub mod Replies
 pub mod Taking
 pub mod Accepting
 pub mod Runs
+pub mod Questions

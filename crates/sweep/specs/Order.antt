@@ -1,4 +1,4 @@
--- Lists in the order of GUIDs and ports, and the index at which an item is or would be inserted.
+-- Lists in ascending order of GUID and port, and the index at which an item is or would be inserted.
 use Rattle.std.specs.Prelude.{◌≡◌, ℕ, Bool, true, false, ◌&&◌, ◌||◌, List, [], ◌∷◌, find, nat_lt, slice_get, ◌==◌, if◌then◌else◌, Option}
 use Rattle.std.specs.Option.{option_map_or}
 use Rattle.request_table.specs.Order.{AreOrdered, IsIndex}
@@ -13,12 +13,12 @@ passes_at test items index = option_map_or test (slice_get items index) false
 abbrev pub is_before : ℕ × ℕ → ℕ × ℕ → Bool
 is_before a b = nat_lt a.0 b.0 || (a.0 == b.0 && nat_lt a.1 b.1)
 
--- each item is before all later ones, by GUID and port
+-- the items are in ascending order of GUID and port, without repetitions
 abbrev pub AreInOrder : {T : Type 0} → (T → ℕ × ℕ) → List T → Type 0
 AreInOrder key items = AreOrdered (λ a b. is_before (key a) (key b) ≡ true) items
 
--- the items, which must be in order, with `x` inserted in order; unchanged if there is an item with the GUID and port
--- of `x` already
+-- the items, which must be in ascending order of GUID and port, with `x` inserted in this order; unchanged if there
+-- is an item with the GUID and port of `x` already
 abbrev pub placed : {T : Type 0} → (T → ℕ × ℕ) → T → List T → List T
 placed key x [] = x ∷ []
 placed key x (y ∷ ys) =

@@ -12,11 +12,12 @@ use Rattle.sweep.specs.declared.answer.Answer.{Answer}
 use Rattle.sweep.specs.declared.answer.Answer.TheVariants.{Facts, Seen}
 use Rattle.sweep.specs.declared.fault.SweepFault.{SweepFault}
 use Rattle.sweep.specs.declared.fault.SweepFault.TheVariants.{NotOutstanding, Bad, SequenceSpent}
-use Rattle.sweep.specs.declared.request.Question.{Question}
-use Rattle.sweep.specs.declared.request.Question.TheVariants as ask
+use Rattle.sweep.specs.declared.question.Question.{Question}
+use Rattle.sweep.specs.declared.question.Question.TheVariants as ask
 use Rattle.sweep.specs.declared.request.Request.{Request}
 use Rattle.sweep.specs.Sweep.{Sweep, attribute_asked, modifier_asked, transaction_of, without_number}
-use Rattle.sweep.specs.Finding.{finding, questions, with_finding}
+use Rattle.sweep.specs.Finding.{finding, with_finding}
+use Rattle.sweep.specs.Questions.{questions}
 use Rattle.sweep.specs.Images.{images_with}
 
 -- which request a reply belongs to ----------------------------------------------------------
@@ -31,7 +32,7 @@ belongs generation packet r =
     answers packet (transaction_of generation r.number) (attribute_asked r.question) (modifier_asked r.question)
     (Some r.path)
 
--- the waiting request that the reply `packet` belongs to; None if there is no such request
+-- the outstanding request that the reply `packet` belongs to; None if the reply belongs to none
 abbrev pub request_of : Sweep → List ℕ → Option Request
 request_of s packet = find (belongs s.generation packet) s.outstanding
 
@@ -97,8 +98,9 @@ sightings_by (Seen guid port info) = []
 
 -- what the sweep has then -----------------------------------------------------------------------
 
--- the sweep once the given request was answered: the request no longer waits, the reply's image is added if images are
--- kept, the finding is added, and its questions are queued; unchanged if there is no request
+-- the sweep once the given request was answered: the request is no longer outstanding, the reply's image is added if
+-- images are kept, the finding is added, and the questions that follow from the finding are queued; unchanged if
+-- there is no request
 abbrev pub after_reply_to : Sweep → List ℕ → Option Request → Sweep
 after_reply_to s packet None = s
 after_reply_to s packet (Some r) =

@@ -14,7 +14,7 @@ pub data Event : Type 0 where
   Hears : List ℕ → Event
   TimesOut : ℕ → Event
 
--- the sweep after the reply `packet`; unchanged if it was refused
+-- the sweep after the reply `packet`; unchanged if the reply was refused
 abbrev pub heard : Sweep → List ℕ → Result Answer SweepFault → Sweep
 heard s packet (Ok answer) = after_reply s packet
 heard s packet (Err fault) = s
@@ -25,18 +25,18 @@ step s Sends = (after_next_request s).sweep
 step s (Hears packet) = heard s packet (judged s packet)
 step s (TimesOut transaction) = after_timeout s transaction
 
--- the number of the first request, as a list; empty if there is no request
+-- the list of the first request's number; empty if there is no request
 abbrev pub first_number : List Request → List ℕ
 first_number [] = []
 first_number (r ∷ queued) = r.number ∷ []
 
--- the number of the request that is sent by the event, as a list; empty if no request is sent
+-- if the event sends a request, the list of its number; otherwise the empty list
 abbrev pub number_sent : Sweep → Event → List ℕ
 number_sent s Sends = first_number s.queued
 number_sent s (Hears packet) = []
 number_sent s (TimesOut transaction) = []
 
--- the numbers of the requests that are sent by the events, in order
+-- the numbers of the requests that the events send, in the order of the events
 abbrev pub numbers_sent : Sweep → List Event → List ℕ
 numbers_sent s [] = []
 numbers_sent s (e ∷ events) = number_sent s e ++ numbers_sent (step s e) events
@@ -57,7 +57,7 @@ reply_taken s Sends = 0
 reply_taken s (Hears packet) = taken_by (judged s packet)
 reply_taken s (TimesOut transaction) = 0
 
--- the number of replies that are accepted over the events
+-- the number of replies that are accepted during the events
 abbrev pub replies_taken : Sweep → List Event → ℕ
 replies_taken s [] = 0
 replies_taken s (e ∷ events) = reply_taken s e + replies_taken (step s e) events
@@ -67,12 +67,12 @@ abbrev pub after : Sweep → List Event → Sweep
 after s [] = s
 after s (e ∷ events) = after (step s e) events
 
--- the number of requests that have not been answered: they timed out, wait, or are still queued
+-- the number of requests that have not been answered: they timed out, are outstanding, or are still queued
 abbrev pub unended : Sweep → ℕ
 unended s = s.unanswered + (length s.outstanding + length s.queued)
 
--- whatever happens to a sweep, the requests that were answered, timed out, wait or are queued are together as many as
--- the numbers that were given to requests, from `first` on
+-- whatever happens to a sweep, the requests that were answered, timed out, are outstanding or are queued are together
+-- as many as the numbers that were given to requests; the first of these numbers is `first`
 abbrev pub EachCounts : Type 0
 EachCounts =
     (origin generation first : ℕ) (keeps : Bool) (events : List Event) →
@@ -98,7 +98,7 @@ manager_sent s Sends = manager_in_first s.queued
 manager_sent s (Hears packet) = 0
 manager_sent s (TimesOut transaction) = 0
 
--- the number of requests for SMInfo that are sent over the events
+-- the number of requests for SMInfo that are sent during the events
 abbrev pub managers_sent : Sweep → List Event → ℕ
 managers_sent s [] = 0
 managers_sent s (e ∷ events) = manager_sent s e + managers_sent (step s e) events
@@ -115,13 +115,13 @@ manager_heard s Sends = 0
 manager_heard s (Hears packet) = manager_told (judged s packet)
 manager_heard s (TimesOut transaction) = 0
 
--- the number of replies to requests for SMInfo that are accepted over the events
+-- the number of replies to requests for SMInfo that are accepted during the events
 abbrev pub managers_heard : Sweep → List Event → ℕ
 managers_heard s [] = 0
 managers_heard s (e ∷ events) = manager_heard s e + managers_heard (step s e) events
 
--- whatever happens to a sweep, the requests for SMInfo that were sent are as many as those that were answered, wait,
--- or timed out
+-- whatever happens to a sweep, the requests for SMInfo that were sent are as many as those that were answered, are
+-- outstanding, or timed out
 abbrev pub EachManagerCounts : Type 0
 EachManagerCounts =
     (origin generation first : ℕ) (keeps : Bool) (events : List Event) →

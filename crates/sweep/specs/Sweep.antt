@@ -1,4 +1,4 @@
--- A sweep: what it has asked, what it waits for, and what it has found.
+-- A sweep: its queued and outstanding requests, and what it has found.
 -- InfiniBand Architecture Specification, Volume 1: subnet management, topology discovery; directed route SMPs.
 use Rattle.std.specs.Prelude.{ℕ, ◌+◌, ◌*◌, ◌^◌, ◌≤◌, Bool, true, false, ◌&&◌, List, [], ◌∷◌, ◌++◌, length, find}
 use Rattle.std.specs.Prelude.{replicate, ◌==◌, if◌then◌else◌, Option, Some, None, option_map, is_some, slice_get}
@@ -10,8 +10,8 @@ use Rattle.reply_facts.specs.declared.report.Context.{Context}
 use Rattle.reply_facts.specs.declared.report.Context.TheVariants.{Start}
 use Rattle.sweep.specs.declared.fault.SweepFault.{SweepFault}
 use Rattle.sweep.specs.declared.fault.SweepFault.TheVariants.{NotOutstanding}
-use Rattle.sweep.specs.declared.request.Question.{Question}
-use Rattle.sweep.specs.declared.request.Question.TheVariants as ask
+use Rattle.sweep.specs.declared.question.Question.{Question}
+use Rattle.sweep.specs.declared.question.Question.TheVariants as ask
 use Rattle.sweep.specs.declared.request.Request.{Request}
 use Rattle.sweep.specs.declared.vertex.Vertex.{Vertex}
 use Rattle.sweep.specs.declared.vertex.SeenState.{SeenState}
@@ -20,9 +20,9 @@ use Rattle.sweep.specs.Images.{Images, image_at, no_images}
 use Rattle.sweep.specs.Order.{AreInOrder, found_at}
 
 -- the port that the sweep starts from, and its generation; the number of its next request; the requests that are
--- queued and those that wait, each list in ascending order of number; the vertices that were reached and the states
--- of ports that were seen, in the order of GUIDs and ports; the images; the number of requests that timed out, and
--- the number of these that were for SMInfo; and the number of ports that lead too far
+-- queued and those that are outstanding, each list in ascending order of number; the vertices that were reached and
+-- the states of ports that were seen, in ascending order of GUID and port; the images; the number of requests that
+-- timed out, and the number of these that were for SMInfo; and the number of ports that lead too far
 pub record Sweep : Type 0 where
   pub origin : ℕ
   pub generation : ℕ
@@ -64,7 +64,7 @@ managers_asked (ask.Manager guid port) = 1
 abbrev pub transaction_of : ℕ → ℕ → ℕ
 transaction_of generation number = generation * 2 ^ 32 + number
 
--- the packet of the request `r`: a Get over its path, with no data
+-- the packet of the request `r`: a Get along its path, with no data
 abbrev pub packet_of : ℕ → Request → List ℕ
 packet_of generation r =
     directed get (attribute_asked r.question) (modifier_asked r.question) (transaction_of generation r.number) r.path
@@ -72,7 +72,7 @@ packet_of generation r =
 
 -- questions ------------------------------------------------------------------------------
 
--- a question that is to be asked over a path, before it has a number
+-- a question that is to be asked along a path, before it has a number
 pub record Asking : Type 0 where
   pub question : Question
   pub path : List ℕ
@@ -84,7 +84,7 @@ numbered number [] = []
 numbered number (a ∷ asked) =
     record { number = number; question = a.question; path = a.path; context = a.context } ∷ numbered (number + 1) asked
 
--- the sweep with the questions `asked` queued, numbered from its next number on
+-- the sweep with the questions `asked` queued, numbered upwards from the sweep's next number
 abbrev pub asking : Sweep → List Asking → Sweep
 asking s asked = record s { next = s.next + length asked; queued = s.queued ++ numbered s.next asked }
 
@@ -113,15 +113,15 @@ first_question = record { question = ask.Node; path = []; context = Start }
 abbrev pub started : ℕ → ℕ → ℕ → Bool → Sweep
 started origin generation first keeps = asking (empty_sweep origin generation first keeps) (first_question ∷ [])
 
--- sending and waiting ----------------------------------------------------------------------
+-- outstanding requests ---------------------------------------------------------------------
 
 -- a sweep after its next request was sent, and the packet of the request; the packet is None if no request was queued
 pub record Sent : Type 0 where
   pub sweep : Sweep
   pub packet : Option (List ℕ)
 
--- the sweep after the first request of the given queue was sent, which now waits, and the packet of the request; the
--- sweep unchanged and None if the queue is empty
+-- the sweep after the first request of the given queue was sent, which is now outstanding, and the packet of this
+-- request; the unchanged sweep and None if the queue is empty
 abbrev pub after_next_request_of : Sweep → List Request → Sent
 after_next_request_of s [] = record { sweep = s; packet = None }
 after_next_request_of s (r ∷ queued) =
@@ -131,8 +131,8 @@ after_next_request_of s (r ∷ queued) =
           Some (packet_of s.generation r);
     }
 
--- the sweep after its next request was sent, which now waits, and the packet of the request; the sweep unchanged and
--- None if no request is queued
+-- the sweep after its next request was sent, which is now outstanding, and the packet of this request; the unchanged
+-- sweep and None if no request is queued
 abbrev pub after_next_request : Sweep → Sent
 after_next_request s = after_next_request_of s s.queued
 
@@ -140,16 +140,16 @@ after_next_request s = after_next_request_of s s.queued
 abbrev pub without_number : ℕ → List Request → List Request
 without_number number requests = numbers.without_number (λ r. r.number) number requests
 
--- the first of the requests with the TransactionID `transaction`; None if no request has it
+-- the first of the requests with the TransactionID `transaction`; None if no request has this TransactionID
 abbrev pub request_with : ℕ → ℕ → List Request → Option Request
 request_with generation transaction requests = find (λ r. transaction_of generation r.number == transaction) requests
 
--- `NotOutstanding` if no request with the TransactionID `transaction` waits, else None
+-- `NotOutstanding` if no outstanding request has the TransactionID `transaction`, else None
 abbrev pub timeout_fault : Sweep → ℕ → Option SweepFault
 timeout_fault s transaction =
     if is_some (request_with s.generation transaction s.outstanding) then None else Some NotOutstanding
 
--- the sweep after the given request timed out; unchanged if it is None
+-- the sweep after the given request timed out; unchanged if no request is given
 abbrev pub after_timeout_of : Sweep → Option Request → Sweep
 after_timeout_of s None = s
 after_timeout_of s (Some r) =
@@ -159,12 +159,13 @@ after_timeout_of s (Some r) =
       silent_managers = s.silent_managers + managers_asked r.question;
     }
 
--- the sweep after the request with the TransactionID `transaction` timed out. The request no longer waits and counts
--- as unanswered; if it was for SMInfo, its manager counts as silent. Unchanged if no such request waits
+-- the sweep after the request with the TransactionID `transaction` timed out. The request is no longer outstanding
+-- and counts as unanswered; if it was for SMInfo, the manager that was asked counts as silent. Unchanged if no such
+-- request is outstanding
 abbrev pub after_timeout : Sweep → ℕ → Sweep
 after_timeout s transaction = after_timeout_of s (request_with s.generation transaction s.outstanding)
 
--- the TransactionID of the waiting request at index `i`; None if no more than `i` requests wait
+-- the TransactionID of the outstanding request at index `i`; None if at most `i` requests are outstanding
 abbrev pub outstanding_at : Sweep → ℕ → Option ℕ
 outstanding_at s i = option_map (λ r. transaction_of s.generation r.number) (slice_get s.outstanding i)
 
@@ -173,7 +174,7 @@ abbrev pub is_none_left : List Request → Bool
 is_none_left [] = true
 is_none_left (r ∷ requests) = false
 
--- whether the sweep is done: no request is queued, and none waits
+-- whether the sweep is done: no request is queued, and none is outstanding
 abbrev pub is_done : Sweep → Bool
 is_done s = is_none_left s.queued && is_none_left s.outstanding
 
@@ -209,11 +210,11 @@ path_to s guid port = option_map (λ r. r.path) (vertex_at s.reached guid port)
 abbrev pub seen_state : Sweep → ℕ → ℕ → Option PortState
 seen_state s guid port = state_at s.states guid port
 
--- PortInfo in the first reply about port `port` of node `guid`; None if it is not kept
+-- PortInfo in the first reply about port `port` of node `guid`; None if this PortInfo is not kept
 abbrev pub port_image : Sweep → ℕ → ℕ → Option (List ℕ)
 port_image s guid port = image_at s.images.ports guid port
 
--- SwitchInfo in the first reply of the switch `guid`; None if it is not kept
+-- SwitchInfo in the first reply of the switch `guid`; None if this SwitchInfo is not kept
 abbrev pub switch_image : Sweep → ℕ → Option (List ℕ)
 switch_image s guid = image_at s.images.switches guid 0
 
@@ -223,10 +224,10 @@ switch_image s guid = image_at s.images.switches guid 0
 abbrev pub AreRising : ℕ → List Request → ℕ → Type 0
 AreRising least requests next = numbers.AreRising (λ r. r.number) least requests next
 
--- what holds of every sweep. The numbers of the waiting requests, followed by those of the queue, rise and are below
--- `next`, which is at most 2^32. Vertices and states are in order. Requests that timed out, ports that lead too far,
--- and requests that wait or are queued are together at most `next`. There are at most as many silent managers as
--- requests that timed out
+-- what holds of every sweep. The numbers of the outstanding requests, followed by those of the queue, rise and are
+-- below `next`, which is at most 2^32. Vertices and states are in ascending order of GUID and port. Requests that
+-- timed out, ports that lead too far, and requests that are outstanding or queued are together at most `next`. There
+-- are at most as many silent managers as requests that timed out
 pub record IsSweep (s : Sweep) : Type 0 where
   pub rising : AreRising 0 (s.outstanding ++ s.queued) s.next
   pub next : s.next ≤ 2 ^ 32

@@ -1,10 +1,10 @@
--- The requests of a sweep: the requests that wait for a reply, and the requests that are to be sent.
+-- The requests of a sweep: those that are outstanding, and those that are to be sent.
 use Rattle.std.specs.Prelude.{◌≡◌, ℕ, ◌+◌, ◌≤◌, List, ◌++◌, length}
 use Rattle.sweep.specs.declared.request.Request.{Request}
 use Rattle.sweep.specs.Sweep.{Asking, numbered}
 
--- the number of a sweep's next request, the requests that wait, the requests that are queued, and the number of
--- further requests for which there is memory
+-- the number of a sweep's next request, the outstanding requests, the queued requests, and the number of further
+-- requests for which there is memory
 pub record SweepRequests : Type 0 where
   pub next : ℕ
   pub outstanding : List Request

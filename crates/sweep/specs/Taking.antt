@@ -3,11 +3,12 @@ use Rattle.std.specs.Prelude.{◌≡◌, ℕ, ◌+◌, ◌^◌, ◌≤◌, ◌++
 use Rattle.sweep.specs.declared.finding.Finding.{Finding}
 use Rattle.sweep.specs.declared.request.Request.{Request}
 use Rattle.sweep.specs.Sweep.{numbered, without_number}
-use Rattle.sweep.specs.Finding.{questions, IsWithinReach}
+use Rattle.sweep.specs.Finding.{IsWithinReach}
+use Rattle.sweep.specs.Questions.{questions}
 use Rattle.sweep.specs.SweepRequests.{SweepRequests}
 
--- the request at `index` waits. At most 256 questions follow from the finding `found` of its reply, there are numbers
--- and memory for them, and none needs a path of over 63 ports
+-- the request at `index` is outstanding. At most 256 questions follow from the finding `found` of its reply, there
+-- are numbers and memory for these questions, and none needs a path of more than 63 ports
 pub record CanTake (requests : SweepRequests) (index : ℕ) (found : Finding) : Type 0 where
   pub request : Request
   pub waits : slice_get requests.outstanding index ≡ Some request

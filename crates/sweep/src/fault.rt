@@ -7,7 +7,7 @@ use thiserror::Error;
 /// Why a sweep refuses a call. A refused call leaves the sweep as it was.
 #[derive(Clone, Copy, Debug, PartialEq, Eq, Error)]
 pub enum SweepFault {
-    /// No waiting request belongs to the reply, or has the TransactionID that timed out.
+    /// No outstanding request belongs to the reply, or has the TransactionID that timed out.
     #[error("NotOutstanding")]
     NotOutstanding,
     /// The bytes are not a packet, or facts or SMInfo cannot be read from the reply.

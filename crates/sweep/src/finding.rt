@@ -1,10 +1,13 @@
 ghost use Rattle.std.specs.Prelude.{◌≡◌, ◌≤◌, ℕ, List, length};
 ghost use Rattle.sweep.specs.Finding.{asks_manager, finding, goes_by, is_of_adapter, leads_on};
 ghost use Rattle.attr_codec.specs.PortInfo.{has_manager};
-ghost use Rattle.sweep.specs.Finding.{node_found, onward, port_found_questions, port_found_of, questions};
-ghost use Rattle.sweep.specs.Finding.{vertex_of, vertex_questions};
+ghost use Rattle.sweep.specs.Finding.{node_found, onward, port_found_of};
+ghost use Rattle.sweep.specs.Questions.{port_found_questions, questions};
+ghost use Rattle.sweep.specs.Finding.{vertex_of};
+ghost use Rattle.sweep.specs.Questions.{vertex_questions};
 
-use crate::request::{Question, Request};
+use crate::question::Question;
+use crate::request::Request;
 use crate::sweep::Sweep;
 use crate::vertex::Vertex;
 use attr_codec::{Attribute, NodeInfo, PortInfo, PortState};
@@ -34,10 +37,10 @@ pub(crate) struct PortFinding {
     pub(crate) onward: Onward,
 }
 
-/// Whether a sweep goes on by a port.
+/// Whether a sweep goes on through a port.
 #[derive(Clone, Copy, Debug, PartialEq, Eq)]
 pub(crate) enum Onward {
-    /// The port is not up, or is not one by which the sweep goes on.
+    /// The port is not up, or is not one through which the sweep goes on.
     Stays,
     /// The sweep asks the node at the far end of the port's wire.
     Leads,
@@ -60,7 +63,7 @@ impl Finding {
 }
 
 impl PortFinding {
-    /// Returns the number of requests that follow from the reply about the port.
+    /// Returns the number of requests that follow from the reply about the port, at most 257.
     fn question_count(&self) -> u64
         ensures count { (path : List ℕ) → result ≡ length (port_found_questions path self.now) }
         ensures within { result ≤ 257 }
@@ -108,7 +111,7 @@ impl Sweep {
         }
     }
 
-    /// Returns what the NodeInfo `info`, read over `path`, adds: a new node, another port of an adapter, or nothing.
+    /// Returns what the NodeInfo `info`, read along `path`, adds: a new node, another port of an adapter, or nothing.
     fn node_found(&self, path: &Path<63>, info: &NodeInfo) -> Finding
         ensures { result ≡ node_found self.now path.now info.now }
     {
@@ -130,7 +133,7 @@ impl Sweep {
     }
 
     /// Returns what the PortInfo `info` of a port adds: its state, whether to ask the manager that sits there, and
-    /// whether the sweep goes on by the port.
+    /// whether the sweep goes on through the port.
     fn port_found(&self, path: &Path<63>, guid: Guid, port: PortNum, info: &PortInfo) -> Finding
         ensures { result ≡ port_found_of self.now path.now guid port info.now }
     {
@@ -173,16 +176,16 @@ impl Sweep {
         }
     }
 
-    /// Returns whether `info` says that `port` is up, and `port` is one by which the sweep goes on (`goes_by`).
+    /// Returns whether `info` says that `port` is up, and `port` is one through which the sweep goes on (`goes_by`).
     fn leads_on(&self, path: &Path<63>, guid: Guid, port: PortNum, info: &PortInfo) -> bool
         ensures { result ≡ leads_on self.now path.now guid port info.now }
     {
         is_up(info) && self.goes_by(path, guid, port)
     }
 
-    /// Returns whether the sweep goes on by `port`: `path` is empty and the sweep leaves the manager's own node by
-    /// `port`, or the node `guid` is a switch and `port` is neither 0 nor the port at which a request first reached the
-    /// node.
+    /// Returns whether the sweep goes on through `port` if the port is up: `path` is empty and the sweep leaves the
+    /// manager's own node by `port`, or the node `guid` is a switch and `port` is neither 0 nor the port at which a
+    /// request first reached the node.
     fn goes_by(&self, path: &Path<63>, guid: Guid, port: PortNum) -> bool
         ensures { result ≡ goes_by self.now path.now guid port }
     {

@@ -4,7 +4,7 @@ ghost use Rattle.sweep.specs.Images.{HasImageRoom, image_key, images_about, no_i
 ghost use Rattle.sweep.specs.Order.{AreInOrder, found_at};
 
 use crate::port_list::{OfPort, item_at, put};
-use crate::request::Question;
+use crate::question::Question;
 use fact_store::Context;
 use page_list::PageList;
 use smp_bytes::{Guid, PortNum};
@@ -115,14 +115,15 @@ impl Images {
         }
     }
 
-    /// Returns the PortInfo of `port` of the node `guid`, or `None` if it is not kept. Does a binary search.
+    /// Returns the PortInfo of `port` of the node `guid`, or `None` if this PortInfo is not kept. Does a binary
+    /// search.
     pub(crate) fn of_port(&self, guid: Guid, port: PortNum) -> Option<SeenImage>
         ensures { result ≡ found_at image_key guid port self.now.kept.ports }
     {
         item_at(&self.ports, guid, port)
     }
 
-    /// Returns the SwitchInfo of the switch `guid`, or `None` if it is not kept. Does a binary search.
+    /// Returns the SwitchInfo of the switch `guid`, or `None` if this SwitchInfo is not kept. Does a binary search.
     pub(crate) fn of_switch(&self, guid: Guid) -> Option<SeenImage>
         ensures { result ≡ found_at image_key guid 0 self.now.kept.switches }
     {
@@ -130,8 +131,8 @@ impl Images {
     }
 }
 
-/// Inserts `image` in order if `keeps`, unless there is an image with its GUID and port already. `images` must be in
-/// order. If `keeps`, there must be memory for one more image.
+/// Inserts `image` in its order if `keeps`, unless there is an image with the same GUID and port already. `images`
+/// must be in ascending order of GUID and port. If `keeps`, there must be memory for one more image.
 fn put_image(keeps: bool, images: &mut PageList<SeenImage>, image: SeenImage)
     requires order { AreInOrder image_key images.old.items }
     requires room { keeps ≡ true → 1 ≤ images.old.room }

@@ -1,4 +1,4 @@
-//! What holds of every run of a sweep.
+//! Laws of every run of a sweep.
 ghost use Rattle.sweep.specs.Runs.{EachCounts, EachManagerCounts, NoImageUnasked, NumbersRise};
 
 /// The numbers of the requests that a sweep sends rise, whatever the sweep receives and in whatever order, so no number
@@ -7,13 +7,14 @@ pub fn numbers_rise()
     ensures { NumbersRise }
 {}
 
-/// The requests that were answered, timed out, wait or are to be sent are together as many as the numbers that the
-/// sweep has given to requests. So if no request waits or is to be sent, each was answered or timed out.
+/// The requests that were answered, timed out, are outstanding or are to be sent are together as many as the numbers
+/// that the sweep has given to requests. So if no request is outstanding or to be sent, each was answered or timed
+/// out.
 pub fn each_request_counts()
     ensures { EachCounts }
 {}
 
-/// A sweep has sent as many requests for SMInfo as were answered, wait for a reply, or count as silent managers. So
+/// A sweep has sent as many requests for SMInfo as were answered, are outstanding, or count as silent managers. So
 /// once a sweep is done, each manager that was asked has answered or counts as silent.
 #[tactic(auto, using(crate::proofs::Managers::each_manager_counts))]
 pub fn each_manager_counts()

@@ -13,15 +13,16 @@ use crate::answer::Answer;
 use crate::fact_sink::{Keeper, Nowhere};
 use crate::fault::SweepFault;
 use crate::finding::Finding;
-use crate::request::{Question, Request};
+use crate::question::Question;
+use crate::request::Request;
 use crate::sweep::Sweep;
 use arrayvec::ArrayVec;
 use attr_codec::{Attribute, SmInfo};
 use fact_store::{Context, Report, ReportFault, Sighting, Store, answer_fault, sightings_in};
 use smp_bytes::Smp;
 
-/// An accepted reply: the index of its request among the waiting requests, the request's question and context, the
-/// answer, its facts, and what the reply adds.
+/// An accepted reply: the index of its request among the outstanding requests, the request's question and context,
+/// the answer, its facts, and what the reply adds.
 #[derive(Drop)]
 pub(crate) struct Accepted {
     pub(crate) index: usize,
@@ -43,18 +44,18 @@ impl Sweep {
         }
     }
 
-    /// Takes the reply to a request that waits, and queues the requests that follow from the reply. For a new switch
-    /// these ask for SwitchInfo and for PortInfo of each of its ports. For a new adapter port, one asks for the
-    /// PortInfo of this port. After PortInfo of a port, one asks the manager there for SMInfo, if this manager is to
-    /// be asked. Then one asks the node at the far end of the port's wire for NodeInfo, if the sweep goes on by the
-    /// port.
+    /// Takes the reply to an outstanding request, and queues the requests that follow from the reply. For a new
+    /// switch these ask for SwitchInfo and for PortInfo of each of its ports. For a new adapter port, one asks for
+    /// the PortInfo of this port. After PortInfo of a port, one asks the manager there for SMInfo, if this manager is
+    /// to be asked. Then one asks the node at the far end of the port's wire for NodeInfo, if the sweep goes on
+    /// through the port.
     ///
     /// # Errors
     ///
-    /// Returns the first of these that applies: `Bad` if the bytes are not a packet; `NotOutstanding` if no waiting
-    /// request has the TransactionID, attribute, modifier and path of the reply; `Bad` if facts cannot be read from
-    /// the reply, or if a reply with SMInfo is not an answer with status 0; `SequenceSpent` if no number is left for
-    /// a request that follows; `Memory` if memory runs out. If an error is returned, the sweep is unchanged.
+    /// Returns the first of these that applies: `Bad` if the bytes are not a packet; `NotOutstanding` if no
+    /// outstanding request has the TransactionID, attribute, modifier and path of the reply; `Bad` if facts cannot be
+    /// read from the reply, or if a reply with SMInfo is not an answer with status 0; `SequenceSpent` if no number is
+    /// left for a request that follows; `Memory` if memory runs out. If an error is returned, the sweep is unchanged.
     pub fn on_reply(&mut self, bytes: &[u8; 256]) -> Result<Answer, SweepFault>
         ensures judged { JudgesButFor is_memory result (result_err (judged self.old bytes.now)) }
         ensures answer { IfOk result (λ answer. judged self.old bytes.now ≡ Ok answer) }
@@ -68,8 +69,8 @@ impl Sweep {
         }
     }
 
-    /// Takes the reply `smp` to a request that waits, as `on_reply` does, and adds its facts to `store`. If an error
-    /// is returned, the sweep and `store` are unchanged.
+    /// Takes the reply `smp` to an outstanding request, as `on_reply` does, and adds its facts to `store`. If an
+    /// error is returned, the sweep and `store` are unchanged.
     pub fn on_reply_into(&mut self, smp: &Smp, store: &mut Store) -> Result<Answer, SweepFault>
         ensures judged { JudgesButFor is_memory result (result_err (judged self.old smp.now)) }
         ensures answer { IfOk result (λ answer. judged self.old smp.now ≡ Ok answer) }

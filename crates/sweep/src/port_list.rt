@@ -1,4 +1,4 @@
-//! Lists of items about ports, in the order of GUIDs and ports.
+//! Lists of items about ports, in ascending order of GUID and port.
 ghost use Rattle.std.specs.Prelude.{◌≡◌, ℕ, ◌<◌};
 ghost use Rattle.sweep.specs.Order.{AreInOrder, IsIndexFor, found_at, has_key, is_before, passes_at, placed};
 
@@ -22,7 +22,7 @@ pub(crate) fn is_before(a: (Guid, PortNum), b: (Guid, PortNum)) -> bool
 }
 
 /// Returns the index of the item with `guid` and `port`, or the index at which that item would be inserted. `items`
-/// must be in order. Does a binary search.
+/// must be in ascending order of GUID and port. Does a binary search.
 fn index_for<T: OfPort>(items: &PageList<T>, guid: Guid, port: PortNum) -> usize
     requires { AreInOrder T.key items.now.items }
     ensures { IsIndexFor T.key (guid, port) items.now.items result }
@@ -54,7 +54,8 @@ fn is_at<T: OfPort>(items: &PageList<T>, index: usize, guid: Guid, port: PortNum
     }
 }
 
-/// Returns the item with `guid` and `port`, or `None` if there is none. `items` must be in order. Does a binary search.
+/// Returns the item with `guid` and `port`, or `None` if there is no such item. `items` must be in ascending order of
+/// GUID and port. Does a binary search.
 pub(crate) fn item_at<T: OfPort>(items: &PageList<T>, guid: Guid, port: PortNum) -> Option<T>
     requires { AreInOrder T.key items.now.items }
     ensures { result ≡ found_at T.key guid port items.now.items }
@@ -67,8 +68,8 @@ pub(crate) fn item_at<T: OfPort>(items: &PageList<T>, guid: Guid, port: PortNum)
     }
 }
 
-/// Inserts `item` in order, unless there already is an item with its GUID and port. `items` must be in order, and have
-/// memory for one more item. Moves at most a page of items.
+/// Inserts `item` in its order, unless there is an item with the same GUID and port already. `items` must be in
+/// ascending order of GUID and port, and have memory for one more item. Moves at most a page of items.
 pub(crate) fn put<T: OfPort>(items: &mut PageList<T>, item: T)
     requires order { AreInOrder T.key items.old.items }
     requires room { 0 < items.old.room }

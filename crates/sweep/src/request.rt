@@ -1,26 +1,13 @@
-ghost use Rattle.std.specs.Prelude.{◌≡◌, ◌≤◌, ◌-◌, ◌*◌, ◌^◌};
+ghost use Rattle.std.specs.Prelude.{◌≡◌, ◌-◌, ◌*◌, ◌^◌};
 ghost use Rattle.sweep.specs.Replies.{belongs};
-ghost use Rattle.sweep.specs.Sweep.{attribute_asked, managers_asked, modifier_asked, packet_of};
-ghost use Rattle.sweep.specs.Sweep.{transaction_of};
+ghost use Rattle.sweep.specs.Sweep.{packet_of, transaction_of};
 
+use crate::question::Question;
 use fact_store::Context;
 use request_table::Numbered;
-use smp_bytes::{AttributeId, Generation, Guid, Method, Path, PortNum, Smp};
+use smp_bytes::{Generation, Method, Path, Smp};
 
-/// What a request asks a node for.
-#[derive(Clone, Copy, Debug, PartialEq, Eq)]
-pub enum Question {
-    /// NodeInfo: what the node is.
-    Node,
-    /// SwitchInfo: how large the forwarding table is.
-    Switch,
-    /// PortInfo of a port of the node.
-    Port(PortNum),
-    /// SMInfo of the manager at the adapter with this GUID and at this port.
-    Manager(Guid, PortNum),
-}
-
-/// A Get that a sweep sends over a directed route.
+/// A Get that a sweep sends along a directed route.
 #[derive(Debug, Drop)]
 pub struct Request {
     /// The sequence number, the low half of the TransactionID.
@@ -53,41 +40,6 @@ pub(crate) fn sequence_of(generation: Generation, transaction: u64) -> u64
     ensures { result ≡ transaction - generation * 2 ^ 32 }
 {
     transaction.saturating_sub(transaction_of(generation, 0))
-}
-
-impl Question {
-    /// Returns the attribute that is asked for.
-    pub(crate) fn attribute(self) -> AttributeId
-        ensures { result.0 ≡ attribute_asked self }
-    {
-        match self {
-            Question::Node => AttributeId::NODE_INFO,
-            Question::Switch => AttributeId::SWITCH_INFO,
-            Question::Port(_) => AttributeId::PORT_INFO,
-            Question::Manager(..) => AttributeId::SM_INFO,
-        }
-    }
-
-    /// Returns the attribute modifier: the number of the port for PortInfo, and otherwise 0.
-    pub(crate) fn modifier(self) -> u32
-        ensures { result ≡ modifier_asked self }
-    {
-        match self {
-            Question::Node | Question::Switch | Question::Manager(..) => 0,
-            Question::Port(port) => u32::from(port.number()),
-        }
-    }
-
-    /// Returns 1 if the question is for the SMInfo of a manager, and otherwise 0.
-    pub(crate) fn managers_asked(self) -> u64
-        ensures count { result ≡ managers_asked self }
-        ensures within { result ≤ 1 }
-    {
-        match self {
-            Question::Node | Question::Switch | Question::Port(_) => 0,
-            Question::Manager(..) => 1,
-        }
-    }
 }
 
 impl Request {

@@ -6,7 +6,8 @@ ghost use Rattle.sweep.specs.Sweep.{after_next_request, after_timeout, started, 
 use crate::discovered::Discovered;
 use crate::fault::SweepFault;
 use crate::images::Images;
-use crate::request::{Question, transaction_of};
+use crate::question::Question;
+use crate::request::transaction_of;
 use crate::sweep_requests::SweepRequests;
 use crate::vertex::Vertex;
 use attr_codec::{Attribute, PortInfo, PortState, SwitchInfo};
@@ -15,7 +16,7 @@ use smp_bytes::{Generation, Guid, Path, PortNum, Smp};
 use std::alloc::{AllocError, Global};
 use std::marker::Model;
 
-/// A sweep over a subnet: what it has asked, what it waits for, and what it has found (subnet management, topology
+/// A sweep of a subnet: its queued and outstanding requests, and what it has found (subnet management, topology
 /// discovery).
 #[derive(Drop)]
 pub struct Sweep {
@@ -94,8 +95,8 @@ impl Sweep {
         })
     }
 
-    /// Takes the next request from the queue, first in, first out, and returns its packet. The request then waits for
-    /// its reply. Returns `None` if the queue is empty. Takes constant time.
+    /// Takes the next request from the queue, first in, first out, and returns its packet. The request is then
+    /// outstanding. Returns `None` if the queue is empty. Takes constant time.
     pub fn next_request(&mut self) -> Option<Smp>
         ensures packet { result ≡ (after_next_request self.old).packet }
         ensures sweep { self.new ≡ (after_next_request self.old).sweep }
@@ -106,8 +107,9 @@ impl Sweep {
         Some(packet)
     }
 
-    /// Ends the waiting request with the TransactionID `transaction`, and counts it as unanswered. If the request was
-    /// for SMInfo, also counts a silent manager. Returns `NotOutstanding` if no such request waits.
+    /// Ends the outstanding request with the TransactionID `transaction`, and counts it as unanswered. If the request
+    /// was for SMInfo, the manager that was asked counts as silent. Returns `NotOutstanding` if no such request is
+    /// outstanding.
     pub fn on_timeout(&mut self, transaction: u64) -> Result<(), SweepFault>
         ensures judged { Judges result (timeout_fault self.old transaction) }
         ensures ok { OnOk result (self.new ≡ after_timeout self.old transaction) }
@@ -122,7 +124,7 @@ impl Sweep {
         Ok(())
     }
 
-    /// Returns whether no request is to be sent and none waits for a reply.
+    /// Returns whether no request is to be sent and none is outstanding.
     pub fn is_done(&self) -> bool
         ensures { result ≡ is_done self.now }
     {
@@ -136,8 +138,8 @@ impl Sweep {
         self.generation
     }
 
-    /// Returns the TransactionID of the waiting request at index `i`, in ascending order of number, or `None` if no
-    /// more than `i` requests wait.
+    /// Returns the TransactionID of the outstanding request at index `i`, in ascending order of number, or `None` if
+    /// at most `i` requests are outstanding.
     pub fn outstanding(&self, i: usize) -> Option<u64>
         ensures { result ≡ outstanding_at self.now i }
     {
@@ -160,7 +162,8 @@ impl Sweep {
         self.silent_managers
     }
 
-    /// Returns the number of ports by which the sweep did not go on because the path to the port already has 63 hops.
+    /// Returns the number of ports through which the sweep did not go on because the path to the port already has 63
+    /// hops.
     pub fn too_far(&self) -> u64
         ensures { result ≡ self.now.too_far }
     {
@@ -184,8 +187,8 @@ impl Sweep {
         Some(&vertex.path)
     }
 
-    /// Returns the state of `port` of the node `guid`, as the first reply with a state that is not reserved reported
-    /// it. Returns `None` if there was no such reply. Does a binary search among the states.
+    /// Returns the state of `port` of the node `guid`, as reported by the first reply with a state that is not
+    /// reserved. Returns `None` if there was no such reply. Does a binary search among the states.
     pub fn seen_state(&self, guid: Guid, port: PortNum) -> Option<PortState>
         ensures { result ≡ seen_state self.now guid port }
     {

@@ -4,15 +4,17 @@ ghost use Rattle.request_table.specs.Order.{IsIndex};
 ghost use Rattle.request_table.specs.Numbers.{AreNumbered, IsIndexFor};
 ghost use Rattle.reply_facts.specs.declared.report.Context.TheVariants.{About};
 ghost use Rattle.sweep.specs.declared.finding.Onward.TheVariants.{Leads};
-ghost use Rattle.sweep.specs.Finding.{IsPathWithinReach, manager_questions, onward_questions};
-ghost use Rattle.sweep.specs.Finding.{port_found_questions, port_questions, vertex_questions};
+ghost use Rattle.sweep.specs.Finding.{IsPathWithinReach};
+ghost use Rattle.sweep.specs.Questions.{manager_questions, onward_questions};
+ghost use Rattle.sweep.specs.Questions.{port_found_questions, port_questions, vertex_questions};
 ghost use Rattle.sweep.specs.Taking.{CanTake, HasTaken};
 ghost use Rattle.sweep.specs.Replies.{belongs};
 ghost use Rattle.sweep.specs.SweepRequests.{SweepRequests, HasAsked};
 ghost use Rattle.sweep.specs.Sweep.{is_none_left, request_with, without_number};
 
 use crate::finding::{Finding, Onward, PortFinding};
-use crate::request::{Question, Request, sequence_of, transaction_of};
+use crate::question::Question;
+use crate::request::{Request, sequence_of, transaction_of};
 use crate::vertex::Vertex;
 use fact_store::Context;
 use request_table::RequestTable;
@@ -24,13 +26,13 @@ use std::marker::Model;
 /// port 0, and for PortInfo of each of its other ports, which are at most 254.
 pub const REQUESTS_PER_REPLY: usize = 256;
 
-/// The requests of a sweep. Contracts see the requests that wait for a reply, the requests to be sent, the number of
-/// the next request, and the number of further requests for which there is memory.
+/// The requests of a sweep. Contracts see the outstanding requests, the requests to be sent, the number of the next
+/// request, and the number of further requests for which there is memory.
 #[derive(Drop)]
 pub(crate) struct SweepRequests {
-    /// The requests that wait, and then the requests to be sent.
+    /// The outstanding requests, and then the requests to be sent.
     table: RequestTable<Request>,
-    /// The number of requests that wait.
+    /// The number of outstanding requests.
     sent: usize,
 }
 
@@ -70,7 +72,7 @@ impl SweepRequests {
         self.table.next()
     }
 
-    /// Returns whether no request waits and none is to be sent.
+    /// Returns whether no request is outstanding and none is to be sent.
     pub(crate) fn is_empty(&self) -> bool
         ensures { result ≡ is_none_left self.now.queued && is_none_left self.now.outstanding }
     {
@@ -94,8 +96,8 @@ impl SweepRequests {
         self.table.get(self.sent)
     }
 
-    /// Marks the next request to be sent as sent, so that it waits for its reply. Fewer than 2^32 requests must wait.
-    /// There must be a request to be sent.
+    /// Marks the next request to be sent as sent, so that it is outstanding. Fewer than 2^32 requests may be
+    /// outstanding. There must be a request to be sent.
     pub(crate) fn send(&mut self)
         requires queued { 0 < length self.old.queued }
         requires few { length self.old.outstanding < 2 ^ 32 }
@@ -107,8 +109,8 @@ impl SweepRequests {
         self.sent += 1;
     }
 
-    /// Returns the waiting request at `index`, in ascending order of number, or `None` if no more than `index` requests
-    /// wait.
+    /// Returns the outstanding request at `index`, in ascending order of number, or `None` if at most `index`
+    /// requests are outstanding.
     pub(crate) fn get(&self, index: usize) -> Option<&Request>
         ensures { option_copied result ≡ slice_get self.now.outstanding index }
     {
@@ -119,8 +121,8 @@ impl SweepRequests {
         }
     }
 
-    /// Returns the number of requests, waiting or to be sent, whose TransactionID in a sweep of `generation` is below
-    /// `transaction`. Does a binary search.
+    /// Returns the number of requests, outstanding or to be sent, whose TransactionID in a sweep of `generation` is
+    /// below `transaction`. Does a binary search.
     fn count_below(&self, generation: Generation, transaction: u64) -> usize
         ensures index { IsIndex (λ r. nat_lt r.number (transaction - generation * 2 ^ 32))
             (self.now.outstanding ++ self.now.queued) result }
@@ -130,8 +132,8 @@ impl SweepRequests {
         self.table.count_below(sequence_of(generation, transaction))
     }
 
-    /// Returns the index of the waiting request that has the TransactionID `transaction` in a sweep of `generation`,
-    /// or `None` if no such request waits. Does a binary search.
+    /// Returns the index of the outstanding request that has the TransactionID `transaction` in a sweep of
+    /// `generation`, or `None` if no such request is outstanding. Does a binary search.
     pub(crate) fn index_of(&self, generation: Generation, transaction: u64) -> Option<usize>
         ensures { IsIndexFor (request_with generation transaction self.now.outstanding)
             self.now.outstanding result }
@@ -145,8 +147,8 @@ impl SweepRequests {
         }
     }
 
-    /// Returns the index of the waiting request that `smp` answers in a sweep of `generation`, or `None` if no such
-    /// request waits. Does a binary search.
+    /// Returns the index of the outstanding request that `smp` answers in a sweep of `generation`, or `None` if no
+    /// such request is outstanding. Does a binary search.
     pub(crate) fn index_for(&self, generation: Generation, smp: &Smp) -> Option<usize>
         ensures { IsIndexFor (find (belongs generation smp.now) self.now.outstanding)
             self.now.outstanding result }
@@ -160,7 +162,7 @@ impl SweepRequests {
         }
     }
 
-    /// Removes and returns the waiting request at `index`. There must be one.
+    /// Removes and returns the outstanding request at `index`, in ascending order of number. There must be one.
     pub(crate) fn end(&mut self, index: usize) -> Request
         requires { index < length self.old.outstanding }
         ensures request { Some result ≡ slice_get self.old.outstanding index }
@@ -191,7 +193,7 @@ impl SweepRequests {
         });
     }
 
-    /// Queues the questions for PortInfo of all ports of the switch `vertex`, from port 0 on. The switch must have
+    /// Queues the questions for PortInfo of all ports of the switch `vertex`, port 0 first. The switch must have
     /// fewer than 255 ports. There must be memory and numbers below 2^32 for these questions.
     fn ask_ports(&mut self, vertex: &Vertex)
         requires room { vertex.now.ports + 1 ≤ self.old.room }
@@ -229,7 +231,7 @@ impl SweepRequests {
     }
 
     /// Queues the question for SMInfo of the manager at a port, if `found` says that the manager is to be asked. The
-    /// question goes over `path`, the path to the port. There must be memory and a number below 2^32 for the
+    /// question goes along `path`, the path to the port. There must be memory and a number below 2^32 for the
     /// question.
     fn ask_manager(&mut self, path: &Path<63>, found: &PortFinding)
         requires room { length (manager_questions path.now found.now) ≤ self.old.room }
@@ -246,7 +248,7 @@ impl SweepRequests {
     }
 
     /// Queues the question for NodeInfo of the node at the far end of the wire at `port` of the node `guid`. The
-    /// question goes over `path` with `port` appended. `path` must be shorter than 63 hops. There must be memory and
+    /// question goes along `path` with `port` appended. `path` must be shorter than 63 hops. There must be memory and
     /// a number below 2^32 for the question.
     fn ask_across(&mut self, path: Path<63>, guid: Guid, port: PortNum)
         requires path { length path < 63 }
@@ -260,8 +262,8 @@ impl SweepRequests {
     }
 
     /// Queues the questions that follow from the finding `found` about a port that `path` leads to. If the sweep goes
-    /// on by the port, `path` must be shorter than 63 hops. There must be memory and numbers below 2^32 for these
-    /// questions.
+    /// on through the port, `path` must be shorter than 63 hops. There must be memory and numbers below 2^32 for
+    /// these questions.
     fn ask_of_port(&mut self, path: Path<63>, found: &PortFinding)
         requires reach { IsPathWithinReach path found.now.onward }
         requires room { length (port_found_questions path found.now) ≤ self.old.room }
@@ -275,9 +277,9 @@ impl SweepRequests {
         }
     }
 
-    /// Removes the waiting request at `index`, and queues the questions that follow from `finding`. There must be
-    /// such a request. There must be at most 256 questions, and none may need a path of over 63 hops. There must be
-    /// memory and numbers below 2^32 for all of them. Does not allocate.
+    /// Removes the outstanding request at `index`, in ascending order of number, and queues the questions that follow
+    /// from `finding`. There must be such a request. There must be at most 256 questions, and none may need a path of
+    /// more than 63 hops. There must be memory and numbers below 2^32 for all of them. Does not allocate.
     pub(crate) fn take(&mut self, index: usize, finding: &Finding)
         requires { CanTake self.old index finding.now }
         ensures { HasTaken index finding.now self.old self.new }

@@ -23,7 +23,7 @@ use Rattle.held_tables.specs.PlanTables.{range_from, owned_range, owned_lids, bl
 use Rattle.held_tables.specs.PlanRanges.{IsLidInRange, IsBlock, IsTableInRange, IsPlanInRange}
 use Rattle.tables_file.specs.PrintedTextIsRead.{PrintedPlansAreRead, AreTops, PrintedTablesAreRead, Says, held_under}
 use Rattle.tables_file.specs.PrintedTextIsRead.{with_own_top}
-use Rattle.tables_file.specs.TablesText.{next_text}
+use Rattle.tables_file.specs.PrintedTables.{next_text}
 use Rattle.tables_file.specs.Reading.{start, last_lines_after, first_fault_from, items_from, held_by, first_fault, held_of}
 use Rattle.held_tables.specs.HeldItem.{held_with}
 use Rattle.tables_file.proofs.LinesPrinted.{IsBelow, IsBeforeSwitch, IsRangeRight, lid_passes, switch_passes, block_passes}

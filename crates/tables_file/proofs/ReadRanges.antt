@@ -10,7 +10,7 @@ use Rattle.hex.specs.declared.error.FromHexError.TheVariants.{OddLength, Invalid
 use Rattle.hex.specs.Hex.{decode_pairs}
 use Rattle.hex.proofs.HexLemmas.{decode_pairs-ok}
 use Rattle.text_words.specs.Text.{lines, words}
-use Rattle.text_words.specs.Number.{number_of}
+use Rattle.text_words.specs.Numbers.{number_of}
 use Rattle.tables_file.specs.TablesTextFault.{TablesLineFault}
 use Rattle.held_tables.specs.declared.held.HeldBlock.{HeldBlock}
 use Rattle.held_tables.specs.declared.held.HeldLid.{HeldLid}
@@ -18,16 +18,16 @@ use Rattle.held_tables.specs.declared.held.HeldSwitch.{HeldSwitch}
 use Rattle.held_tables.specs.declared.held_item.HeldItem.{HeldItem}
 use Rattle.held_tables.specs.declared.held_item.HeldItem.TheVariants.{Nothing, Lid, Switch, Block}
 use Rattle.tables_file.specs.declared.last_lines.LastLines.{LastLines}
-use Rattle.tables_file.specs.declared.line.LidLine.{LidLine}
-use Rattle.tables_file.specs.declared.line.TextLine.{TextLine}
-use Rattle.tables_file.specs.declared.line.TextLine.TheVariants as line
+use Rattle.tables_file.specs.declared.tables_line.LidLine.{LidLine}
+use Rattle.tables_file.specs.declared.tables_line.TextLine.{TextLine}
+use Rattle.tables_file.specs.declared.tables_line.TextLine.TheVariants as line
 use Rattle.held_tables.specs.Held.{HeldPlan, LidRange, nothing_held}
 use Rattle.held_tables.specs.PlanRanges.{IsBlock}
 use Rattle.tables_file.specs.PrintedTextIsRead.{IsHeldInRange, TextsAreInRange}
 use Rattle.tables_file.specs.Reading.{start, is_behind, lid_after, lid_with, switch_after, switch_with, block_below, item_of, last_lines_after, then_or, items_from, held_by, held_of}
 use Rattle.held_tables.specs.HeldItem.{held_with}
 use Rattle.tables_file.specs.TablesLine.{top_line, switch_line, lid_line, line_in, line_of}
-use Rattle.text_words.specs.Number.{at_most, bare_guid_of, bytes_of, small_of}
+use Rattle.text_words.specs.Numbers.{at_most, bare_guid_of, bytes_of, small_of}
 use Rattle.text_words.specs.Text.{two_words}
 
 -- a top, entries, and a line

@@ -14,7 +14,7 @@ use Rattle.held_tables.specs.declared.held.HeldBlock.{HeldBlock}
 use Rattle.held_tables.specs.declared.held.HeldSwitch.{HeldSwitch}
 use Rattle.held_tables.specs.PlanTables.{blocks_from, blocks_of}
 use Rattle.tables_file.specs.PrintedTextIsRead.{with_own_top}
-use Rattle.tables_file.specs.TablesText.{block_text, first_blocks, is_of, later_blocks, switches_text}
+use Rattle.tables_file.specs.PrintedTables.{block_text, first_blocks, is_of, later_blocks, switches_text}
 
 -- a part of a text was written, and with what is left it is all
 pub record IsPartWritten (old new : Option (List ℕ)) (left all : List ℕ) : Type 0 where

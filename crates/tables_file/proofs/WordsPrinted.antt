@@ -14,8 +14,8 @@ use Rattle.text_words.proofs.Splits.{differs}
 use Rattle.text_words.proofs.NumbersPrinted.{decimal_digits, decimal_is_read, hex_digits, guid_is_read}
 use Rattle.text_words.proofs.Printed.{IsWord, is_bare, is_plain, all_append, bare_on, digit_apart, digits_all, digit_bare, digit_plain, until_then}
 use Rattle.held_tables.specs.PlanRanges.{IsBlock}
-use Rattle.text_words.specs.NodePort.{port_of}
-use Rattle.text_words.specs.Number.{bytes_of, small_of}
+use Rattle.text_words.specs.NodePorts.{port_of}
+use Rattle.text_words.specs.Numbers.{bytes_of, small_of}
 
 -- bytes that are all bare and plain, some of them, are a word
 bare_word : (word : List ℕ) → 0 < length word → list_all is_bare word ≡ true → list_all is_plain word ≡ true → IsWord word

@@ -2,5 +2,5 @@ pub mod PrintedTextIsRead
 pub mod Reading
 pub mod Reads
 pub mod TablesLine
-pub mod TablesText
+pub mod PrintedTables
 pub mod TablesTextFault

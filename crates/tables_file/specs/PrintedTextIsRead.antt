@@ -7,10 +7,10 @@ use Rattle.held_tables.specs.Held.{HeldPlan}
 use Rattle.held_tables.specs.PlanRanges.{IsBlock, IsPlanInRange}
 use Rattle.held_tables.specs.PlanTables.{blocks_of, owned_lids, with_top, held_plan}
 use Rattle.tables_file.specs.Reading.{first_fault, held_of}
-use Rattle.tables_file.specs.TablesText.{next_text}
+use Rattle.tables_file.specs.PrintedTables.{next_text}
 use Rattle.fact_store.specs.View.{Facts, cells_of, AreInRange}
 use Rattle.lid_assign.specs.Lids.{IsNoRoom}
-use Rattle.lft_blocks.specs.Rules.{RuleValue}
+use Rattle.lft_blocks.specs.Rule.{RuleValue}
 use Rattle.lft_blocks.specs.PlanText.{plan_text}
 
 -- the text has no fault, and what it says is `held`

@@ -1,11 +1,11 @@
--- What a text of tables says: what its lines say, in order, up to the first fault.
+-- What a text of tables says: what its lines say, one after the other, up to the first fault.
 use Rattle.std.specs.Prelude.{ℕ, ◌+◌, ◌^◌, ◌==◌, ◌||◌, ◌&&◌, Bool, List, [], ◌∷◌, Option, None, Some, Result, Ok, Err, nat_lt, if◌then◌else◌}
 use Rattle.text_words.specs.Text.{lines}
-use Rattle.tables_file.specs.declared.fault.TablesTextError.{TablesTextError}
-use Rattle.tables_file.specs.declared.fault.TablesTextError.TheVariants as wrong
+use Rattle.tables_file.specs.declared.tables_text_fault.TablesTextError.{TablesTextError}
+use Rattle.tables_file.specs.declared.tables_text_fault.TablesTextError.TheVariants as wrong
 use Rattle.tables_file.specs.TablesTextFault.{TablesLineFault}
-use Rattle.tables_file.specs.declared.line.TextLine.{TextLine}
-use Rattle.tables_file.specs.declared.line.TextLine.TheVariants as line
+use Rattle.tables_file.specs.declared.tables_line.TextLine.{TextLine}
+use Rattle.tables_file.specs.declared.tables_line.TextLine.TheVariants as line
 use Rattle.held_tables.specs.declared.held_item.HeldItem.{HeldItem}
 use Rattle.held_tables.specs.declared.held_item.HeldItem.TheVariants.{Nothing, Lid, Switch, Block}
 use Rattle.tables_file.specs.declared.last_lines.LastLines.{LastLines}
@@ -31,8 +31,8 @@ last_lines_after last_lines (Block number entries) = record last_lines { block =
 abbrev pub fault_at : {T : Type 0} → ℕ → TablesTextError → Result T TablesLineFault
 fault_at number what = Err (record { line = number; wrong = what })
 
--- whether `held` comes after `last`: its LID, its node or, on the same node, its port is greater. The LID of `held`
--- must not be less than that of `last`
+-- whether `held` comes after `last`: the LID, the node or, on the same node, the port of `held` is greater. The LID
+-- of `held` must not be less than that of `last`
 abbrev pub is_behind : HeldLid → HeldLid → Bool
 is_behind last held =
     nat_lt last.lid held.lid || nat_lt last.port.node held.port.node
@@ -102,8 +102,8 @@ block_below number (Some switch) next block entries = block_after number next bl
 abbrev pub block_with : ℕ → LastLines → Option ℕ → List ℕ → Result HeldItem TablesLineFault
 block_with number last_lines block entries = block_below number last_lines.switch last_lines.block block entries
 
--- the item that the line `number` says, after the lines before it; a fault if the line is None, since the grammar has
--- no such line, or if it may not follow the lines before it
+-- if the line `number` may follow the lines before it, the item that the line says; otherwise a fault. None stands
+-- for a line that the grammar does not have, which is a fault
 abbrev pub item_of : ℕ → LastLines → Option TextLine → Result HeldItem TablesLineFault
 item_of number last_lines None = fault_at number wrong.Syntax
 item_of number last_lines (Some line.Empty) = Ok Nothing
@@ -116,14 +116,14 @@ abbrev pub then_or : {T : Type 0} → Result HeldItem TablesLineFault → (HeldI
 then_or (Ok item) next last = next item
 then_or (Err fault) next last = last fault
 
--- the first fault of the lines; None if they have none. The first line has the number `number`
+-- the first fault of the lines; None if the lines have no fault. The first line has the number `number`
 abbrev pub first_fault_from : ℕ → LastLines → List (List ℕ) → Option TablesLineFault
 first_fault_from number last_lines [] = None
 first_fault_from number last_lines (l ∷ later) =
     then_or (item_of number last_lines (line_of l)) (λ item. first_fault_from (number
     + 1) (last_lines_after last_lines item) later) Some
 
--- the items that the lines before the first fault say, in order
+-- the items that the lines before the first fault say, in the order of the lines
 abbrev pub items_from : ℕ → LastLines → List (List ℕ) → List HeldItem
 items_from number last_lines [] = []
 items_from number last_lines (l ∷ later) =
@@ -135,7 +135,7 @@ abbrev pub held_by : HeldPlan → List HeldItem → HeldPlan
 held_by held [] = held
 held_by held (item ∷ items) = held_by (held_with held item) items
 
--- the first fault of a text; None if it has none
+-- the first fault of a text; None if the text has no fault
 unfoldable pub first_fault : List ℕ → Option TablesLineFault
 first_fault text = first_fault_from 1 start (lines text)
 

@@ -1,7 +1,7 @@
 -- The result of reading a text of tables: what it says, its first fault, or lack of memory.
 use Rattle.std.specs.Prelude.{◌≡◌, List, ℕ, None, Some, Result, Ok, Err}
 use Rattle.tables_file.specs.TablesTextFault.{TablesTextFault}
-use Rattle.text_words.specs.declared.fault.LinesFault.TheVariants.{Line, Memory}
+use Rattle.text_words.specs.declared.lines_fault.LinesFault.TheVariants.{Line, Memory}
 use Rattle.held_tables.specs.Held.{HeldPlan}
 use Rattle.tables_file.specs.Reading.{first_fault, held_of}
 

@@ -2,14 +2,14 @@
 use Rattle.std.specs.Prelude.{ℕ, List, [], ◌∷◌, Option, None, Some, option_map, option_and_then, codes, if◌then◌else◌}
 use Rattle.std.specs.Str.{bytes_eq}
 use Rattle.text_words.specs.Text.{words}
-use Rattle.text_words.specs.Number.{count_of}
-use Rattle.tables_file.specs.declared.line.TextLine.{TextLine}
-use Rattle.tables_file.specs.declared.line.TextLine.TheVariants.{Empty, Lid, Switch, Block}
-use Rattle.tables_file.specs.declared.line.LidLine.{LidLine}
-use Rattle.tables_file.specs.declared.line.SwitchLine.{SwitchLine}
-use Rattle.tables_file.specs.declared.line.BlockLine.{BlockLine}
-use Rattle.text_words.specs.NodePort.{port_of}
-use Rattle.text_words.specs.Number.{bare_guid_of, bytes_of, small_of}
+use Rattle.text_words.specs.Numbers.{count_of}
+use Rattle.tables_file.specs.declared.tables_line.TextLine.{TextLine}
+use Rattle.tables_file.specs.declared.tables_line.TextLine.TheVariants.{Empty, Lid, Switch, Block}
+use Rattle.tables_file.specs.declared.tables_line.LidLine.{LidLine}
+use Rattle.tables_file.specs.declared.tables_line.SwitchLine.{SwitchLine}
+use Rattle.tables_file.specs.declared.tables_line.BlockLine.{BlockLine}
+use Rattle.text_words.specs.NodePorts.{port_of}
+use Rattle.text_words.specs.Numbers.{bare_guid_of, bytes_of, small_of}
 use Rattle.text_words.specs.Text.{two_words}
 
 -- reads `lmc N`; None for any other words. The inner value is N, or None if N is above 7

@@ -1,9 +1,9 @@
 -- The faults of a text of tables. The text of a plan is such a text.
 use Rattle.std.specs.Prelude.{ℕ, List, codes}
-use Rattle.text_words.specs.declared.fault.LineFault.{LineFault}
-use Rattle.text_words.specs.declared.fault.LinesFault.{LinesFault}
-use Rattle.tables_file.specs.declared.fault.TablesTextError.{TablesTextError}
-use Rattle.tables_file.specs.declared.fault.TablesTextError.TheVariants.{Syntax, Lid, Port, Lmc, Switch, Block}
+use Rattle.text_words.specs.declared.lines_fault.LineFault.{LineFault}
+use Rattle.text_words.specs.declared.lines_fault.LinesFault.{LinesFault}
+use Rattle.tables_file.specs.declared.tables_text_fault.TablesTextError.{TablesTextError}
+use Rattle.tables_file.specs.declared.tables_text_fault.TablesTextError.TheVariants.{Syntax, Lid, Port, Lmc, Switch, Block}
 
 -- a fault of a line, with the line's number
 abbrev pub TablesLineFault : Type 0

@@ -3,8 +3,8 @@ ghost use Rattle.tables_file.specs.TablesLine.{line_of};
 ghost use Rattle.tables_file.specs.Reading.{start, item_of, last_lines_after};
 ghost use Rattle.tables_file.specs.Reading.{lid_with, lid_after, lid_behind, is_behind, switch_with, block_with};
 
-use crate::fault::{TablesLineFault, TablesTextError};
-use crate::line::{BlockLine, LidLine, SwitchLine, TextLine, read_line};
+use crate::tables_line::{BlockLine, LidLine, SwitchLine, TextLine, read_line};
+use crate::tables_text_fault::{TablesLineFault, TablesTextError};
 use held_tables::{HeldItem, HeldLid, HeldRange, HeldSwitch};
 use smp_bytes::{Guid, Lid};
 use subnet_view::EndPort;
@@ -17,7 +17,7 @@ const LID_END: u32 = Lid::UNICAST_END as u32;
 pub(crate) struct LastLines {
     /// The first LID of the last `lid` line, with its end port, or `None` if there was no such line.
     pub(crate) lid: Option<HeldLid>,
-    /// The GUID of the last switch, or `None` if there was none.
+    /// The GUID of the last switch, or `None` if there was no switch.
     pub(crate) switch: Option<Guid>,
     /// The least number that the next block of the last switch may have.
     pub(crate) block: u32,

@@ -14,8 +14,8 @@ pub fn plans_are_read()
     ensures law { PlansAreRead }
 {}
 
-/// Let the numbers of a plan be in their ranges, and let each switch be given a top of its own, at most 49,151. Then
-/// the text of the plan's LIDs and tables under these tops has no fault, and is read as these tables.
+/// If the numbers of a plan are in their ranges, and each switch is given a top of its own, at most 49,151, the text
+/// of the plan's LIDs and tables under these tops has no fault, and is read as these tables.
 pub fn printed_tables_are_read()
     ensures law { PrintedTablesAreRead }
 {}

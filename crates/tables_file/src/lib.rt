@@ -2,13 +2,13 @@
 //! switches.
 #![tactic(auto)]
 
-mod fault;
 mod last_lines;
 pub mod laws;
-mod line;
-mod tables_text;
-mod text;
+mod printed_tables;
+mod reading;
+mod tables_line;
+mod tables_text_fault;
 
-pub use fault::{TablesLineFault, TablesTextError, TablesTextFault};
-pub use tables_text::{write_next, write_tables};
-pub use text::parse;
+pub use printed_tables::{write_next, write_tables};
+pub use reading::parse;
+pub use tables_text_fault::{TablesLineFault, TablesTextError, TablesTextFault};

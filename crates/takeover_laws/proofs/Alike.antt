@@ -6,7 +6,7 @@ use Rattle.fact_store.specs.View.{Facts, cells_of}
 use Rattle.subnet_view.specs.declared.end_port.EndPort.{EndPort}
 use Rattle.reply_facts.specs.Known.{port_guid_of, cap_of}
 use Rattle.subnet_view.specs.Reading.{is_usable, switches, IsUsable}
-use Rattle.subnet_view.specs.EndPorts.{end_ports, ComesBefore}
+use Rattle.subnet_view.specs.EndPort.{end_ports, ComesBefore}
 use Rattle.subnet_view.specs.Wires.{across}
 use Rattle.subnet_view.proofs.EndPortList.{end_ports_law}
 use Rattle.subnet_view.proofs.EndPortOrder.{one_way, less_from_test}

@@ -29,8 +29,8 @@ use Rattle.fabric_sim.proofs.Traced.{IsOnCourse, IsForManager}
 use Rattle.fabric_sim.proofs.TripsOut.{IsPortOf}
 use Rattle.sweep.specs.declared.answer.Answer.{Answer}
 use Rattle.sweep.specs.declared.fault.SweepFault.{SweepFault}
-use Rattle.sweep.specs.declared.request.Question.{Question}
-use Rattle.sweep.specs.declared.request.Question.TheVariants as ask
+use Rattle.sweep.specs.declared.question.Question.{Question}
+use Rattle.sweep.specs.declared.question.Question.TheVariants as ask
 use Rattle.sweep.specs.declared.request.Request.{Request}
 use Rattle.sweep.specs.Sweep.{Sweep, attribute_asked, modifier_asked, transaction_of, packet_of, after_next_request, after_next_request_of}
 use Rattle.sweep.specs.Replies.{answer_by, judged, sightings_by}

@@ -27,14 +27,15 @@ use Rattle.subnet_view.specs.Reading.{Cells}
 use Rattle.lid_assign.specs.Lids.{IsNoRoom}
 use Rattle.lft_blocks.specs.InForce.{HoldsPlan, HoldsPlanAt}
 use Rattle.lft_blocks.specs.Plan.{PlanValue, block_at, plan_of}
-use Rattle.plan_steps.specs.Phases.{Phase}
+use Rattle.plan_steps.specs.Phase.{Phase}
 use Rattle.fabric_sim.specs.declared.flight.Flight.{Flight}
 use Rattle.fabric_sim.specs.Simulation.{Simulation, fabric_of}
 use Rattle.fabric_sim.specs.Flights.{flight_with}
-use Rattle.fabric_sim.specs.Delivery.{outcome_of, after_deliver}
+use Rattle.fabric_sim.specs.Delivery.{after_deliver}
+use Rattle.fabric_sim.specs.PacketOutcome.{outcome_of}
 use Rattle.fabric_sim.specs.Changes.{after_inject, after_lose, cabled_at}
 use Rattle.lft_blocks.specs.Planning.{Planning}
-use Rattle.lft_blocks.specs.Rules.{up_and_down}
+use Rattle.lft_blocks.specs.Rule.{up_and_down}
 use Rattle.manager_laws.specs.Scene.{Deliver, Lose}
 use Rattle.sm_manager.specs.PlanFaults.{writing_fault}
 use Rattle.sm_manager.specs.Writing.{begun_with}

@@ -18,7 +18,7 @@ use Rattle.subnet_view.specs.FabricAgreement.{IsEndPortIn, TellsEndPort}
 use Rattle.subnet_view.specs.Reading.{Cells}
 use Rattle.lid_assign.specs.Lids.{IsNoRoom, range_of}
 use Rattle.lft_blocks.specs.Plan.{plan_of}
-use Rattle.lft_blocks.specs.Rules.{up_and_down}
+use Rattle.lft_blocks.specs.Rule.{up_and_down}
 use Rattle.lft_blocks.specs.Planning.{Planning}
 use Rattle.manager_laws.specs.Managing.{Managing}
 use Rattle.takeover_laws.specs.AfterCut.{SomeManagerServesTheRest, TakesRest}

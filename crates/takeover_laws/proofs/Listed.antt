@@ -7,7 +7,7 @@ use Rattle.fabric_sim.specs.Simulation.{Simulation, fabric_of}
 use Rattle.reply_facts.specs.Known as values
 use Rattle.subnet_view.specs.FabricAgreement.{Part, AgreesOn}
 use Rattle.subnet_view.proofs.UsableSwitches.{switches_law}
-use Rattle.lft_blocks.specs.Rules.{RuleValue}
+use Rattle.lft_blocks.specs.Rule.{RuleValue}
 use Rattle.lft_blocks.specs.Plan.{plan_of}
 use Rattle.manager_laws.proofs.Planned.{switch_is, to_switches}
 use Rattle.takeover_laws.proofs.HeldOn.{AreListed}

@@ -9,7 +9,7 @@ use Rattle.port_graph.specs.declared.edge.Edge.{Edge}
 use Rattle.subnet_view.specs.declared.end_port.EndPort.{EndPort}
 use Rattle.reply_facts.specs.Known.{port_guid_of, cap_of}
 use Rattle.subnet_view.specs.Reading.{Cells, port_count_of, is_switch_in, is_switch_node, is_usable, switches}
-use Rattle.subnet_view.specs.EndPorts.{end_ports}
+use Rattle.subnet_view.specs.EndPort.{end_ports}
 use Rattle.subnet_view.specs.Wires.{across, attached, CanHaveWire, IsWire}
 use Rattle.subnet_view.proofs.EndPortList.{end_ports_law}
 use Rattle.subnet_view.proofs.Members.{contains_here, contains_later, contains_cases, contains_none}
@@ -19,7 +19,7 @@ use Rattle.subnet_view.proofs.WireLaws.{wire_law}
 use Rattle.subnet_view.specs.SwitchEdges.{SwitchEdges}
 use Rattle.subnet_view.specs.Graph.{edge_at, edges_of, graph_of, guids_of}
 use Rattle.spread_routes.specs.Adapters.{adapters_at, adapters_of, has_adapter_at}
-use Rattle.lft_blocks.specs.Rules.{RuleValue}
+use Rattle.lft_blocks.specs.Rule.{RuleValue}
 use Rattle.lft_blocks.proofs.RulesRoute.{rules_stay}
 use Rattle.lid_assign.specs.Ranges.{range_at, meets}
 use Rattle.lid_assign.specs.Lids.{IsNoRoom, hand_out, handed_out, lids, owner_of, top_of}

@@ -21,7 +21,7 @@ use Rattle.subnet_view.specs.declared.end_port.EndPort.{EndPort}
 use Rattle.reply_facts.specs.Known as values
 use Rattle.reply_facts.specs.Known.{cap_of, claim_of}
 use Rattle.subnet_view.specs.Reading.{Cells, switches}
-use Rattle.subnet_view.specs.EndPorts.{IsEndPort, end_ports}
+use Rattle.subnet_view.specs.EndPort.{IsEndPort, end_ports}
 use Rattle.subnet_view.specs.FabricAgreement.{AgreesOn, IsEndPortIn, Part, TellsEndPort}
 use Rattle.subnet_view.proofs.Apart.{Apart, before_apart, contains-from_map}
 use Rattle.subnet_view.proofs.EndPortList.{end_ports_law}

@@ -15,7 +15,7 @@ use Rattle.reply_facts.specs.declared.key.Key.TheVariants.{Node, PortGuid, Link,
 use Rattle.reply_facts.specs.Known.{kind_in, guid_in, peer_in, up_in, lid_in, count_in, known_in, node_of, port_guid_of, link_of, cap_of, claim_of}
 use Rattle.fact_store.specs.View.{Facts, cells_of}
 use Rattle.subnet_view.specs.Reading.{Cells, is_up, port_count_of, IsUsable}
-use Rattle.subnet_view.specs.EndPorts.{IsEndPort}
+use Rattle.subnet_view.specs.EndPort.{IsEndPort}
 use Rattle.subnet_view.specs.Wires.{CanHaveWire, IsWire}
 use Rattle.subnet_view.specs.FabricAgreement.{Part, WholeFabric, IsEndPortIn, HasEndPort, TellsEndPort, AgreesOn}
 use Rattle.subnet_view.specs.declared.end_port.EndPort.{EndPort}
@@ -25,7 +25,7 @@ use Rattle.subnet_view.proofs.EndPortList.{end_ports_law}
 use Rattle.subnet_view.proofs.Members.{contains_in}
 use Rattle.lid_assign.specs.Lids.{IsNoRoom, lids, lmc_of, range_of}
 use Rattle.lft_blocks.specs.Plan.{plan_of}
-use Rattle.lft_blocks.specs.Rules.{RuleValue}
+use Rattle.lft_blocks.specs.Rule.{RuleValue}
 use Rattle.lid_assign.specs.Stability.{ClaimLids}
 use Rattle.lid_assign.proofs.LidLaws.{ports-lids}
 use Rattle.lid_assign.proofs.Owners.{given-from_lid}

@@ -17,7 +17,7 @@ use Rattle.fabric_sim.proofs.Courses.{AnySends, SaysSo}
 use Rattle.fabric_sim.proofs.TracedCalls.{agents_after, injected_agents, lost_agents, repeated_agents}
 use Rattle.subnet_view.specs.FabricAgreement.{AgreesOn}
 use Rattle.lid_assign.specs.Lids.{IsNoRoom}
-use Rattle.lft_blocks.specs.Rules.{RuleValue}
+use Rattle.lft_blocks.specs.Rule.{RuleValue}
 use Rattle.lft_blocks.specs.InForce.{HoldsPlan}
 use Rattle.lft_blocks.specs.Plan.{PlanValue, plan_of}
 use Rattle.sm_manager.specs.declared.outgoing.Outgoing.{Outgoing}

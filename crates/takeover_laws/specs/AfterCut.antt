@@ -9,7 +9,7 @@ use Rattle.fabric_sim.specs.Simulation.{fabric_of}
 use Rattle.subnet_view.specs.declared.end_port.EndPort.{EndPort}
 use Rattle.reply_facts.specs.Known.{claim_of}
 use Rattle.subnet_view.specs.Reading.{Cells}
-use Rattle.subnet_view.specs.EndPorts.{end_ports}
+use Rattle.subnet_view.specs.EndPort.{end_ports}
 use Rattle.subnet_view.specs.FabricAgreement.{IsEndPortIn, TellsEndPort}
 use Rattle.lid_assign.specs.Lids.{IsNoRoom, lids, lid_of, range_of, top_of}
 use Rattle.lid_assign.specs.Claims.{room}
@@ -28,8 +28,9 @@ use Rattle.takeover_laws.specs.Takeover.{SweepsAlone, planning_at, plan_by_it}
 abbrev pub FloorsForget : Type 0
 FloorsForget = (facts : Facts) (floor : ℕ) → 1 < floor → newest_held facts < floor → cells_of (raised facts floor) ≡ []
 
--- a manager that is called to raise its floor to `floor` then has no facts, and the generation of its next sweep is the
--- greater of its old floor and `floor`, if `floor` is above 1 and above each generation that the manager holds
+-- if `floor` is above 1 and above each generation that a manager holds, a manager that is called to raise its floor
+-- to `floor` then has no facts, and the generation of its next sweep is the greater of the manager's old floor and
+-- `floor`
 abbrev pub RaisedManagersKnowNothing : Type 0
 RaisedManagersKnowNothing = (w : Managing) (floor : ℕ) → 1 < floor → newest_held w.manager.store < floor
     → (cells_of (after_manager_event w (Raise floor)).manager.store ≡ [])
@@ -45,8 +46,8 @@ pub record IsRestOf (lmc : ℕ) (x y : Cells) : Type 0 where
       → claim_of y e.node e.port ≡ Some lid
   pub in_room : (top : ℕ) → top_of (lids lmc x) ≡ Some top → top < room y
 
--- end ports of what is left (`IsRestOf`) keep the LIDs of the earlier plan, whichever others are gone, if both views
--- have room
+-- if both views have room, end ports of what is left (`IsRestOf`) keep the LIDs of the earlier plan, whichever others
+-- are gone
 abbrev pub LidsOutlast : Type 0
 LidsOutlast = (lmc : ℕ) (x y : Facts) → ¬ (IsNoRoom lmc (cells_of x)) → ¬ (IsNoRoom lmc (cells_of y))
     → IsRestOf lmc (cells_of x) (cells_of y)

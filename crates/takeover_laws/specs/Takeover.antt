@@ -18,7 +18,7 @@ use Rattle.manager_laws.specs.Pings.{EachPingArrives}
 use Rattle.manager_laws.specs.Complete.{IsWhole}
 use Rattle.fabric_model.specs.declared.cable.NodePort.{NodePort}
 use Rattle.fabric_sim.specs.Simulation.{Simulation}
-use Rattle.lft_blocks.specs.Rules.{RuleValue}
+use Rattle.lft_blocks.specs.Rule.{RuleValue}
 use Rattle.manager_laws.specs.Sets.{KeepsPlan, OwnSets}
 use Rattle.manager_laws.specs.Managing.{Managing, ManagerEvent, Around, Begin, after_manager_event, after_manager_events}
 use Rattle.manager_laws.specs.WritingPings.{AreNoSweeps}
@@ -39,8 +39,8 @@ planning_at w before between = (at_writing w before between).manager.planning
 abbrev pub plan_by_it : Planning → Facts → PlanValue
 plan_by_it planning facts = plan_of planning.rule planning.lmc (cells_of facts)
 
--- a manager without facts sweeps, and the sweep has every answer. Until the writing it learns only from this sweep;
--- then it begins to write the plan of its facts. Until the writing no port gets another LID
+-- a manager without facts sweeps, and the sweep has every answer. Until the writing the manager learns only from this
+-- sweep; then it begins to write the plan of its facts. Until the writing no port gets another LID
 pub record SweepsAlone (w : Managing) (before between after : List ManagerEvent) : Type 0 where
   -- no packet is on its way at the start; a sweep begins, and later a writing
   pub run : IsWritingRun w before between after
@@ -67,8 +67,8 @@ pub record TakesOver (held : Facts) (w : Managing) (before between after : List 
   pub holds : HoldsPlan (IsJoinedTo (fabric_of w.scene.fabric) w.seat) (plan_by_it (planning_at w before between) held)
       (fabric_of w.scene.fabric)
 
--- the plan that the manager is about to write is that of the facts `held`, with the same LIDs and blocks. Pings arrived
--- before the run, and they arrive at its end if the plan counts as written
+-- the plan that the manager is about to write is that of the facts `held`, with the same LIDs and blocks. Pings
+-- arrived before the run, and arrive at the end of the run if the plan counts as written
 pub record ChangesNothing (held : Facts) (w : Managing) (before between after : List ManagerEvent) : Type 0 where
   pub same_plan : plan_at (at_writing w before between) ≡ plan_by_it (planning_at w before between) held
   pub arrived : EachPingArrives (planning_at w before between).rule (cells_of held)
@@ -78,7 +78,7 @@ pub record ChangesNothing (held : Facts) (w : Managing) (before between after : 
       (plan_by_it (planning_at w before between) held)
       (at_end w before between after).scene.fabric w.seat
 
--- if a manager takes over a subnet that holds a plan, it changes nothing (`ChangesNothing`)
+-- if a manager takes over a subnet that holds a plan, the manager changes nothing (`ChangesNothing`)
 abbrev pub TakeoverChangesNothing : Type 0
 TakeoverChangesNothing =
     (held : Facts) (w : Managing) (before between after : List ManagerEvent) → TakesOver held w before between after
@@ -95,7 +95,7 @@ abbrev pub Carrying : PlanValue → Managing → ManagerEvent → Type 0
 Carrying plan w (Around event) = KeepsPlan plan no_sets w.scene.fabric event
 Carrying plan w event = Unit {0}
 
--- each Set that an agent takes by `events` carries the plan's values
+-- each Set that an agent takes in the course of `events`, from `w` on, carries the plan's values
 abbrev pub AllCarry : PlanValue → List ManagerEvent → Managing → Type 0
 AllCarry plan [] w = Unit {0}
 AllCarry plan (event ∷ events) w = Carrying plan w event × AllCarry plan events (after_manager_event w event)

@@ -7,41 +7,41 @@ ghost use Rattle.takeover_laws.specs.AfterCut.{FloorsForget, LidsOutlast, Raised
 ghost use Rattle.takeover_laws.specs.AfterCut.{SomeManagerServesTheRest};
 ghost use Rattle.takeover_laws.specs.Takeover.{PingsArriveThroughout, SomeManagerTakesOver, TakeoverChangesNothing};
 
-/// Two alike views in which each end port claims the same LID, or claims no LID in either view, have the same plan, by
-/// each rule and under each LMC, and both have room or neither has. Views are alike if they have the same end ports
+/// Two alike views in which each end port claims the same LID, or claims no LID in either view, have the same plan,
+/// under each rule and each LMC, and both have room or neither has. Views are alike if they have the same end ports
 /// with the same port GUIDs, the same usable switches with as many ports and as much room, and the same wires.
 pub fn alike_views_plan_alike()
     ensures { AlikeViewsPlanAlike }
 {}
 
-/// The second of two alike views has room and the plan of the first, by each rule and under each LMC, if two conditions
-/// hold: the first has room; and each end port claims in the second the LID that the plan of the first gives to the end
-/// port.
+/// If the first of two alike views has room, and each end port claims in the second view the LID that the plan of the
+/// first gives to the end port, then the second view has room and the plan of the first, under each rule and each
+/// LMC.
 pub fn claimed_plans_stay()
     ensures { ClaimedPlansStay }
 {}
 
-/// Two views that know the same value of each key, or neither of which knows one, have the same plan, by each rule and
-/// under each LMC, and both have room or neither has. Generations do not matter, nor does what is disputed.
+/// Two views that know the same value of each key, or neither of which knows one, have the same plan, under each rule
+/// and each LMC, and both have room or neither has. Generations do not matter, nor does what is disputed.
 pub fn plans_read_known_values()
     ensures { PlansReadKnownValues }
 {}
 
-/// If two views know the same value of each key that is not a claim, or neither knows one, the second view has room
-/// and the plan of the first, by each rule and under each LMC, if two conditions hold: the first has room; and the
-/// second claims the LIDs of the plan of the first. Generations do not matter.
+/// If two views know the same value of each key that is not a claim, or neither knows one, the second view has room and
+/// the plan of the first, under each rule and each LMC, if two conditions hold: the first has room; and the second
+/// claims the LIDs of the plan of the first. Generations do not matter.
 pub fn known_plans_stay()
     ensures { KnownPlansStay }
 {}
 
-/// Two views that describe the same part of a fabric exactly and have the same claims of the part's end ports have the
-/// same plan, by each rule and under each LMC, and both have room or neither has.
+/// Two views that describe the same part of a fabric exactly and have the same claims of the part's end ports have
+/// the same plan, under each rule and each LMC, and both have room or neither has.
 pub fn who_sees_the_same_plans_the_same()
     ensures { WhoSeesTheSamePlansTheSame }
 {}
 
 /// Two views that describe the same part of a fabric exactly, and in which each end port of the part claims the LID
-/// that the end port has, have the same plan, by each rule and under each LMC, and both have room or neither has.
+/// that the end port has, have the same plan, under each rule and each LMC, and both have room or neither has.
 pub fn who_sees_the_truth_plans_the_same()
     ensures { WhoSeesTheTruthPlansTheSame }
 {}
@@ -67,7 +67,7 @@ pub fn swept_claims_are_true()
 {}
 
 /// The facts of a sweep have room and give the plan that the part joined to its seat holds, by the same rule and LMC,
-/// if two conditions hold: the part holds the plan of some facts with room that describe the part exactly; and the
+/// if two conditions hold: the part holds the plan of a set of facts with room that describes the part exactly; and the
 /// sweep has every answer while no port gets another LID. The plan has the same LIDs, and each block as it is. It does
 /// not matter who made the plan, in which generations, or from where.
 pub fn takeovers_change_nothing()
@@ -75,7 +75,7 @@ pub fn takeovers_change_nothing()
 {}
 
 /// A manager is about to write the plan that its subnet holds, with the same LIDs and each block as it is, if four
-/// conditions hold: the subnet holds the plan of some facts with room that describe the subnet exactly, by the
+/// conditions hold: the subnet holds the plan of a set of facts with room that describes the subnet exactly, by the
 /// manager's rule and LMC; the manager held no facts when its sweep began; the sweep had every answer while no port got
 /// another LID; and the manager learned nothing else until the writing. Pings arrived before, and arrive once the plan
 /// counts as written.
@@ -126,8 +126,8 @@ pub fn rest_is_served()
     ensures { RestIsServed }
 {}
 
-/// Some manager takes over the rest: the manager of `some_manager_takes_over`, with earlier facts that contain a third
-/// adapter, which is gone.
+/// Some manager takes over the rest: the manager of `some_manager_takes_over`, with an earlier set of facts that
+/// contains a third adapter, which is gone.
 pub fn some_manager_serves_the_rest()
     ensures { SomeManagerServesTheRest }
 {}

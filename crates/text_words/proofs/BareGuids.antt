@@ -1,7 +1,7 @@
 -- GUIDs without the prefix `0x` are read like the numbers of words.
 use Rattle.std.proofs.Common.{◌≡◌, ℕ, ◌-◌, ◌<◌, ◌≤◌, ◌^◌, false, leb, List, ◌++◌, length, min, None, Some, refl, arith}
 use Rattle.std.specs.Prelude.{codes, option_map}
-use Rattle.text_words.specs.Number.{bare_guid_of, number_of}
+use Rattle.text_words.specs.Numbers.{bare_guid_of, number_of}
 use Rattle.text_words.proofs.Digits.{guid_is, not_within}
 
 -- up to sixteen digits

@@ -15,7 +15,7 @@ use Rattle.std.proofs.lemmas.Nat.{mul-le}
 use Rattle.std.proofs.lemmas.List.{take_all}
 use Rattle.std.proofs.lemmas.Int.Digits.{digits_value_more, digits_value-lt}
 use Rattle.std.proofs.Math.Nat.{pow-le-pow_right}
-use Rattle.text_words.specs.Number.{digit_of, number_of, up_to, guid_of}
+use Rattle.text_words.specs.Numbers.{digit_of, number_of, up_to, guid_of}
 use Rattle.text_words.proofs.Names.{both}
 
 -- a digit more

@@ -12,7 +12,7 @@ use Rattle.std.proofs.lemmas.Fmt.{decimal_is_IsNumeral}
 use Rattle.std.proofs.lemmas.Int.Digits.{digits_value_push, digits_push}
 use Rattle.smp_bytes.specs.Text.{hex_text, guid_text}
 use Rattle.smp_bytes.proofs.HexText.{length-hex_text}
-use Rattle.text_words.specs.Number.{number_of, count_of, guid_of}
+use Rattle.text_words.specs.Numbers.{number_of, count_of, guid_of}
 use Rattle.text_words.proofs.Digits.{is_within, is_below}
 
 -- what all digits pass

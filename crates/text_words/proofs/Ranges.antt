@@ -10,7 +10,7 @@ use Rattle.std.proofs.lemmas.List.{length-drop}
 use Rattle.std.proofs.lemmas.Int.Digits.{digits_value-lt}
 use Rattle.std.proofs.Math.Nat.{pow-le-pow_right}
 use Rattle.text_words.specs.NodeName.{is_name, name_in}
-use Rattle.text_words.specs.Number.{number_of, up_to, count_of, guid_of}
+use Rattle.text_words.specs.Numbers.{number_of, up_to, count_of, guid_of}
 use Rattle.text_words.specs.Quoted.{alone, enclosed, quoted_name, bracketed_port, named_port}
 use Rattle.text_words.proofs.Names.{both}
 use Rattle.text_words.proofs.Digits.{all_digits}

@@ -1,7 +1,7 @@
-pub mod Faults
+pub mod LinesFault
 pub mod NodeName
-pub mod NodePort
-pub mod Number
+pub mod NodePorts
+pub mod Numbers
 pub mod Printed
 pub mod Quoted
 pub mod Text

@@ -1,6 +1,6 @@
 -- Names in double quotes and ports in square brackets, as words are read.
 use Rattle.std.specs.Prelude.{ℕ, List, [], ◌∷◌, Option, None, Some, option_map, option_and_then, ◌==◌, if◌then◌else◌}
-use Rattle.text_words.specs.Number.{count_of}
+use Rattle.text_words.specs.Numbers.{count_of}
 use Rattle.text_words.specs.NodeName.{name_in}
 
 -- the bytes before the first `close`, and the bytes after it; None if there is no `close`

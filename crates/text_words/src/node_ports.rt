@@ -1,7 +1,7 @@
 //! A node's GUID and a port of it as a word, as in `0000000000000100/1`.
 ghost use Rattle.std.specs.Prelude.{◌≡◌, ◌==◌, option_map, position};
-ghost use Rattle.text_words.specs.Number.{small_of};
-ghost use Rattle.text_words.specs.NodePort.{port_of};
+ghost use Rattle.text_words.specs.Numbers.{small_of};
+ghost use Rattle.text_words.specs.NodePorts.{port_of};
 ghost use Rattle.text_words.specs.Quoted.{until};
 
 use crate::numbers::{bare_guid, small_byte};

@@ -1,5 +1,5 @@
 ghost use Rattle.std.specs.Prelude.{◌≡◌, ◌^◌, ◌-◌, ◌+◌, ◌*◌, ◌<◌, ◌≤◌, min, option_map};
-ghost use Rattle.text_words.specs.Number.{bare_guid_of, bytes_of, count_of, digit_of, guid_of, number_of, small_of};
+ghost use Rattle.text_words.specs.Numbers.{bare_guid_of, bytes_of, count_of, digit_of, guid_of, number_of, small_of};
 
 use smp_bytes::Guid;
 

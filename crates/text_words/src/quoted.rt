@@ -1,7 +1,7 @@
 ghost use Rattle.std.specs.Prelude.{◌≡◌, option_map};
 ghost use Rattle.text_words.specs.Quoted.{until, enclosed, quoted_name, bracketed_port, named_port};
 
-use crate::name::NodeName;
+use crate::node_name::NodeName;
 use crate::numbers::port_number;
 use crate::text::place_of;
 

@@ -15,7 +15,7 @@ use Rattle.held_tables.specs.declared.far_end.Far.TheVariants.{Nothing, Switch, 
 use Rattle.held_tables.specs.Switches.{far_by, row_of}
 use Rattle.held_tables.specs.Tables.{entry_for}
 use Rattle.packet_walks.specs.Edges.{edges_of}
-use Rattle.audit_channels.specs.Columns.{number_of}
+use Rattle.audit_channels.specs.Column.{number_of}
 use Rattle.audit_channels.specs.ChannelOrders.{Follows}
 use Rattle.audit_channels.specs.Waiting.{AreWaits, WaitsFor}
 use Rattle.next_tables.proofs.Hops.{channel_leads, column_at, edge_is}

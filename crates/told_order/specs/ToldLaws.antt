@@ -1,4 +1,4 @@
--- Tables are right by the order that they imply, and they imply an order if they are right by any order.
+-- Tables are right by the order that they imply, and imply an order if they are right by any order.
 use Rattle.std.specs.Prelude.{◌≡◌, ◌≤◌, ◌<◌, ℕ, List, Contains, None, Some, length}
 use Rattle.subnet_view.specs.Reading.{Cells, switches}
 use Rattle.held_tables.specs.Held.{HeldPlan}
@@ -7,8 +7,8 @@ use Rattle.spread_labels.specs.Orders.{position_of}
 use Rattle.two_orders.specs.Agreement.{AgreesUpTo, AreVertices}
 use Rattle.told_order.specs.ToldOrder.{IsImpliedOrder, position_in}
 
--- if tables imply an order, they are right for every LID by the positions of switches in it. Each position is below the
--- number of switches, and two different switches that a wire joins have different positions
+-- if tables imply an order, the tables are right for every LID by the positions of switches in this order. Each
+-- position is below the number of switches, and two different switches that a wire joins have different positions
 abbrev pub ToldOrdersAreRight : Type 0
 ToldOrdersAreRight =
     (cells : Cells) (tables : HeldPlan) (preferred taken : List ℕ) → IsImpliedOrder cells tables preferred (Some taken)
@@ -22,8 +22,9 @@ SomeOrderIsTold =
     → ((i : ℕ) → i < length (switches cells) → Contains preferred i)
     → ((lid : ℕ) → 1 ≤ lid → AreRight cells q tables lid) → IsImpliedOrder cells tables preferred None → ⊥
 
--- the order that the tables imply agrees with `preferred` on the first `k` switches there, if two conditions hold:
--- `preferred` is a list of the usable switches; and the tables are right for every LID by an order that agrees so
+-- suppose `preferred` lists the usable switches, and the tables are right for every LID by an order that agrees with
+-- `preferred` on the first `k` switches of `preferred`. Then an order that the tables imply agrees with `preferred`
+-- on these switches, too
 abbrev pub ToldOrdersAgree : Type 0
 ToldOrdersAgree =
     (cells : Cells) (tables : HeldPlan) (preferred taken : List ℕ) (q : ℕ → ℕ) (k : ℕ)
@@ -31,8 +32,8 @@ ToldOrdersAgree =
     → ((lid : ℕ) → 1 ≤ lid → AreRight cells q tables lid) → AgreesUpTo preferred q k
     → AgreesUpTo preferred (position_in taken) k
 
--- the order that the tables imply is the order of `preferred`, a list of the usable switches, if the tables are right
--- for every LID by this order
+-- if the tables are right for every LID by the order of `preferred`, a list of the usable switches, an order that the
+-- tables imply is this order
 abbrev pub ToldOrdersAreStable : Type 0
 ToldOrdersAreStable =
     (cells : Cells) (tables : HeldPlan) (preferred taken : List ℕ)

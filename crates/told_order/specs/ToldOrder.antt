@@ -1,5 +1,5 @@
--- The order of the switches that tables imply by themselves. Switches are taken one by one, from the end of the order
--- on.
+-- The order of the switches that tables imply by themselves. Switches are taken one by one, the last of the order
+-- first.
 use Rattle.std.specs.Prelude.{◌≡◌, ◌<◌, ◌+◌, ℕ, ◌==◌, Bool, true, false, List, [], ◌∷◌, Option, None, Some, length, replicate, slice_get, slice_index_or, slice_set, if◌then◌else◌}
 use Rattle.subnet_view.specs.Reading.{Cells, switches}
 use Rattle.held_tables.specs.Held.{HeldPlan}
@@ -9,8 +9,8 @@ use Rattle.told_order.specs.Turns.{IsTurn}
 abbrev pub is_left : List Bool → ℕ → Bool
 is_left left i = slice_index_or left i false
 
--- switch `j` may be the last of the switches left: by `tables`, no packet comes to `j` from a switch that is left and
--- leaves `j` for a switch that is left
+-- switch `j` may be the last of the switches left: under `tables`, no packet comes to `j` from a switch that is left
+-- and leaves `j` for a switch that is left
 abbrev pub MayBeLast : Cells → HeldPlan → List Bool → ℕ → Type 0
 MayBeLast cells tables left j =
     (i k : ℕ) → is_left left i ≡ true → is_left left k ≡ true → IsTurn cells tables i j k → ⊥
@@ -51,7 +51,7 @@ IsImpliedOrder cells tables preferred (Some taken) =
     (end : List Bool) × AreTaken cells tables preferred (all_left cells) taken end
     × ((i : ℕ) → is_left end i ≡ false)
 
--- the position of switch `s`: the number of switches that are taken after it; 0 if it is not taken
+-- if switch `s` is taken, its position: the number of switches that are taken after it; otherwise 0
 abbrev pub position_in : List ℕ → ℕ → ℕ
 position_in [] s = 0
 position_in (x ∷ taken) s = if x == s then length taken else position_in taken s

@@ -1,4 +1,4 @@
--- The turns that packets make at switches by tables.
+-- The turns that packets make at switches under tables.
 use Rattle.std.specs.Prelude.{◌≡◌, ◌↔◌, ◌⊎◌, ◌≤◌, ◌/◌, ℕ, List, [], Contains, Vec, length, map, slice_index_or}
 use Rattle.std.specs.declared.alloc.Global.{Global}
 use Rattle.subnet_view.specs.Reading.{Cells, switches}
@@ -8,7 +8,8 @@ use Rattle.held_tables.specs.Switches.{far_by}
 use Rattle.next_tables.specs.SwitchPositions.{Leads}
 use Rattle.told_order.specs.declared.turns.SwitchTurn.{SwitchTurn}
 
--- by `tables`, packets for some LID come from switch `i` to switch `j` and leave `j` for switch `k`, which may be `i`
+-- under `tables`, packets for some LID come from switch `i` to switch `j` and leave `j` for switch `k`, which may be
+-- `i`
 pub record IsTurn (cells : Cells) (tables : HeldPlan) (i j k : ℕ) : Type 0 where
   pub lid : ℕ
   pub is_lid : 1 ≤ lid
@@ -19,11 +20,11 @@ pub record IsTurn (cells : Cells) (tables : HeldPlan) (i j k : ℕ) : Type 0 whe
 abbrev pub lists_of : List (Vec SwitchTurn Global) → List (List SwitchTurn)
 lists_of = map (λ row. row.items)
 
--- the turn from `i` over `j` to `k` is recorded in `turns`
+-- the turn from `i` via `j` to `k` is recorded in `turns`
 abbrev pub IsNoted : List (List SwitchTurn) → ℕ → ℕ → ℕ → Type 0
 IsNoted turns i j k = Contains (slice_index_or turns j []) (record { from = i; to = k })
 
--- `turns` has exactly the turns that packets make at each usable switch by `tables`
+-- `turns` has exactly the turns that packets make at each usable switch under `tables`
 pub record AreTurns (cells : Cells) (tables : HeldPlan) (turns : List (List SwitchTurn)) : Type 0 where
   pub as_many : length turns ≡ length (switches cells)
   pub each : (i j k : ℕ) → IsNoted turns i j k ↔ IsTurn cells tables i j k

@@ -6,8 +6,8 @@ ghost use Rattle.told_order.specs.ToldLaws.{
   ToldOrdersAreStable,
 };
 
-/// Tables that imply an order are right by it for every LID, and no two switches that a wire joins have the same
-/// position in it.
+/// Tables that imply an order are right by this order for every LID, and no two switches that a wire joins have the
+/// same position in this order.
 pub fn told_orders_are_right()
     ensures law { ToldOrdersAreRight }
 {}
@@ -19,8 +19,8 @@ pub fn some_order_is_told()
 {}
 
 /// If the preferences have each usable switch once, and tables are right for every LID by an order that agrees with
-/// the preferences on their first k switches, then the order that the tables imply agrees with them on these switches
-/// too.
+/// the preferences on their first k switches, then an order that the tables imply agrees with the preferences on
+/// these switches, too.
 pub fn told_orders_agree()
     ensures law { ToldOrdersAgree }
 {}

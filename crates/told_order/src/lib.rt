@@ -1,7 +1,7 @@
 //! The order of the switches that forwarding tables imply by themselves, whoever wrote them.
 #![tactic(auto)]
 
-mod last;
+mod last_by_turns;
 pub mod laws;
 mod told;
 mod turns;

@@ -5,17 +5,17 @@ ghost use Rattle.std.specs.List.{list_any};
 ghost use Rattle.fact_store.specs.View.{cells_of};
 ghost use Rattle.told_order.specs.ToldOrder.{IsImpliedOrder};
 
-use crate::last::last_of;
+use crate::last_by_turns::last_of;
 use crate::turns::turns;
 use packet_walks::Network;
 use std::alloc::{AllocError, Global};
 
 /// Returns all usable switches in the order that the tables of `network` imply, from the last switch to the first.
 /// Each switch is given by its index in ascending order of GUID. By this order, no packet for any LID goes down and
-/// then up. Switches are taken one by one: each is the last switch in `preferred` that may be the last of the switches
-/// left. Returns `None` if switches are left and none of `preferred` may be the last of them. Takes the time that
-/// `channel_waits` takes. For each switch that is taken, also walks at most once over the turns at each switch in
-/// `preferred`.
+/// then up. Switches are taken one by one: each is the last switch in `preferred` that may be the last of the
+/// switches left. Returns `None` if switches are left and none of `preferred` may be the last of them. Takes the time
+/// that `channel_waits` takes and, for each switch that is taken, goes at most once through the turns at each switch
+/// in `preferred`.
 pub fn told_order(
     alloc: Global,
     network: &Network,

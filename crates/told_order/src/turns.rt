@@ -20,9 +20,9 @@ pub(crate) struct SwitchTurn {
     pub to: usize,
 }
 
-/// Returns the turns that packets make at each usable switch, in ascending order of GUID, by the tables of `network`.
-/// Takes the time that `channel_waits` takes, and time linear in the number of channels plus the number of pairs of a
-/// channel and one that follows it.
+/// Returns the turns that packets make at each usable switch, in ascending order of GUID, under the tables of
+/// `network`. Takes the time that `channel_waits` takes, and time linear in the number of channels plus the number of
+/// pairs of a channel and one that follows it.
 pub(crate) fn turns(alloc: Global, network: &Network) -> Result<Vec<Vec<SwitchTurn>>, AllocError>
     ensures { IfOk result (λ turns.
         AreTurns (cells_of network.now.facts) network.now.held (lists_of turns.items)) }
@@ -33,7 +33,7 @@ pub(crate) fn turns(alloc: Global, network: &Network) -> Result<Vec<Vec<SwitchTu
 
 /// Returns the turns at each usable switch, in ascending order of GUID. A turn goes from a channel that leads to the
 /// switch into a channel that follows that one. `waits` must have, for each channel, the channels that packets take
-/// next by the tables of `network`.
+/// next under the tables of `network`.
 fn turns_over(
     alloc: Global,
     network: &Network,

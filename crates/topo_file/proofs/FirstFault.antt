@@ -4,17 +4,17 @@ use Rattle.std.specs.Prelude.{map, is_some, option_map, nat_lt, ◌||◌, if◌t
 use Rattle.std.specs.Str.{bytes_eq}
 use Rattle.text_words.specs.Text.{lines}
 use Rattle.topo_file.specs.declared.draft.LinkAt.{LinkAt}
-use Rattle.topo_file.specs.declared.fault.TopoFault.{TopoFault}
-use Rattle.topo_file.specs.declared.fault.TopoFault.TheVariants.{Syntax, Name, Ports, Peer, Port, Linked, GuidRange, TooManyNodes, Memory}
-use Rattle.topo_file.specs.declared.line.TopologyLine.{TopologyLine}
-use Rattle.topo_file.specs.declared.line.TopologyLine.TheVariants as line
-use Rattle.topo_file.specs.declared.line.LinkLine.{LinkLine}
+use Rattle.topo_file.specs.declared.topo_fault.TopoFault.{TopoFault}
+use Rattle.topo_file.specs.declared.topo_fault.TopoFault.TheVariants.{Syntax, Name, Ports, Peer, Port, Linked, GuidRange, TooManyNodes, Memory}
+use Rattle.topo_file.specs.declared.topology_line.TopologyLine.{TopologyLine}
+use Rattle.topo_file.specs.declared.topology_line.TopologyLine.TheVariants as line
+use Rattle.topo_file.specs.declared.topology_line.LinkLine.{LinkLine}
 use Rattle.topo_file.specs.declared.node.Node.{Node}
 use Rattle.topo_file.specs.TopologyLine.{line_of}
 use Rattle.topo_file.specs.Topology.{id_of}
 use Rattle.topo_file.specs.Reading.{◌>>=◌, Lines, node_of, nodes_of_lines, topology_in, topology_of, node_with, is_beyond, with_line, with_lines, with_link_line, with_node}
 use Rattle.topo_file.specs.TopoFault.{IsRefused}
-use Rattle.topo_file.specs.declared.line.NodeLine.{NodeLine}
+use Rattle.topo_file.specs.declared.topology_line.NodeLine.{NodeLine}
 use Rattle.topo_file.proofs.Folds.{refused_then}
 use Rattle.topo_file.specs.FirstFault.{below_node, fault_of, first_line_fault, is_used, with_name, with_names, with_new_name}
 

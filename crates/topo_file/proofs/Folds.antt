@@ -1,7 +1,7 @@
 -- A fault that ends a run of lines.
 use Rattle.std.proofs.Common.{Result, ap}
-use Rattle.topo_file.specs.declared.fault.TopoFault.{TopoFault}
-use Rattle.topo_file.specs.declared.fault.TopoFault.TheVariants.{Syntax, Name, Ports, Peer, Port, Linked, GuidRange, TooManyNodes, Memory}
+use Rattle.topo_file.specs.declared.topo_fault.TopoFault.{TopoFault}
+use Rattle.topo_file.specs.declared.topo_fault.TopoFault.TheVariants.{Syntax, Name, Ports, Peer, Port, Linked, GuidRange, TooManyNodes, Memory}
 use Rattle.topo_file.specs.TopoFault.{IsRefused}
 use Rattle.topo_file.specs.Reading.{◌>>=◌}
 

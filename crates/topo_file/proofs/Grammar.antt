@@ -4,12 +4,12 @@ use Rattle.std.specs.Prelude.{IfSome, IsTrue, Some, None, codes}
 use Rattle.std.specs.Str.{bytes_eq}
 use Rattle.smp_bytes.specs.declared.node_type.NodeType.{NodeType}
 use Rattle.smp_bytes.specs.declared.node_type.NodeType.TheVariants.{ChannelAdapter, Switch, Router}
-use Rattle.topo_file.specs.declared.line.TopologyLine.{TopologyLine}
-use Rattle.topo_file.specs.declared.line.TopologyLine.TheVariants.{Empty, Node, Link}
-use Rattle.topo_file.specs.declared.line.NodeLine.{NodeLine}
+use Rattle.topo_file.specs.declared.topology_line.TopologyLine.{TopologyLine}
+use Rattle.topo_file.specs.declared.topology_line.TopologyLine.TheVariants.{Empty, Node, Link}
+use Rattle.topo_file.specs.declared.topology_line.NodeLine.{NodeLine}
 use Rattle.text_words.specs.Text.{words}
 use Rattle.text_words.specs.NodeName.{is_name}
-use Rattle.text_words.specs.Number.{count_of, guid_of}
+use Rattle.text_words.specs.Numbers.{count_of, guid_of}
 use Rattle.text_words.specs.Quoted.{quoted_name, bracketed_port, named_port}
 use Rattle.text_words.proofs.Ranges.{then_some, mapped, tested, IsWithin, count_range, guid_range, quoted_range, bracketed_range, named_range}
 use Rattle.topo_file.specs.TopologyLine.{kind_of, cap_of, node_line, link_line, line_of_kind, line_in, line_of}

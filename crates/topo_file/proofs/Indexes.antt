@@ -18,11 +18,12 @@ use Rattle.std.specs.Str.{bytes_eq}
 use Rattle.fabric_model.specs.declared.cable.Cable.{Cable}
 use Rattle.fabric_model.specs.declared.cable.NodePort.{NodePort}
 use Rattle.fabric_model.proofs.Cabled.{same_port-is}
+use Rattle.smp_bytes.specs.Ports.{node_port_cmp}
 use Rattle.topo_file.specs.declared.node.Node.{Node}
 use Rattle.text_words.specs.NodeName.{is_name, name_in}
 use Rattle.fabric_model.specs.Cables.{is_same_port, other_end}
 use Rattle.topo_file.specs.Topology.{IsNode, IsFound, id_of}
-use Rattle.topo_file.specs.Indexes.{HasIds, HasEnds, port_cmp}
+use Rattle.topo_file.specs.Indexes.{HasIds, HasEnds}
 
 -- texts that are equal
 pub same_bytes : (xs ys : List ℕ) → bytes_eq xs ys ≡ true → xs ≡ ys
@@ -128,14 +129,14 @@ eq_then Less y = refl
 eq_then Equal y = refl
 eq_then Greater y = refl
 
-at_port : (q p : NodePort) → is_eq (port_cmp (q.node, q.port) (p.node, p.port)) ≡ is_same_port q p
+at_port : (q p : NodePort) → is_eq (node_port_cmp (q.node, q.port) (p.node, p.port)) ≡ is_same_port q p
 at_port q p = eq_then (nat_cmp q.node p.node) (nat_cmp q.port p.port) ∙ sym (λ i. unsigned_ties q.node p.node i && unsigned_ties q.port p.port i)
 
 -- the index with a link more
 pub ends_indexed : (links : List Cable) (across middle new : BTreeMap (ℕ × ℕ) NodePort) (link : Cable) → other_end links link.one ≡ None
     → other_end links link.other ≡ None → HasEnds links across
-    → Updates port_cmp across middle (link.one.node, link.one.port) (Some link.other)
-    → Updates port_cmp middle new (link.other.node, link.other.port) (Some link.one)
+    → Updates node_port_cmp across middle (link.one.node, link.one.port) (Some link.other)
+    → Updates node_port_cmp middle new (link.other.node, link.other.port) (Some link.one)
     → HasEnds (links ++ link ∷ []) new
 ends_indexed links across middle new link one other has u v p =
     v.0 (p.node, p.port) ∙ (λ i. cond (at_port link.other p i) (Some link.one) (u.0 (p.node, p.port) i))

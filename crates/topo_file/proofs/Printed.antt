@@ -21,9 +21,9 @@ use Rattle.text_words.proofs.Splits.{differs}
 use Rattle.text_words.proofs.NumbersPrinted.{count_is_read, guid_is_read}
 use Rattle.text_words.proofs.Printed.{IsWord, words_are_read, lines_are_read, printed, decimal_word, guid_word, quoted_word, bracketed_word, named_word}
 use Rattle.text_words.proofs.Printed.{quoted_is_read, bracketed_is_read, named_is_read}
-use Rattle.topo_file.specs.declared.line.TopologyLine.TheVariants as line
-use Rattle.topo_file.specs.declared.line.NodeLine.{NodeLine}
-use Rattle.topo_file.specs.declared.line.LinkLine.{LinkLine}
+use Rattle.topo_file.specs.declared.topology_line.TopologyLine.TheVariants as line
+use Rattle.topo_file.specs.declared.topology_line.NodeLine.{NodeLine}
+use Rattle.topo_file.specs.declared.topology_line.LinkLine.{LinkLine}
 use Rattle.topo_file.specs.declared.draft.LinkAt.{LinkAt}
 use Rattle.topo_file.specs.declared.node.Node.{Node}
 use Rattle.topo_file.specs.TopologyLine.{line_in, line_of}

@@ -15,12 +15,12 @@ use Rattle.smp_bytes.specs.declared.node_type.NodeType.TheVariants.{ChannelAdapt
 use Rattle.fabric_model.specs.declared.cable.Cable.{Cable}
 use Rattle.fabric_model.specs.declared.cable.NodePort.{NodePort}
 use Rattle.fabric_model.proofs.Cabled.{same_port-refl}
-use Rattle.topo_file.specs.declared.fault.TopoFault.{TopoFault}
-use Rattle.topo_file.specs.declared.fault.TopoFault.TheVariants.{Name, GuidRange, TooManyNodes, Linked}
-use Rattle.topo_file.specs.declared.line.TopologyLine.{TopologyLine}
-use Rattle.topo_file.specs.declared.line.TopologyLine.TheVariants as line
-use Rattle.topo_file.specs.declared.line.NodeLine.{NodeLine}
-use Rattle.topo_file.specs.declared.line.LinkLine.{LinkLine}
+use Rattle.topo_file.specs.declared.topo_fault.TopoFault.{TopoFault}
+use Rattle.topo_file.specs.declared.topo_fault.TopoFault.TheVariants.{Name, GuidRange, TooManyNodes, Linked}
+use Rattle.topo_file.specs.declared.topology_line.TopologyLine.{TopologyLine}
+use Rattle.topo_file.specs.declared.topology_line.TopologyLine.TheVariants as line
+use Rattle.topo_file.specs.declared.topology_line.NodeLine.{NodeLine}
+use Rattle.topo_file.specs.declared.topology_line.LinkLine.{LinkLine}
 use Rattle.topo_file.specs.declared.draft.LinkAt.{LinkAt}
 use Rattle.topo_file.specs.declared.node.Node.{Node}
 use Rattle.topo_file.specs.TopologyLine.{line_of}

@@ -4,10 +4,10 @@ use Rattle.std.specs.List.{list_any}
 use Rattle.std.specs.Option.{option_map_or}
 use Rattle.std.specs.Str.{bytes_eq}
 use Rattle.text_words.specs.Text.{lines}
-use Rattle.topo_file.specs.declared.fault.TopoFault.{TopoFault}
-use Rattle.topo_file.specs.declared.fault.TopoFault.TheVariants.{Syntax, Name, TooManyNodes}
-use Rattle.topo_file.specs.declared.line.TopologyLine.{TopologyLine}
-use Rattle.topo_file.specs.declared.line.TopologyLine.TheVariants as line
+use Rattle.topo_file.specs.declared.topo_fault.TopoFault.{TopoFault}
+use Rattle.topo_file.specs.declared.topo_fault.TopoFault.TheVariants.{Syntax, Name, TooManyNodes}
+use Rattle.topo_file.specs.declared.topology_line.TopologyLine.{TopologyLine}
+use Rattle.topo_file.specs.declared.topology_line.TopologyLine.TheVariants as line
 use Rattle.topo_file.specs.TopologyLine.{line_of}
 use Rattle.topo_file.specs.Reading.{◌>>=◌, node_of, nodes_of_lines}
 

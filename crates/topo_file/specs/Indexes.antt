@@ -2,8 +2,8 @@
 use Rattle.std.specs.Prelude.{◌≡◌, ◌≤◌, ℕ, List, length}
 use Rattle.std.specs.BTreeMap.{BTreeMap, get}
 use Rattle.std.specs.Cmp.Lexicographic.{slice_cmp}
-use Rattle.std.specs.declared.cmp.Ordering.{Ordering}
-use Rattle.std.specs.Ordering.{nat_cmp, ordering_then}
+use Rattle.std.specs.Ordering.{nat_cmp}
+use Rattle.smp_bytes.specs.Ports.{node_port_cmp}
 use Rattle.fabric_model.specs.declared.cable.Cable.{Cable}
 use Rattle.fabric_model.specs.declared.cable.NodePort.{NodePort}
 use Rattle.topo_file.specs.declared.node.Node.{Node}
@@ -15,10 +15,6 @@ pub record HasIds (nodes : List Node) (ids : BTreeMap (List ℕ) ℕ) : Type 0 w
   pub few : length nodes ≤ 1024
   pub found : (name : List ℕ) → get (slice_cmp nat_cmp) ids name ≡ id_of nodes name
 
--- the order of ports: by node, then by port
-abbrev pub port_cmp : ℕ × ℕ → ℕ × ℕ → Ordering
-port_cmp a b = ordering_then (nat_cmp a.0 b.0) (nat_cmp a.1 b.1)
-
 -- the index `across` has, for each port with a link of `links`, the other end of that link, and no other ports
 abbrev pub HasEnds : List Cable → BTreeMap (ℕ × ℕ) NodePort → Type 0
-HasEnds links across = (p : NodePort) → get port_cmp across (p.node, p.port) ≡ other_end links p
+HasEnds links across = (p : NodePort) → get node_port_cmp across (p.node, p.port) ≡ other_end links p

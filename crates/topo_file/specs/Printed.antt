@@ -29,14 +29,14 @@ link_words nodes link = bracketed_text link.one.port ∷ named_text (name_at nod
 abbrev pub links_at : List Cable → ℕ → List Cable
 links_at links id = filter (λ link. link.one.node == id) links
 
--- the lines of the given nodes, whose ids rise from `id`; below each node are its links in `t` whose first end is
+-- the lines of the given nodes, whose ids start at `id`; below each node are its links in `t` whose first end is
 -- there
 abbrev pub lines_from : Layout → ℕ → List Node → List (List (List ℕ))
 lines_from t id [] = []
 lines_from t id (node ∷ later) =
     node_words node ∷ (map (link_words t.nodes) (links_at t.links id) ++ lines_from t (suc id) later)
 
--- the text of a topology: each node in its order, and below it the links whose first end is there
+-- the text of a topology: each node, in ascending order of id, and below it the links whose first end is there
 abbrev pub topology_text : Layout → List ℕ
 topology_text t = lines_text (lines_from t 0 t.nodes)
 
@@ -44,7 +44,8 @@ topology_text t = lines_text (lines_from t 0 t.nodes)
 abbrev pub IsInOrder : List Cable → Type 0
 IsInOrder links = AllPairs (λ x y. x.one.node ≤ y.one.node) links
 
--- the text of a topology is read as that topology if its links are in the order of the nodes of their first ends
+-- if the links of a topology are in the order of the nodes of their first ends, the text of the topology is read as
+-- that topology
 abbrev pub PrintedTopologiesAreRead : Type 0
 PrintedTopologiesAreRead = (t : Layout) → IsTopology t → IsInOrder t.links → topology_of (topology_text t) ≡ Ok t
 

@@ -5,12 +5,12 @@ use Rattle.std.specs.Option.{option_map_or}
 use Rattle.smp_bytes.specs.NodeType.{is_switch}
 use Rattle.fabric_model.specs.declared.cable.Cable.{Cable}
 use Rattle.fabric_model.specs.declared.cable.NodePort.{NodePort}
-use Rattle.topo_file.specs.declared.fault.TopoFault.{TopoFault}
-use Rattle.topo_file.specs.declared.fault.TopoFault.TheVariants.{Syntax, Name, Ports, Peer, Port, Linked, GuidRange, TooManyNodes}
-use Rattle.topo_file.specs.declared.line.TopologyLine.{TopologyLine}
-use Rattle.topo_file.specs.declared.line.TopologyLine.TheVariants as line
-use Rattle.topo_file.specs.declared.line.NodeLine.{NodeLine}
-use Rattle.topo_file.specs.declared.line.LinkLine.{LinkLine}
+use Rattle.topo_file.specs.declared.topo_fault.TopoFault.{TopoFault}
+use Rattle.topo_file.specs.declared.topo_fault.TopoFault.TheVariants.{Syntax, Name, Ports, Peer, Port, Linked, GuidRange, TooManyNodes}
+use Rattle.topo_file.specs.declared.topology_line.TopologyLine.{TopologyLine}
+use Rattle.topo_file.specs.declared.topology_line.TopologyLine.TheVariants as line
+use Rattle.topo_file.specs.declared.topology_line.NodeLine.{NodeLine}
+use Rattle.topo_file.specs.declared.topology_line.LinkLine.{LinkLine}
 use Rattle.topo_file.specs.declared.draft.LinkAt.{LinkAt}
 use Rattle.topo_file.specs.declared.node.Node.{Node}
 use Rattle.text_words.specs.Text.{lines}

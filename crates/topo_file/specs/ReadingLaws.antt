@@ -1,8 +1,8 @@
--- What stays true of nodes and link lines from line to line.
+-- What the nodes and the link lines satisfy after each line.
 use Rattle.std.specs.Prelude.{◌≡◌, ◌≢◌, ◌≤◌, ℕ, List, All, Some, length}
 use Rattle.std.specs.List.{AllPairs, AllByRecursion}
 use Rattle.topo_file.specs.declared.node.Node.{Node}
-use Rattle.topo_file.specs.declared.line.LinkLine.{LinkLine}
+use Rattle.topo_file.specs.declared.topology_line.LinkLine.{LinkLine}
 use Rattle.topo_file.specs.Topology.{IsNode}
 use Rattle.topo_file.specs.Reading.{Lines}
 

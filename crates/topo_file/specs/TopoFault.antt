@@ -1,7 +1,7 @@
 -- What a call that may refuse its text returns, and what is written about a fault: its line and a word.
 use Rattle.std.specs.Prelude.{◌≡◌, ℕ, List, Option, None, Some, Result, Ok, Err, ◌++◌, codes, decimal}
-use Rattle.topo_file.specs.declared.fault.TopoFault.{TopoFault}
-use Rattle.topo_file.specs.declared.fault.TopoFault.TheVariants.{Syntax, Name, Ports, Peer, Port, Linked, GuidRange, TooManyNodes, Memory}
+use Rattle.topo_file.specs.declared.topo_fault.TopoFault.{TopoFault}
+use Rattle.topo_file.specs.declared.topo_fault.TopoFault.TheVariants.{Syntax, Name, Ports, Peer, Port, Linked, GuidRange, TooManyNodes, Memory}
 
 -- the given fault is lack of memory, or `told` is this fault
 abbrev pub IsRefused : {T : Type 0} → TopoFault → Result T TopoFault → Type 0

@@ -3,12 +3,12 @@ use Rattle.std.specs.Prelude.{ℕ, List, [], ◌∷◌, Option, None, Some, opti
 use Rattle.std.specs.Str.{bytes_eq}
 use Rattle.smp_bytes.specs.declared.node_type.NodeType.{NodeType}
 use Rattle.smp_bytes.specs.declared.node_type.NodeType.TheVariants.{ChannelAdapter, Switch, Router}
-use Rattle.topo_file.specs.declared.line.TopologyLine.{TopologyLine}
-use Rattle.topo_file.specs.declared.line.TopologyLine.TheVariants.{Empty, Node, Link}
-use Rattle.topo_file.specs.declared.line.NodeLine.{NodeLine}
-use Rattle.topo_file.specs.declared.line.LinkLine.{LinkLine}
+use Rattle.topo_file.specs.declared.topology_line.TopologyLine.{TopologyLine}
+use Rattle.topo_file.specs.declared.topology_line.TopologyLine.TheVariants.{Empty, Node, Link}
+use Rattle.topo_file.specs.declared.topology_line.NodeLine.{NodeLine}
+use Rattle.topo_file.specs.declared.topology_line.LinkLine.{LinkLine}
 use Rattle.text_words.specs.Text.{words}
-use Rattle.text_words.specs.Number.{count_of, guid_of}
+use Rattle.text_words.specs.Numbers.{count_of, guid_of}
 use Rattle.text_words.specs.Quoted.{quoted_name, bracketed_port, named_port}
 
 -- the type of node that a word names, which is a switch or a channel adapter; None if the word names no type

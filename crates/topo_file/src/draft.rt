@@ -3,10 +3,10 @@ ghost use Rattle.topo_file.specs.TopologyLine.{line_of};
 ghost use Rattle.topo_file.specs.Reading.{with_line, node_of};
 ghost use Rattle.topo_file.specs.TopoFault.{Reads};
 
-use crate::fault::TopoFault;
-use crate::line::{LinkLine, NodeLine, TopologyLine, read_line};
 use crate::node::Node;
 use crate::nodes::Nodes;
+use crate::topo_fault::TopoFault;
+use crate::topology_line::{LinkLine, NodeLine, TopologyLine, read_line};
 use fabric_model::NodeId;
 use std::alloc::Global;
 use std::marker::Model;

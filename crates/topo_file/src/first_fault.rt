@@ -4,10 +4,10 @@ ghost use Rattle.topo_file.specs.FirstFault.{Leaves, first_line_fault, is_used, 
 ghost use Rattle.topo_file.specs.TopologyLine.{line_of};
 
 use crate::draft::node;
-use crate::fault::TopoFault;
-use crate::line::{TopologyLine, read_line};
 use crate::node::Node;
 use crate::nodes::MAX_NODES;
+use crate::topo_fault::TopoFault;
+use crate::topology_line::{TopologyLine, read_line};
 use arrayvec::ArrayVec;
 use text_words::{NodeName, split_line};
 

@@ -2,16 +2,16 @@
 #![tactic(auto)]
 
 mod draft;
-mod fault;
 mod first_fault;
 pub mod laws;
-mod line;
 mod links;
 mod node;
 mod nodes;
+mod topo_fault;
 mod topology;
+mod topology_line;
 
-pub use fault::TopoFault;
 pub use node::Node;
 pub use text_words::NodeName;
+pub use topo_fault::TopoFault;
 pub use topology::{Topology, parse};

@@ -4,8 +4,8 @@ ghost use Rattle.topo_file.specs.Reading.{with_link, with_links, link_of};
 ghost use Rattle.topo_file.specs.TopoFault.{Reads};
 
 use crate::draft::LinkAt;
-use crate::fault::TopoFault;
 use crate::nodes::Nodes;
+use crate::topo_fault::TopoFault;
 use fabric_model::{Cable, NodeId, NodePort};
 use smp_bytes::PortNum;
 use std::alloc::Global;
@@ -54,7 +54,7 @@ impl Links {
         Ok(links)
     }
 
-    /// Returns the links in their order.
+    /// Returns the links, in the order in which they were added.
     pub(crate) fn as_slice(&self) -> &[Cable]
         ensures { result.now ≡ self.now }
     {

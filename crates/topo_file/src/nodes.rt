@@ -3,8 +3,8 @@ ghost use Rattle.topo_file.specs.Topology.{id_of};
 ghost use Rattle.topo_file.specs.Reading.{with_node, port_at};
 ghost use Rattle.topo_file.specs.TopoFault.{Reads};
 
-use crate::fault::TopoFault;
 use crate::node::Node;
+use crate::topo_fault::TopoFault;
 use fabric_model::{NodeId, NodePort};
 use smp_bytes::PortNum;
 use std::alloc::Global;
@@ -60,7 +60,7 @@ impl Nodes {
         self.nodes.get(node.number())
     }
 
-    /// Returns the nodes in their order.
+    /// Returns the nodes, in ascending order of id.
     pub(crate) fn as_slice(&self) -> &[Node]
         ensures { result.now ≡ self.now }
     {

@@ -7,11 +7,11 @@ ghost use Rattle.topo_file.specs.FirstFault.{first_line_fault};
 ghost use Rattle.topo_file.specs.TopoFault.{Reads};
 
 use crate::draft::Draft;
-use crate::fault::TopoFault;
 use crate::first_fault::first_line_fault;
 use crate::links::Links;
 use crate::node::Node;
 use crate::nodes::Nodes;
+use crate::topo_fault::TopoFault;
 use fabric_model::{Cable, NodeId};
 use smp_bytes::Guid;
 use std::alloc::{AllocError, Global};

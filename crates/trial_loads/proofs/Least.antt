@@ -2,13 +2,13 @@
 use Rattle.std.proofs.Common.{◌≡◌, ◌++◌, ◌∙◌, ℕ, List, [], ◌∷◌, refl, ap, true, false, Bool, cond, length, map}
 use Rattle.std.specs.Prelude.{min, nat_lt}
 use Rattle.port_graph.specs.declared.edge.Edge.{Edge}
-use Rattle.spread_labels.specs.declared.vertex_key.VertexKey.{VertexKey}
+use Rattle.spread_labels.specs.declared.key_order.VertexKey.{VertexKey}
 use Rattle.spread_labels.specs.KeyOrder.{before_by}
 use Rattle.spread_labels.specs.Orders.{numbers_from}
 use Rattle.spread_labels.proofs.Numbers.{numbers_long}
 use Rattle.depth_orders.specs.declared.direction.Direction.{Direction}
 use Rattle.depth_orders.specs.declared.direction.Direction.TheVariants.{Forwards, Backwards}
-use Rattle.depth_orders.specs.DepthOrders.{order_by_depth, turned}
+use Rattle.depth_orders.specs.DepthOrder.{order_by_depth, turned}
 use Rattle.trial_loads.specs.LeastLoaded.{is_even, key_in, keys_by_depth, least_by, least_loaded_keys, tried_by_depth}
 use Rattle.trial_loads.specs.TrialLoads.{trial_load}
 

@@ -6,7 +6,7 @@ use Rattle.std.specs.Prelude.{◌&&◌, ◌||◌, count_by, nat_lt}
 use Rattle.port_graph.specs.declared.edge.Edge.{Edge}
 use Rattle.spread_labels.specs.Labels.{leads_up}
 use Rattle.spread_labels.specs.MarkSets.{picked}
-use Rattle.spread_labels.specs.TargetSets.{has}
+use Rattle.spread_labels.specs.TargetSet.{has}
 use Rattle.spread_labels.specs.declared.target_set.TargetSet.{TargetSet}
 
 pub picked_long : (k : ℕ) (sets : List TargetSet) (es : List Edge) → length sets ≡ length es

@@ -1,12 +1,12 @@
 -- The order of the least trial load among those that are tried: the given order, and orders by depth.
 use Rattle.std.specs.Prelude.{ℕ, Bool, min, nat_lt, List, [], ◌∷◌, ◌++◌, map, length, if◌then◌else◌}
 use Rattle.port_graph.specs.declared.edge.Edge.{Edge}
-use Rattle.spread_labels.specs.declared.vertex_key.VertexKey.{VertexKey}
+use Rattle.spread_labels.specs.declared.key_order.VertexKey.{VertexKey}
 use Rattle.spread_labels.specs.KeyOrder.{before_by}
 use Rattle.spread_labels.specs.Orders.{numbers_from, position_of}
 use Rattle.depth_orders.specs.declared.direction.Direction.{Direction}
 use Rattle.depth_orders.specs.declared.direction.Direction.TheVariants.{Forwards, Backwards}
-use Rattle.depth_orders.specs.DepthOrders.{order_by_depth, turned}
+use Rattle.depth_orders.specs.DepthOrder.{order_by_depth, turned}
 use Rattle.balanced_choices.specs.BalancedChoices.{are_even}
 use Rattle.trial_loads.specs.TrialLoads.{trial_load, trial_loads}
 

@@ -1,18 +1,18 @@
--- The trial loads of an order. Each adapter sends packets to each adapter, and each vertex on their way shares out its
--- packets evenly over its candidates.
+-- The trial loads of an order. Each adapter sends packets to each adapter, and each vertex on their way shares out
+-- its packets evenly among its candidates.
 use Rattle.std.specs.Prelude.{◌≡◌, ◌<◌, ℕ, zero, suc, Bool, not, ◌+◌, ◌-◌, ◌*◌, ◌/◌, ◌^◌, min}
 use Rattle.std.specs.Prelude.{List, [], ◌∷◌, ◌++◌, map, filter, length, replicate, slice_index, slice_set}
 use Rattle.port_graph.specs.declared.edge.Edge.{Edge}
 use Rattle.port_graph.specs.Heads.{edges_at}
 use Rattle.spread_labels.specs.declared.target_set.TargetSet.{TargetSet}
-use Rattle.spread_labels.specs.declared.vertex_key.VertexKey.{VertexKey}
+use Rattle.spread_labels.specs.declared.key_order.VertexKey.{VertexKey}
 use Rattle.spread_labels.specs.KeyOrder.{before_by}
 use Rattle.spread_labels.specs.Labels.{candidates, leads_up}
-use Rattle.spread_labels.specs.LeafVertices.{leaf_vertices}
-use Rattle.spread_labels.specs.Levels.{greatest}
+use Rattle.spread_labels.specs.Leaves.{leaf_vertices}
+use Rattle.spread_labels.specs.Level.{greatest}
 use Rattle.spread_labels.specs.MarkSets.{picked, set_at, sets_at}
 use Rattle.spread_labels.specs.Orders.{by_position, numbers_from, order}
-use Rattle.spread_labels.specs.TargetSets.{EachTarget, has}
+use Rattle.spread_labels.specs.TargetSet.{EachTarget, has}
 use Rattle.balanced_choices.specs.Ways.{channel_by}
 
 -- `numbers`, with `more` added at each index of a list; each sum is capped at 2^64 - 1
@@ -31,7 +31,7 @@ pub record Packets : Type 0 where
 abbrev pub share : ℕ → List Edge → ℕ
 share n es = n / length es
 
--- the packets after vertex `s` has shared out, evenly over its candidates `es`, the packets that it had
+-- the packets after vertex `s` has shared out, evenly among its candidates `es`, the packets that it had
 abbrev pub with_shares : ℕ → List Edge → Packets → Packets
 with_shares s es packets = record {
   had = with_more (share (slice_index packets.had s) es) packets.had (map (λ e. e.to) es);
@@ -76,12 +76,12 @@ carried_between graph adapters carried (t ∷ ts) =
     carried_between graph adapters
     (carried_to (candidates graph t) (length graph) (first_had (slice_index adapters t) adapters) carried) ts
 
--- the load of each channel by the packets among all adapters, in a graph numbered in a grown order
+-- the load that the packets among all adapters put on each channel, in a graph numbered in a grown order
 abbrev pub loads_by : List (List Edge) → List ℕ → List ℕ
 loads_by graph adapters =
     carried_between graph adapters (replicate (256 * length graph) 0) (leaf_vertices adapters)
 
--- the load of each channel by the packets among all adapters, in the order that grows by `keys`
+-- the load that the packets among all adapters put on each channel, in the order that grows by `keys`
 unfoldable pub trial_loads : List (List Edge) → List ℕ → List VertexKey → List ℕ
 trial_loads edges adapters keys =
     let vertices = order edges (before_by keys) in

@@ -22,11 +22,11 @@ struct Trial {
     load: usize,
 }
 
-/// Returns `keys` if the trial loads of the order that grows by them are even. Otherwise returns the keys of the order
-/// with the least trial load. The orders tried are that of `keys` and the orders by depth from each of the first eight
-/// vertices, forwards and backwards. If loads are equal, the order tried first counts. There must be a key for each
-/// vertex. For each edge there must be an edge back. `adapters` must have the number of adapters at each vertex.
-/// Computes the trial loads of at most 17 orders.
+/// Returns `keys` if the trial loads of the order that grows by them are even. Otherwise returns the keys of the
+/// order with the least trial load. The orders tried are that of `keys` and the orders by depth from each of the
+/// first eight vertices, forwards and backwards. If loads are equal, the order tried first counts. There must be a
+/// key for each vertex. For each edge there must be an edge back. `adapters` must have the number of adapters at each
+/// vertex. Computes the trial loads of at most 17 orders. Returns an error if memory runs out.
 pub fn least_loaded_keys(
     alloc: Global,
     edges: &Adjacency,
@@ -108,8 +108,9 @@ fn lesser(best: Trial, other: Trial) -> Trial
     if other.load < best.load { other } else { best }
 }
 
-/// Returns the keys of vertices that give the order by depth from `root`. In this order, `keys` and `direction` decide
-/// between equals. There must be a key for each vertex, and `root` must be a vertex.
+/// Returns the keys of vertices that give the order by depth from `root`. In this order, `keys` and `direction`
+/// decide between equals. There must be a key for each vertex, `root` must be a vertex, and all edges must lead to
+/// vertices.
 fn keys_by_depth(
     alloc: Global,
     edges: &Adjacency,

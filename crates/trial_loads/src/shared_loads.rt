@@ -1,9 +1,9 @@
-//! How packets are shared out over candidates.
+//! How packets are shared out among candidates.
 ghost use Rattle.std.specs.Prelude.{◌≡◌, ◌<◌, ◌≤◌, ◌*◌, All, IfOk, OnOk, count_by, filter, length, not};
 ghost use Rattle.port_graph.specs.Heads.{LeadToVertices};
 ghost use Rattle.spread_labels.specs.MarkSets.{AreRowsOf, picked};
 ghost use Rattle.spread_labels.specs.Orders.{numbers_from};
-ghost use Rattle.spread_labels.specs.TargetSets.{has};
+ghost use Rattle.spread_labels.specs.TargetSet.{has};
 ghost use Rattle.trial_loads.specs.TrialLoads.{AreUpward, candidates_in, carried_between, carried_to, first_had};
 ghost use Rattle.trial_loads.specs.TrialLoads.{goes_up, last_first, shared, with_shares, loads_by};
 
@@ -17,8 +17,9 @@ use std::alloc::{AllocError, Global};
 const PACKETS: usize = 65_536;
 
 /// Adds to the load of each channel the packets that the channel carries from all adapters to the adapters of each of
-/// `targets`. There must be at most 64 targets. `adapters` must have the number of adapters at each vertex, each of
-/// `targets` must be a vertex, and `loads` must have 256 loads for each vertex. Loads are capped at 2^64 - 1.
+/// `targets`. There must be at most 64 targets. All edges of `graph` must lead to vertices. `adapters` must have the
+/// number of adapters at each vertex, each of `targets` must be a vertex, and `loads` must have 256 loads for each
+/// vertex. Loads are capped at 2^64 - 1.
 pub(crate) fn add_packets_between(
     alloc: Global,
     graph: &Adjacency,
@@ -45,8 +46,8 @@ pub(crate) fn add_packets_between(
 
 /// Adds to the load of each channel the packets that the channel carries to target `k`. At first `had` must have the
 /// number of packets that each position starts with. Packets that reach a position on the way are added to its number
-/// in `had`. `k` must be less than 64, and `loads` must have 256 loads for each position. `sets` must be for the edges
-/// of `graph`, and `ups` must be what `upward` gives for it.
+/// in `had`. `k` must be less than 64, and `loads` must have 256 loads for each position. `sets` must be for the
+/// edges of `graph`, which must lead to positions. `ups` must be what `upward` gives for `graph` and `sets`.
 fn add_packets_to(
     graph: &Adjacency,
     sets: &CandidateSets,
@@ -69,7 +70,7 @@ fn add_packets_to(
 }
 
 /// Sets in `had` the number of packets that each position starts with towards a target with `to` adapters: `PACKETS`
-/// from each adapter of the position to each adapter of the target.
+/// from each adapter of the position to each adapter of the target. `adapters` and `had` must be equally long.
 fn start(adapters: &[u16], to: u16, had: &mut [usize])
     requires { length adapters.now ≡ length had.old }
     ensures { had.new ≡ first_had to adapters.now }
@@ -137,7 +138,7 @@ fn share_down(
     }
 }
 
-/// Shares out the packets of `position` evenly over its candidates towards target `k`: those of `edges` whose set in
+/// Shares out the packets of `position` evenly among its candidates towards target `k`: those of `edges` whose set in
 /// `sets` has the target. The remainder of the division is dropped. If there is no candidate, nothing is shared. `k`
 /// must be less than 64. There must be a set for each edge, and 256 loads for each position.
 fn share(
@@ -187,8 +188,9 @@ fn count_having(sets: &[TargetSet], target: usize) -> usize
     count
 }
 
-/// Returns how many packets each channel carries if each adapter sends 65,536 packets to each adapter. `adapters` must
-/// have the number of adapters at each vertex of `graph`. Counts the packets to 64 targets at a time.
+/// Returns how many packets each channel carries if each adapter sends 65,536 packets to each adapter. `adapters`
+/// must have the number of adapters at each vertex of `graph`, and all edges must lead to vertices. Counts the
+/// packets to 64 targets at a time.
 pub(crate) fn loads_by(
     alloc: Global,
     graph: &Adjacency,

@@ -2,7 +2,7 @@
 ghost use Rattle.std.specs.Prelude.{◌≡◌, IfOk, length};
 ghost use Rattle.spread_labels.specs.Labels.{leads_up};
 ghost use Rattle.spread_labels.specs.MarkSets.{AreRowsOf, picked};
-ghost use Rattle.spread_labels.specs.TargetSets.{EachTarget, has};
+ghost use Rattle.spread_labels.specs.TargetSet.{EachTarget, has};
 ghost use Rattle.trial_loads.specs.TrialLoads.{AreUpward};
 
 use port_graph::{Adjacency, Edge};
@@ -26,8 +26,8 @@ pub(crate) fn upward(
     Ok(ups)
 }
 
-/// Returns the targets towards which any of `edges` is a candidate that leads up from `position`. `sets` has, for each
-/// edge, the targets towards which the edge is a candidate.
+/// Returns the targets towards which any of `edges` is a candidate that leads up from `position`. `sets` must have,
+/// for each edge, the targets towards which the edge is a candidate.
 fn upward_from(edges: &[Edge], sets: &[TargetSet], position: usize) -> TargetSet
     requires { length sets.now ≡ length edges.now }
     ensures { EachTarget (λ k. has result k ≡ leads_up position (picked k sets.now edges.now)) }

@@ -15,7 +15,8 @@ pub record AreVertices (n : ℕ) (vertices : List ℕ) : Type 0 where
   pub vertex : (i : ℕ) → i < length vertices → number_at vertices i < n
   pub once : (i j : ℕ) → i < length vertices → j < i → number_at vertices j ≡ number_at vertices i → ⊥
 
--- by `position`, the first `k` of `vertices` come in the order of the list, and before all other vertices of the list
+-- according to `position`, the first `k` of `vertices` come in the order of the list, and before all other vertices
+-- of the list
 abbrev pub AgreesUpTo : List ℕ → (ℕ → ℕ) → ℕ → Type 0
 AgreesUpTo vertices position k =
     (i j : ℕ) → i < k → i < j → j < length vertices
@@ -30,7 +31,8 @@ AgreementStays =
     → AgreesUpTo (grown_by edges plan) (number_at (positions_in (grown_by edges told) (length edges))) k
 
 -- suppose the positions `told` agree with the order that grows by `plan` up to its first `k` vertices (`AgreesUpTo`).
--- Then the order that grows by `plan` over the tree of `told` agrees with it up to its first `k` + 1 vertices
+-- Then the order that grows by `plan` in the tree of `told` agrees with the order that grows by `plan` up to its
+-- first `k` + 1 vertices
 abbrev pub AgreementGrows : Type 0
 AgreementGrows =
     (edges : List (List Edge)) → LeadToVertices edges → (plan told : List ℕ) (k : ℕ)

@@ -16,7 +16,7 @@ pub record GoesOn (orders : TwoOrders) (labels : List (Option Sides)) (i j : ℕ
   pub has : label_at labels i ≡ Some label
   pub leads : leads_on orders labels label i j ≡ true
 
--- whether a walk from vertex `i` over `j` to `k` goes down and then up by `positions`
+-- whether a walk from vertex `i` through `j` to `k` goes down and then up by `positions`
 abbrev pub turns_up : List ℕ → ℕ → ℕ → ℕ → Bool
 turns_up positions i j k = is_earlier positions i j && is_earlier positions k j
 
@@ -27,14 +27,14 @@ LabelsTurnWell =
     (orders : TwoOrders) (labels : List (Option Sides)) (i j k : ℕ) → GoesOn orders labels i j → GoesOn orders labels j k
     → (turns_up orders.first i j k ≡ false) × (turns_up orders.second i j k ≡ false)
 
--- each vertex that has a label and had none at first has an edge that leads on by this label
+-- each vertex that has a label, but had none in `firsts`, has an edge that leads on by its label
 abbrev pub LabelledGoOn : Type 0
 LabelledGoOn =
     (edges : List (List Edge)) (orders : TwoOrders) (firsts : List (Option Sides)) (i : ℕ) (label : Sides)
     → label_at (labels_from edges orders firsts) i ≡ Some label → label_at firsts i ≡ None
     → (e : Edge) × Contains (edges_at edges i) e × GoesOn orders (labels_from edges orders firsts) i e.to
 
--- two orders: the order that grows by `told`, and the order that grows by `plan` over the tree of the first order
+-- two orders: the order that grows by `told`, and the order that grows by `plan` in the tree of the first order
 abbrev pub grown_twice : List (List Edge) → List ℕ → List ℕ → TwoOrders
 grown_twice edges told plan =
     two_orders (positions_in (grown_by edges told) (length edges))
@@ -46,8 +46,9 @@ pub record AreTargets (edges : List (List Edge)) (firsts : List (Option Sides)) 
   pub as_many : length firsts ≡ length edges
   pub down : (i : ℕ) (label : Sides) → label_at firsts i ≡ Some label → label ≡ both_down
 
--- if edges go both ways and the two orders are those of `grown_twice`, each vertex from which a walk leads to a target
--- gets a label
+-- suppose that the edges of a graph lead to vertices and go both ways, that at first only the targets have labels
+-- (`AreTargets`), and that the two orders are those of `grown_twice`. Then each vertex from which a walk leads to a
+-- target gets a label
 abbrev pub AllGetLabels : Type 0
 AllGetLabels =
     (edges : List (List Edge)) → LeadToVertices edges → IsSymmetric edges → (told plan : List ℕ)

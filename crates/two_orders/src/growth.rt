@@ -9,8 +9,9 @@ use port_graph::Adjacency;
 use spread_labels::{VertexKey, grown_order};
 use std::alloc::{AllocError, Global};
 
-/// Returns the vertices in the order that grows by `positions`. There must be a position for each vertex. For each edge
-/// there must be an edge back. Takes time quadratic in the number of vertices, and linear in the number of edges.
+/// Returns the vertices in the order that grows by `positions`. There must be a position for each vertex. For each
+/// edge there must be an edge back. Takes time quadratic in the number of vertices, and linear in the number of
+/// edges. Returns an error if memory runs out.
 pub fn grown_by(
     alloc: Global,
     edges: &Adjacency,
@@ -46,7 +47,8 @@ fn key_of(position: usize) -> VertexKey
 }
 
 /// Returns the position in `vertices` of each of `count` vertices, or the length of `vertices` for a vertex that it
-/// does not have. For each of the `count` vertices, takes time linear in the length of `vertices`.
+/// does not have. For each of the `count` vertices, takes time linear in the length of `vertices`. Returns an error
+/// if memory runs out.
 pub fn positions_in(
     alloc: Global,
     vertices: &[usize],

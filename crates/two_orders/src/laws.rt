@@ -18,7 +18,7 @@ pub fn labelled_go_on()
 {}
 
 /// Suppose that each edge has an edge back, the first order grows by some positions, and the second order grows by
-/// other positions over the tree of the first. Suppose also that at first only the targets have labels, down by both
+/// other positions in the tree of the first. Suppose also that at first only the targets have labels, down by both
 /// orders. Then each vertex from which a walk leads to a target gets a label.
 pub fn all_get_labels()
     ensures law { AllGetLabels }
@@ -31,7 +31,7 @@ pub fn agreement_stays()
 {}
 
 /// Suppose that positions agree, on the first k vertices, with the order that grows by a plan. Then the order that
-/// grows by the plan over the tree of these positions agrees with the plan's order on the first k + 1 vertices.
+/// grows by the plan in the tree of these positions agrees with the plan's order on the first k + 1 vertices.
 pub fn agreement_grows()
     ensures law { AgreementGrows }
 {}

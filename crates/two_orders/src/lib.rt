@@ -1,4 +1,4 @@
-//! Two orders of the vertices of a graph. This includes the tree of an order, orders that grow over a tree, and labels.
+//! Two orders of the vertices of a graph. This includes the tree of an order, orders that grow in a tree, and labels.
 //! Walks that follow labels go up and then down by both orders.
 #![tactic(auto)]
 

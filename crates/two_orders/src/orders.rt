@@ -35,7 +35,7 @@ impl Model for Orders {
 
 impl Orders {
     /// Returns the two orders of `count` vertices. `first` has the position of each vertex in the first order, and
-    /// `rising` lists the vertices in the second.
+    /// `rising` lists the vertices in the second. Returns an error if memory runs out.
     pub fn of(
         alloc: Global,
         first: Vec<usize>,

@@ -7,8 +7,8 @@ ghost use Rattle.two_orders.specs.Trees.{tree, tree_by, tree_edges};
 use port_graph::{Adjacency, Edge};
 use std::alloc::{AllocError, Global};
 
-/// Returns the tree of an order: the edges between each vertex and the earliest, by `positions`, of the vertex and its
-/// neighbors. Takes time linear in the number of vertices and edges.
+/// Returns the tree of an order: the edges between each vertex and the earliest, by `positions`, of the vertex and
+/// its neighbors. Takes time linear in the number of vertices and edges. Returns an error if memory runs out.
 pub fn tree(alloc: Global, edges: &Adjacency, positions: &[usize]) -> Result<Adjacency, AllocError>
     ensures { IfOk result (λ found. found ≡ tree edges.now positions.now) }
 {

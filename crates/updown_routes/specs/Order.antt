@@ -1,4 +1,4 @@
--- Switches by index, in the order of their ranks.
+-- Switches by index, in ascending order of rank.
 use Rattle.std.specs.Prelude.{◌≡◌, ◌<◌, ℕ, Bool, true, List, map, EachIndex, length, Contains, Option, None, ◌==◌, ◌&&◌, ◌||◌, nat_lt, unwrap_or, slice_index, slice_index_or}
 use Rattle.std.specs.List.{enumerate_from}
 use Rattle.std.specs.Option.{option_or}
@@ -9,7 +9,7 @@ abbrev pub goes_before : List (Option ℕ) → ℕ → ℕ → Bool
 goes_before ranks a b = let ra = unwrap_or (slice_index_or ranks a None) 0 in let rb =
     unwrap_or (slice_index_or ranks b None) 0 in nat_lt ra rb || (ra == rb && nat_lt a b)
 
--- for each index of `ranks`, in order, the pair of its rank and the index; a missing rank counts as 0
+-- for each index of `ranks`, in ascending order, the pair of its rank and the index; a missing rank counts as 0
 abbrev pub ranked : List (Option ℕ) → List (ℕ × ℕ)
 ranked ranks = map (λ x. (unwrap_or x.1 0, x.0)) (enumerate_from 0 ranks)
 

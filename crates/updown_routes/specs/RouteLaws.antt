@@ -37,7 +37,7 @@ CostRecursion = (graph : List SwitchEdges) → IsGraph graph → (s t : ℕ)
     if is_some down then down else option_map suc
     (least_of (filter_map (λ e. cost (slopes_of graph) e.to t) (ups_at (slopes_of graph) s))))
 
--- in a graph, from each switch that has a cost to a target, a way up and then down leads to the target over as many
+-- in a graph, from each switch that has a cost to a target, a way up and then down leads to the target along as many
 -- edges as the cost
 abbrev pub WayLaw : Type 0
 WayLaw = (graph : List SwitchEdges) → IsGraph graph → (n s t : ℕ) → cost (slopes_of graph) s t ≡ Some n

@@ -95,7 +95,8 @@ impl Graph {
     }
 
     /// Returns, for each switch in ascending order of GUID, the root of its component: the switch with the least GUID
-    /// in the component. Each switch has a root. Does a breadth-first search for each component.
+    /// in the component. Each switch has a root. Does a breadth-first search for each component. Returns an error if
+    /// memory runs out.
     pub fn roots(&self, alloc: Global) -> Result<Vec<Option<Guid>>, AllocError>
         ensures { IfOk result (λ roots. roots.items ≡ map (root_of self.now) (guids_of self.now)) }
     {

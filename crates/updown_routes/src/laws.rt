@@ -46,7 +46,7 @@ pub fn next_ports_are_in_words()
     ensures { NextPortLaw }
 {}
 
-/// From each switch that has a cost to a target, the next ports lead to the target, up and then down, over as many
+/// From each switch that has a cost to a target, the next ports lead to the target, up and then down, along as many
 /// wires as the cost.
 pub fn next_ports_lead_to_the_target()
     ensures { WayLaw }
@@ -62,13 +62,14 @@ pub fn a_cost_within_a_component()
     ensures { CostInComponent }
 {}
 
-/// Channel numbers rise along each way by next ports, so packets never wait for one another in a credit loop.
+/// Channel numbers rise along each way that follows next ports, so packets never wait for one another in a credit
+/// loop.
 pub fn channels_rise_along_ways()
     ensures { ChannelLaw }
 {}
 
-/// Up/down routing is a rule of routing. Within a component, routes lead from each switch to each other switch over as
-/// many wires as the cost. They pass no switch twice, and take channels of rising numbers.
+/// Up/down routing is a rule of routing. Within a component, routes lead from each switch to each other switch along
+/// as many wires as the cost. They pass no switch twice, and take channels of rising numbers.
 pub fn up_and_down_is_a_routing()
     ensures { UpdownIsRouting }
 {}

@@ -20,7 +20,8 @@ fn indices(alloc: Global, ranked: &[(usize, usize)]) -> Result<Vec<usize>, Alloc
     ranked.iter().map(|(_, index)| *index).collect(alloc)
 }
 
-/// Returns, for each index of `ranks` in order, the pair of its rank and the index. A missing rank counts as 0.
+/// Returns, for each index of `ranks` in ascending order, the pair of its rank and the index. A missing rank counts
+/// as 0.
 fn ranked(alloc: Global, ranks: &[Option<usize>]) -> Result<Vec<(usize, usize)>, AllocError>
     ensures { IfOk result (λ pairs. pairs.items ≡ ranked ranks.now) }
 {

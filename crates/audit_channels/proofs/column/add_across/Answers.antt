@@ -1,6 +1,6 @@
 -- A vertex more.
 use Rattle.std.proofs.Common.{◌+◌, sym, subst}
-use Rattle.audit_channels.specs.Columns.{IsWithSome}
+use Rattle.audit_channels.specs.Column.{IsWithSome}
 use Rattle.audit_channels.proofs.Columns.{nothing_more, one_more}
 use Rattle.audit_channels.proofs.column.add_across.Goals.{in-Some+in_ok-add, in_default}
 use Rattle.audit_channels.proofs.column.add_across.Goals as goal

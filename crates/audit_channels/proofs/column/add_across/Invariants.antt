@@ -1,5 +1,5 @@
 -- The vertices so far.
-use Rattle.audit_channels.specs.Columns.{IsWithSome}
+use Rattle.audit_channels.specs.Column.{IsWithSome}
 use Rattle.audit_channels.proofs.column.add_across.Given as goal
 
 abbrev pub invariant-loop-vertex : goal.invariant-loop-vertex

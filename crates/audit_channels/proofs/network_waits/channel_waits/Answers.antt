@@ -5,7 +5,7 @@ use Rattle.port_graph.specs.declared.edge.Edge.{Edge}
 use Rattle.fact_store.specs.View.{cells_of}
 use Rattle.subnet_view.specs.Reading.{switches}
 use Rattle.packet_walks.specs.Edges.{edges_of}
-use Rattle.audit_channels.specs.Columns.{IsWithColumn}
+use Rattle.audit_channels.specs.Column.{IsWithColumn}
 use Rattle.audit_channels.specs.Waiting.{IsAdded}
 use Rattle.audit_channels.proofs.Waiting.{some_is, none_so_far, none_added, is_added, more, all}
 use Rattle.audit_channels.proofs.network_waits.channel_waits.Goals as goal

@@ -2,13 +2,13 @@
 use Rattle.std.proofs.Common.{◌≡◌, ◌∙◌, ◌+◌, ◌++◌, ℕ, Bool, true, List, ap, sym, subst}
 use Rattle.std.specs.Prelude.{Option}
 use Rattle.fact_store.specs.View.{cells_of}
-use Rattle.subnet_view.specs.EndPorts.{end_ports}
+use Rattle.subnet_view.specs.EndPort.{end_ports}
 use Rattle.audit_ways.specs.Ways.{AllComeTo}
 use Rattle.packet_walks.specs.Network.{Seen}
 use Rattle.audit_counts.specs.Packets.{sent_to}
 use Rattle.audit_counts.specs.PacketTally.{IsTally}
 use Rattle.audit_counts.specs.declared.sent_packet.SentPacket.{SentPacket}
-use Rattle.audit_counts.specs.Sites.{IsSiteOf, site_of}
+use Rattle.audit_counts.specs.Site.{IsSiteOf, site_of}
 use Rattle.audit_counts.specs.declared.site.Site.{Site}
 use Rattle.audit_counts.specs.declared.packet_tally.PacketTally.{PacketTally}
 use Rattle.audit_counts.proofs.Sited.{site_is, no_site}

@@ -4,12 +4,12 @@ use Rattle.std.specs.Prelude.{count_by}
 use Rattle.fact_store.specs.View.{cells_of}
 use Rattle.port_graph.proofs.Counts.{length_map}
 use Rattle.subnet_view.specs.declared.end_port.EndPort.{EndPort}
-use Rattle.subnet_view.specs.EndPorts.{end_ports}
+use Rattle.subnet_view.specs.EndPort.{end_ports}
 use Rattle.packet_walks.specs.HopsByTables.{AreBrought}
 use Rattle.audit_ways.proofs.Senders.{all_come_to}
 use Rattle.audit_counts.specs.declared.site.Site.{Site}
 use Rattle.audit_counts.specs.declared.packet_tally.PacketTally.{PacketTally}
-use Rattle.audit_counts.specs.Sites.{are_joined, are_joined_adapters, site_of}
+use Rattle.audit_counts.specs.Site.{are_joined, are_joined_adapters, site_of}
 use Rattle.audit_counts.proofs.Sited.{site_there}
 use Rattle.audit_counts.specs.Packets.{sent_to}
 use Rattle.audit_counts.proofs.Counted.{tally_arrived}

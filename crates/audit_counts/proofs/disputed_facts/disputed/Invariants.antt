@@ -1,6 +1,6 @@
 use Rattle.fact_store.specs.View.{cells_of}
-use Rattle.fact_store.specs.Walk.{cells_left}
-use Rattle.audit_counts.specs.Disputed.{disputed}
+use Rattle.fact_store.specs.Iter.{cells_left}
+use Rattle.audit_counts.specs.DisputedFacts.{disputed}
 use Rattle.audit_counts.proofs.Disputes.{CountedTo}
 use Rattle.audit_counts.proofs.disputed_facts.disputed.Given as goal
 

@@ -1,6 +1,6 @@
 use Rattle.std.proofs.Common.{◌≡◌, map, take}
 use Rattle.fact_store.specs.View.{cells_of}
-use Rattle.audit_counts.specs.Sites.{site_of}
+use Rattle.audit_counts.specs.Site.{site_of}
 use Rattle.audit_counts.proofs.site.sites_of.Given as goal
 
 -- the end ports so far

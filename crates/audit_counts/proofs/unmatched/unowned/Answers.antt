@@ -3,7 +3,7 @@ use Rattle.std.proofs.Common.{◌∙◌, Bool, sym, ap, arith}
 use Rattle.std.specs.Prelude.{not}
 use Rattle.fact_store.specs.View.{cells_of}
 use Rattle.held_tables.specs.declared.held.HeldLid.{HeldLid}
-use Rattle.subnet_view.specs.EndPorts.{end_ports}
+use Rattle.subnet_view.specs.EndPort.{end_ports}
 use Rattle.held_tables.specs.Tables.{is_owner}
 use Rattle.audit_counts.proofs.Firsts.{told_more, told_same, told_all}
 use Rattle.packet_walks.proofs.Judged.{listed}

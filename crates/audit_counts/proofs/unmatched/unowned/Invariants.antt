@@ -1,7 +1,7 @@
 use Rattle.std.proofs.Common.{◌≡◌, take}
 use Rattle.std.specs.Prelude.{not}
 use Rattle.fact_store.specs.View.{cells_of}
-use Rattle.subnet_view.specs.EndPorts.{end_ports}
+use Rattle.subnet_view.specs.EndPort.{end_ports}
 use Rattle.held_tables.specs.Tables.{is_owner}
 use Rattle.audit_counts.specs.FirstFew.{listed_of}
 use Rattle.audit_counts.proofs.unmatched.unowned.Given as goal

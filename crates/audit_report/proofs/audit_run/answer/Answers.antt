@@ -5,7 +5,7 @@ use Rattle.std.specs.Prelude.{◌↔◌}
 use Rattle.std.specs.Io.KnownBytes.{Appends}
 use Rattle.fact_store.specs.View.{Facts, cells_of}
 use Rattle.audit_report.specs.AuditText.{audit_text}
-use Rattle.audit_report.specs.RunAudit.{most_lines}
+use Rattle.audit_report.specs.AuditRun.{most_lines}
 use Rattle.audit_channels.specs.Waiting.{NoneShorter}
 use Rattle.audit_report.specs.Passing.{Audited, IsCycle, PassesWithin}
 use Rattle.audit_report.proofs.audit_run.answer.Goals as goal

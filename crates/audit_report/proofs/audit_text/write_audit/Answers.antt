@@ -4,7 +4,9 @@ use Rattle.std.specs.Io.KnownBytes.{Appends}
 use Rattle.std.proofs.lemmas.Result.{on_ok_weaker}
 use Rattle.fact_store.specs.View.{cells_of}
 use Rattle.record_file.proofs.Writing.{appends_then}
-use Rattle.audit_report.specs.AuditText.{audit_text, cycle_line, findings_text, text_of}
+use Rattle.audit_report.specs.declared.cycle_text.ChannelKind.TheVariants.{OnOneLane}
+use Rattle.audit_report.specs.AuditText.{audit_text, findings_text, text_of}
+use Rattle.audit_report.specs.CycleText.{cycle_line}
 use Rattle.audit_report.specs.Passing.{Audited}
 use Rattle.audit_report.proofs.audit_text.write_audit.Goals as goal
 
@@ -20,10 +22,10 @@ returns-clause-writes g c =
     let told = λ (x : Audited). findings_text x.most (cells_of x.facts) x.held in
     let first = subst (Appends (written c.args.sink.now) (written c.write_findings.new.sink)) (ap told (sym c.audit.view_is))
     c.in_ok-write_findings.ensures.ok in
-    let cycle = cycle_line cells c.deref.result.now in
+    let cycle = cycle_line cells OnOneLane c.deref.result.now in
     let all = appends_then (written c.args.sink.now) (written c.write_findings.new.sink) (written c.write_cycle.new.sink) findings cycle
     first c.in_ok-write_cycle.ensures.ok in
-    let whole : (findings ++ cycle) ≡ text_of a.most cells held f.cycle.items = (λ i. findings ++ cycle_line cells (c.deref.ensures.value i)) in
+    let whole : (findings ++ cycle) ≡ text_of a.most cells held f.cycle.items = (λ i. findings ++ cycle_line cells OnOneLane (c.deref.ensures.value i)) in
     record {
       ok = on_ok_weaker c.flush.result
           (λ none. subst (Appends (written c.args.sink.now) (written c.flush.new.self))

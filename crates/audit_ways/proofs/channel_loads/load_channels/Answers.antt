@@ -1,6 +1,6 @@
 -- A channel more.
 use Rattle.std.proofs.Common.{◌<◌, ◌+◌, ◌∙◌, ℕ, sym, ap, arith, length, get_or, set}
-use Rattle.audit_channels.specs.Columns.{number_of}
+use Rattle.audit_channels.specs.Column.{number_of}
 use Rattle.audit_channels.proofs.Columns.{within}
 use Rattle.audit_ways.proofs.Walked.{one_taken}
 use Rattle.audit_ways.proofs.channel_loads.load_channels.Goals as goal

@@ -1,7 +1,7 @@
 -- Each call gives the node and the port of its source.
 use Rattle.std.proofs.Common.{◌≡◌, rules, of_calls}
 use Rattle.std.proofs.lemmas.Fn.{always_returns_same}
-use Rattle.audit_ways.specs.Groups.{port_of}
+use Rattle.audit_ways.specs.SenderGroups.{port_of}
 use Rattle.audit_ways.proofs.roster.sort.Goals as goal
 
 pub returns-clause-by_port : goal.returns-clause-by_port

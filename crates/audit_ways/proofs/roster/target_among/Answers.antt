@@ -1,7 +1,7 @@
 -- The roster is searched by the node and the port.
 use Rattle.std.proofs.Common.{◌≡◌, ◌∙◌, true, rules, of_calls, sym, subst}
 use Rattle.std.proofs.lemmas.List.Sorted.{answers_always}
-use Rattle.audit_ways.specs.Groups.{IsTargetAmong, port_of}
+use Rattle.audit_ways.specs.SenderGroups.{IsTargetAmong, port_of}
 use Rattle.audit_ways.specs.Ways.{is_adapter}
 use Rattle.audit_ways.proofs.Rosters.{not_among, one_found, none_found}
 use Rattle.audit_ways.proofs.roster.target_among.Goals as goal

@@ -1,6 +1,6 @@
 -- The packets of the end ports so far.
 use Rattle.fact_store.specs.View.{cells_of}
-use Rattle.audit_ways.specs.Groups.{AreGrouped}
+use Rattle.audit_ways.specs.SenderGroups.{AreGrouped}
 use Rattle.audit_ways.specs.Ways.{reaches}
 use Rattle.audit_ways.proofs.Grouped.{first_of}
 use Rattle.audit_ways.proofs.sender_groups.group_packets.Given as goal

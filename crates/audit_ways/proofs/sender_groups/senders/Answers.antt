@@ -2,7 +2,7 @@
 use Rattle.std.proofs.Common.{◌+◌, ◌∙◌, sym, subst}
 use Rattle.fact_store.specs.View.{cells_of}
 use Rattle.audit_ways.specs.declared.sender_groups.Groups.{Groups}
-use Rattle.audit_ways.specs.Groups.{AreGrouped}
+use Rattle.audit_ways.specs.SenderGroups.{AreGrouped}
 use Rattle.audit_ways.specs.Ways.{is_adapter}
 use Rattle.audit_ways.proofs.Grouped.{first_of, is_within, none_more, one_more, source_at}
 use Rattle.audit_ways.proofs.sender_groups.senders.Goals as goal

@@ -1,6 +1,6 @@
 -- The end ports so far.
 use Rattle.fact_store.specs.View.{cells_of}
-use Rattle.audit_ways.specs.Groups.{AreGrouped}
+use Rattle.audit_ways.specs.SenderGroups.{AreGrouped}
 use Rattle.audit_ways.specs.Ways.{is_adapter}
 use Rattle.audit_ways.proofs.Grouped.{first_of}
 use Rattle.audit_ways.proofs.sender_groups.senders.Given as goal

@@ -5,7 +5,7 @@ use Rattle.std.proofs.lemmas.Result.{on_ok_weaker}
 use Rattle.fact_store.specs.View.{cells_of}
 use Rattle.packet_walks.specs.Edges.{edges_of}
 use Rattle.audit_ways.specs.declared.sender_groups.Groups.{Groups}
-use Rattle.audit_ways.specs.Groups.{AreGrouped, IsWithin, adapters}
+use Rattle.audit_ways.specs.SenderGroups.{AreGrouped, IsWithin, adapters}
 use Rattle.audit_ways.specs.Ways.{AllComeTo}
 use Rattle.audit_ways.proofs.Grouped.{counted_ways, delivered, is_within}
 use Rattle.audit_ways.proofs.Senders.{own_there, without_own}

@@ -11,7 +11,7 @@ use Rattle.packet_walks.specs.Network.{Seen}
 use Rattle.audit_ways.specs.declared.sender_groups.Groups.{Groups}
 use Rattle.audit_ways.specs.declared.way_tally.WayTally.{WayTally}
 use Rattle.audit_ways.specs.WayTally.{IsCountedMore}
-use Rattle.audit_ways.specs.Groups.{AreGrouped, IsRoster, adapters}
+use Rattle.audit_ways.specs.SenderGroups.{AreGrouped, IsRoster, adapters}
 use Rattle.audit_ways.specs.Ways.{AllComeTo, is_target, ways_to}
 use Rattle.audit_ways.proofs.Rosters.{a_target, no_target}
 use Rattle.audit_ways.proofs.Surveyed.{AreSurveyed, all_surveyed, line_surveyed, line_passed}

@@ -1,7 +1,7 @@
 -- The LIDs so far.
 use Rattle.std.proofs.Common.{◌≡◌}
 use Rattle.fact_store.specs.View.{cells_of}
-use Rattle.audit_ways.specs.Groups.{AreGrouped, adapters}
+use Rattle.audit_ways.specs.SenderGroups.{AreGrouped, adapters}
 use Rattle.audit_ways.proofs.Surveyed.{AreSurveyed}
 use Rattle.audit_ways.proofs.way_figures.tally_of.Given as goal
 

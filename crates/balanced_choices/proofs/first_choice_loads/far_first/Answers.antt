@@ -1,4 +1,4 @@
-use Rattle.std.proofs.Common.{◌≡◌, ◌<◌, ℕ, List, All, sym, ap, subst, ◌∙◌, length}
+use Rattle.std.proofs.Common.{◌<◌, ℕ, All, sym, ap, subst, ◌∙◌, length}
 use Rattle.std.specs.Prelude.{reverse}
 use Rattle.balanced_choices.specs.BalancedChoices.{near_first}
 use Rattle.balanced_choices.proofs.InOrder.{all_reversed, near_first_positions}

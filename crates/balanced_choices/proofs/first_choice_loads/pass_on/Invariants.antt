@@ -2,7 +2,7 @@ use Rattle.std.proofs.Common.{◌≡◌, ◌-◌, ◌%◌, ℕ, [], length, map,
 use Rattle.std.specs.Prelude.{max, slice_index_or}
 use Rattle.spread_labels.specs.Orders.{numbers_from}
 use Rattle.balanced_choices.specs.Loads.{Passing, passed_to}
-use Rattle.balanced_choices.specs.RoundRobins.{IsTurn}
+use Rattle.balanced_choices.specs.RoundRobin.{IsTurn}
 use Rattle.balanced_choices.proofs.first_choice_loads.pass_on.Given as goal
 
 -- the ends that are left do the rest, in turn

@@ -1,6 +1,6 @@
 use Rattle.std.proofs.Common.{◌≡◌, ◌+◌, ◌-◌, ◌*◌, ℕ, List, max, sym, ap, ◌∙◌, arith, length, get_or, map}
 use Rattle.std.specs.Prelude.{None, Option, min}
-use Rattle.spread_labels.specs.Levels.{greatest}
+use Rattle.spread_labels.specs.Level.{greatest}
 use Rattle.port_graph.specs.declared.edge.Edge.{Edge}
 use Rattle.balanced_choices.specs.Ways.{channel_by, way}
 use Rattle.balanced_choices.proofs.EdgeByEdge.{greatest_least, none_left, way_ends, way_goes}

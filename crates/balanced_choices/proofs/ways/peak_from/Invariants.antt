@@ -1,6 +1,6 @@
 use Rattle.std.proofs.Common.{◌≡◌, ◌-◌, get_or, length, map}
 use Rattle.std.specs.Prelude.{None, slice_index}
-use Rattle.spread_labels.specs.Levels.{greatest}
+use Rattle.spread_labels.specs.Level.{greatest}
 use Rattle.balanced_choices.specs.EdgesTaken.{way_by}
 use Rattle.balanced_choices.specs.Ways.{way}
 use Rattle.balanced_choices.proofs.ways.peak_from.Given as goal

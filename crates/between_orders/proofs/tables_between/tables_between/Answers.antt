@@ -3,7 +3,7 @@ use Rattle.std.proofs.Common.{◌≡◌, ◌∙◌, ◌*◌, ℕ, List, Vec, Glo
 use Rattle.std.specs.Prelude.{IfOk}
 use Rattle.std.specs.List.{range_with_len}
 use Rattle.fact_store.specs.View.{cells_of}
-use Rattle.next_tables.specs.Assembled.{tables_with}
+use Rattle.next_tables.specs.Assembly.{tables_with}
 use Rattle.between_orders.specs.TablesBetween.{column_between, tables_between}
 use Rattle.between_orders.proofs.tables_between.tables_between.Goals as goal
 

@@ -4,7 +4,7 @@ use Rattle.std.specs.Prelude.{option_and_then}
 use Rattle.clap.specs.Matches.{found_of}
 use Rattle.cli_arguments.proofs.FoundWords.{words_are}
 use Rattle.cli_arguments.specs.Words.{word_named}
-use Rattle.cli_task.specs.Tasks.{task_behind}
+use Rattle.cli_task.specs.Task.{task_behind}
 use Rattle.cli_task.proofs.task.task_of.Goals as goal
 
 pub returns : goal.returns

@@ -2,9 +2,9 @@ use Rattle.std.proofs.Common.{◌≡◌, ◌<◌, ℕ, List, sym, ap, ◌∙◌,
 use Rattle.std.specs.Prelude.{Some, Contains, not}
 use Rattle.port_graph.specs.declared.edge.Edge.{Edge}
 use Rattle.spread_labels.specs.KeyOrder.{before_by}
-use Rattle.spread_labels.specs.Stages.{earlier_of}
+use Rattle.spread_labels.specs.Growth.{earlier_of}
 use Rattle.spread_labels.proofs.Earlier.{IsBelow, earlier_below}
-use Rattle.depth_orders.specs.DepthOrders.{flag_at, goes_before, turned}
+use Rattle.depth_orders.specs.DepthOrder.{flag_at, goes_before, turned}
 use Rattle.depth_orders.proofs.Neighbors.{best_passing, best_failing}
 use Rattle.depth_orders.proofs.depth_order.best_beside.Goals as goal
 use Rattle.depth_orders.proofs.depth_order.best_beside.Goals.{then-not-is_placed, else-not-is_placed}

@@ -1,8 +1,8 @@
 use Rattle.std.proofs.Common.{◌≡◌, ◌<◌, length, map, take}
 use Rattle.std.specs.Prelude.{MatchOption, filter, not}
 use Rattle.spread_labels.specs.KeyOrder.{before_by}
-use Rattle.spread_labels.specs.Stages.{earliest_of}
-use Rattle.depth_orders.specs.DepthOrders.{flag_at, goes_before, turned}
+use Rattle.spread_labels.specs.Growth.{earliest_of}
+use Rattle.depth_orders.specs.DepthOrder.{flag_at, goes_before, turned}
 use Rattle.depth_orders.proofs.depth_order.best_beside.Given as goal
 
 -- the first of the neighbors so far, which is a vertex

@@ -1,6 +1,6 @@
 use Rattle.std.proofs.Common.{◌≡◌, ◌≤◌, length}
 use Rattle.spread_labels.specs.KeyOrder.{before_by}
-use Rattle.depth_orders.specs.DepthOrders.{deepest, flag_at, turned}
+use Rattle.depth_orders.specs.DepthOrder.{deepest, flag_at, turned}
 use Rattle.depth_orders.proofs.depth_order.deepest.Given as goal
 
 -- the vertices behind have no neighbor left

@@ -1,9 +1,9 @@
 use Rattle.std.proofs.Common.{◌<◌, ℕ, sym, ap, ◌∙◌, subst, length}
 use Rattle.std.specs.Prelude.{Some, not}
 use Rattle.spread_labels.specs.KeyOrder.{before_by}
-use Rattle.spread_labels.specs.Stages.{earlier_of}
+use Rattle.spread_labels.specs.Growth.{earlier_of}
 use Rattle.spread_labels.proofs.Earlier.{IsBelow, earlier_below, earliest_passing, earliest_failing}
-use Rattle.depth_orders.specs.DepthOrders.{flag_at, turned}
+use Rattle.depth_orders.specs.DepthOrder.{flag_at, turned}
 use Rattle.depth_orders.proofs.depth_order.first_left.Goals as goal
 use Rattle.depth_orders.proofs.depth_order.first_left.Goals.{then-not-is_placed, else-not-is_placed}
 

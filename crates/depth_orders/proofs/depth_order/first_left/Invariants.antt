@@ -1,7 +1,7 @@
 use Rattle.std.proofs.Common.{◌≡◌, ◌<◌, length}
 use Rattle.std.specs.Prelude.{MatchOption}
 use Rattle.spread_labels.specs.KeyOrder.{before_by}
-use Rattle.depth_orders.specs.DepthOrders.{first_left, flag_at, turned}
+use Rattle.depth_orders.specs.DepthOrder.{first_left, flag_at, turned}
 use Rattle.depth_orders.proofs.depth_order.first_left.Given as goal
 
 -- the first of the vertices so far, which is one of them

@@ -3,7 +3,7 @@ use Rattle.std.proofs.lemmas.List.{length-set}
 use Rattle.std.specs.Prelude.{slice_set}
 use Rattle.spread_labels.specs.KeyOrder.{before_by}
 use Rattle.spread_labels.proofs.Earlier.{IsBelow}
-use Rattle.depth_orders.specs.DepthOrders.{depth_after, flag_at, is_among, next_by_depth, turned, with_next}
+use Rattle.depth_orders.specs.DepthOrder.{depth_after, flag_at, is_among, next_by_depth, turned, with_next}
 use Rattle.depth_orders.proofs.Flags.{flags_more}
 use Rattle.depth_orders.proofs.depth_order.order_by_depth.Goals as goal
 use Rattle.depth_orders.proofs.depth_order.order_by_depth.Goals.{in-Some+in_ok-push-2, in_default}

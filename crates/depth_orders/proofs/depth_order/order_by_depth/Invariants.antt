@@ -1,6 +1,6 @@
 use Rattle.std.proofs.Common.{◌≡◌, ℕ, length}
 use Rattle.spread_labels.specs.KeyOrder.{before_by}
-use Rattle.depth_orders.specs.DepthOrders.{depth_after, flag_at, is_among, turned}
+use Rattle.depth_orders.specs.DepthOrder.{depth_after, flag_at, is_among, turned}
 use Rattle.depth_orders.proofs.depth_order.order_by_depth.Given as goal
 
 -- the order so far, and flags that tell which vertices stand in it

@@ -2,7 +2,7 @@ use Rattle.std.proofs.Common.{◌≡◌, ◌++◌}
 use Rattle.std.specs.Prelude.{not}
 use Rattle.std.specs.List.{filter_map}
 use Rattle.fact_store.specs.View.{cells_of}
-use Rattle.fact_store.specs.Walk.{cells_left}
+use Rattle.fact_store.specs.Iter.{cells_left}
 use Rattle.fact_gaps.specs.Gaps.{is_known_node}
 use Rattle.fact_gaps.specs.NamedPorts.{own_node, kept}
 use Rattle.fact_gaps.proofs.nodes.add_own_nodes.Given as goal

@@ -2,7 +2,7 @@ use Rattle.std.proofs.Common.{◌≡◌, ◌++◌}
 use Rattle.std.specs.Prelude.{not}
 use Rattle.std.specs.List.{filter_map}
 use Rattle.fact_store.specs.View.{cells_of}
-use Rattle.fact_store.specs.Walk.{cells_left}
+use Rattle.fact_store.specs.Iter.{cells_left}
 use Rattle.fact_gaps.specs.Gaps.{is_known_port}
 use Rattle.fact_gaps.specs.NamedPorts.{far_port, kept}
 use Rattle.fact_gaps.proofs.ports.add_far_ports.Given as goal

@@ -1,8 +1,8 @@
 -- What is found is one of those given.
 use Rattle.std.proofs.Common.{◌∙◌, sym}
-use Rattle.fact_gaps.specs.InOrder.{port_cmp}
+use Rattle.smp_bytes.specs.Ports.{node_port_cmp}
+use Rattle.smp_bytes.proofs.NodePorts.{node_port_exact}
 use Rattle.fact_gaps.proofs.Found.{found_there}
-use Rattle.fact_gaps.proofs.Ties.{port_exact}
 use Rattle.fact_gaps.proofs.ports.is_known_by.Goals as goal
 
 pub returns-then-is_ok : goal.returns-then-is_ok
@@ -11,5 +11,5 @@ returns-then-is_ok c =
     c.if-is_ok.true
     ∙ sym
     (c.requires (c.args.node, c.args.port)
-    (found_there port_cmp port_exact (c.args.node, c.args.port) c.args.known.now search.result search.ensures.bound search.ensures.ok
+    (found_there node_port_cmp node_port_exact (c.args.node, c.args.port) c.args.known.now search.result search.ensures.bound search.ensures.ok
     (sym c.is_ok.ensures.value ∙ c.if-is_ok.true)))

@@ -1,7 +1,7 @@
 use Rattle.std.proofs.Common.{◌≡◌, ◌++◌}
 use Rattle.std.specs.List.{filter_map}
 use Rattle.fact_store.specs.View.{cells_of}
-use Rattle.fact_store.specs.Walk.{cells_left}
+use Rattle.fact_store.specs.Iter.{cells_left}
 use Rattle.fact_gaps.specs.Gaps.{is_known_port}
 use Rattle.fact_gaps.specs.NamedPorts.{kept, link_key}
 use Rattle.fact_gaps.proofs.ports.known_ports.Given as goal

@@ -3,8 +3,9 @@ use Rattle.std.proofs.Common.{ℕ, Bool, List, ◌++◌, ◌∙◌, ap, subst, m
 use Rattle.std.specs.Prelude.{Contains, not}
 use Rattle.std.specs.List.{filter_map}
 use Rattle.std.proofs.lemmas.Result.{IfOk-weaker}
+use Rattle.smp_bytes.specs.Ports.{node_port_cmp}
 use Rattle.fact_store.specs.View.{cells_of}
-use Rattle.fact_gaps.specs.InOrder.{each_once, port_cmp}
+use Rattle.fact_gaps.specs.InOrder.{each_once}
 use Rattle.fact_gaps.specs.Gaps.{is_known_port, port_at}
 use Rattle.fact_gaps.specs.NamedPorts.{link_key, far_port, kept, own_port}
 use Rattle.fact_gaps.proofs.Named.{kept_both, kept_passes}
@@ -16,7 +17,7 @@ returns c =
     let test : ℕ × ℕ → Bool = λ e. not (is_known_port cells e) in
     let own = c.in_ok-add_own_ports.ensures ∙ ap (λ (xs : List (ℕ × ℕ)). xs ++ filter_map (kept test own_port) cells) c.new-ports.ensures.items in
     let both = c.in_ok-add_far_ports.ensures ∙ ap (λ (xs : List (ℕ × ℕ)). xs ++ filter_map (kept test far_port) cells) own ∙ kept_both test own_port far_port cells in
-    IfOk-weaker c.end_ports_at.result _ _ (λ named is. is ∙ ap (map port_at) (c.deref-3.ensures.value ∙ c.order_ports.ensures ∙ ap (each_once port_cmp) both))
+    IfOk-weaker c.end_ports_at.result _ _ (λ named is. is ∙ ap (map port_at) (c.deref-3.ensures.value ∙ c.order_ports.ensures ∙ ap (each_once node_port_cmp) both))
     c.end_ports_at.ensures
 
 pub add_own_ports-requires : goal.add_own_ports-requires

@@ -3,7 +3,7 @@ use Rattle.std.proofs.Common.{◌≡◌, ◌∙◌, ℕ, length, sym, ap}
 use Rattle.std.proofs.lemmas.List.FromFn.{length-map-range_with_len}
 use Rattle.fact_store.specs.View.{cells_of}
 use Rattle.held_tables.specs.Switches.{far_of, row_of}
-use Rattle.held_tables.specs.Rows.{padded}
+use Rattle.held_tables.specs.FarEnds.{padded}
 use Rattle.held_tables.proofs.far_ends.row_of.Goals as goal
 
 pub returns : goal.returns

@@ -1,7 +1,7 @@
 -- An end port more.
 use Rattle.std.proofs.Common.{◌∙◌, arith}
 use Rattle.fact_store.specs.View.{cells_of}
-use Rattle.subnet_view.specs.EndPorts.{end_ports}
+use Rattle.subnet_view.specs.EndPort.{end_ports}
 use Rattle.lane_channels.specs.Levels.{lids_held, lids_on}
 use Rattle.lane_channels.proofs.FarPorts.{list_more, sender_at}
 use Rattle.lane_channels.proofs.held_by.held_by.Goals as goal

@@ -1,7 +1,7 @@
 -- The end ports so far.
 use Rattle.std.proofs.Common.{◌≡◌, map, take}
 use Rattle.fact_store.specs.View.{cells_of}
-use Rattle.subnet_view.specs.EndPorts.{end_ports}
+use Rattle.subnet_view.specs.EndPort.{end_ports}
 use Rattle.lane_channels.specs.LaneNetwork.{lists_of}
 use Rattle.lane_channels.specs.Levels.{lids_held}
 use Rattle.lane_channels.proofs.held_by.held_by.Given as goal

@@ -7,8 +7,8 @@ use Rattle.packet_walks.specs.Network.{Seen}
 use Rattle.audit_channels.proofs.Waiting.{some_is}
 use Rattle.lane_channels.specs.AnyTables.{columns_for}
 use Rattle.lane_channels.specs.Senders.{SentFor}
-use Rattle.lane_channels.specs.Visits.{AreWithin, columns_in, walked}
-use Rattle.lane_channels.specs.Walks.{AreFollowed}
+use Rattle.lane_channels.specs.Visit.{AreWithin, columns_in, walked}
+use Rattle.lane_channels.specs.Walk.{AreFollowed}
 use Rattle.lane_channels.specs.Stops.{Columns}
 use Rattle.lane_channels.proofs.LidWaits.{all_waits, columns_within, more, none_so_far, some_drop}
 use Rattle.lane_channels.proofs.step_by_lane.step_lane_waits.Goals as goal

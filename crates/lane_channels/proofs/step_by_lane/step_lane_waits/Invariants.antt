@@ -1,6 +1,6 @@
 -- The LIDs so far.
 use Rattle.std.specs.Prelude.{◌≡◌, [], ◌∷◌}
-use Rattle.lane_channels.specs.Visits.{walked}
+use Rattle.lane_channels.specs.Visit.{walked}
 use Rattle.lane_channels.proofs.LidWaits.{SoFar}
 use Rattle.lane_channels.proofs.step_by_lane.step_lane_waits.Given as goal
 

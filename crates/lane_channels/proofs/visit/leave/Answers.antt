@@ -3,7 +3,7 @@ use Rattle.std.proofs.Common.{◌≡◌, ◌+◌, ◌/◌, length, refl, sym, �
 use Rattle.std.proofs.lemmas.List.{length-map}
 use Rattle.fact_store.specs.View.{cells_of}
 use Rattle.lane_channels.specs.declared.walk_state.Walks.{Walks}
-use Rattle.lane_channels.specs.Visits.{AreLeft, FirstEdges, columns_in, walking}
+use Rattle.lane_channels.specs.Visit.{AreLeft, FirstEdges, columns_in, walking}
 use Rattle.lane_channels.proofs.Visits.{all_left, column_left, no_column_left, none_left}
 use Rattle.lane_channels.proofs.visit.leave.Goals.{in-Some+in_ok-leave_along, in_default}
 use Rattle.lane_channels.proofs.visit.leave.Goals as goal

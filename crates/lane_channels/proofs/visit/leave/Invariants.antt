@@ -1,7 +1,7 @@
 -- The columns so far.
 use Rattle.std.specs.Prelude.{◌≡◌, ◌/◌}
 use Rattle.fact_store.specs.View.{cells_of}
-use Rattle.lane_channels.specs.Visits.{AreLeft, FirstEdges, columns_in, walking}
+use Rattle.lane_channels.specs.Visit.{AreLeft, FirstEdges, columns_in, walking}
 use Rattle.lane_channels.proofs.visit.leave.Given as goal
 
 abbrev pub invariant-loop-nth : goal.invariant-loop-nth

@@ -4,7 +4,7 @@ use Rattle.fact_store.specs.View.{cells_of}
 use Rattle.subnet_view.specs.Reading.{switches}
 use Rattle.packet_walks.specs.Network.{Seen}
 use Rattle.lane_channels.specs.Stops.{HasEdge, lane_between, lane_by, lane_number, stop_at}
-use Rattle.lane_channels.specs.Visits.{IsWithNexts, LeavesAlong, columns_in, walking}
+use Rattle.lane_channels.specs.Visit.{IsWithNexts, LeavesAlong, columns_in, walking}
 use Rattle.lane_channels.proofs.Visits.{carried_there, dropped_there, is_carried, is_not_carried}
 use Rattle.lane_channels.proofs.visit.leave_along.Goals as goal
 

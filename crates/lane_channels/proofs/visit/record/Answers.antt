@@ -2,7 +2,7 @@
 use Rattle.std.proofs.Common.{◌≡◌, ◌+◌, length, sym, arith, subst, List, ℕ}
 use Rattle.std.proofs.lemmas.List.{length-map}
 use Rattle.fact_store.specs.View.{cells_of}
-use Rattle.lane_channels.specs.Visits.{FirstEdges, IsWithNexts, LeavesAlong, columns_in}
+use Rattle.lane_channels.specs.Visit.{FirstEdges, IsWithNexts, LeavesAlong, columns_in}
 use Rattle.lane_channels.proofs.Visits.{all_along, column_along, no_column_along, none_yet}
 use Rattle.lane_channels.proofs.visit.record.Goals.{in-Some+in_ok-record_along, in_default}
 use Rattle.lane_channels.proofs.visit.record.Goals as goal

@@ -1,6 +1,6 @@
 -- The columns so far.
 use Rattle.fact_store.specs.View.{cells_of}
-use Rattle.lane_channels.specs.Visits.{FirstEdges, IsWithNexts, LeavesAlong, columns_in}
+use Rattle.lane_channels.specs.Visit.{FirstEdges, IsWithNexts, LeavesAlong, columns_in}
 use Rattle.lane_channels.proofs.visit.record.Given as goal
 
 abbrev pub invariant-loop-nth : goal.invariant-loop-nth

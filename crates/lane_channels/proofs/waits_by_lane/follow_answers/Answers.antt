@@ -1,8 +1,8 @@
 -- An owner more.
 use Rattle.std.proofs.Common.{◌≡◌, ℕ, length, subst, arith}
 use Rattle.fact_store.specs.View.{cells_of}
-use Rattle.lane_channels.specs.Visits.{columns_in, walked}
-use Rattle.lane_channels.specs.Walks.{AreFollowed}
+use Rattle.lane_channels.specs.Visit.{columns_in, walked}
+use Rattle.lane_channels.specs.Walk.{AreFollowed}
 use Rattle.lane_channels.proofs.Senders.{AnswersToSome, all_owners, item_there, no_owners, one_owner}
 use Rattle.lane_channels.proofs.waits_by_lane.follow_answers.Goals as goal
 

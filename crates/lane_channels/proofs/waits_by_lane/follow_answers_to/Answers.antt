@@ -3,8 +3,8 @@ use Rattle.std.proofs.Common.{◌≡◌, ◌∙◌, ℕ, ap, subst, arith, lengt
 use Rattle.fact_store.specs.View.{cells_of}
 use Rattle.lanes_file.specs.Lanes.{LanesSaid, level_of}
 use Rattle.lane_channels.specs.Senders.{AnswersOf}
-use Rattle.lane_channels.specs.Visits.{columns_in, walked}
-use Rattle.lane_channels.specs.Walks.{AreFollowed}
+use Rattle.lane_channels.specs.Visit.{columns_in, walked}
+use Rattle.lane_channels.specs.Walk.{AreFollowed}
 use Rattle.lane_channels.proofs.Senders.{item_there, no_lids, one_asked}
 use Rattle.lane_channels.proofs.waits_by_lane.follow_answers_to.Goals as goal
 

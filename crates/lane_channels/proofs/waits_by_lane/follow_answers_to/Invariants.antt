@@ -1,8 +1,8 @@
 -- The LIDs so far.
 use Rattle.fact_store.specs.View.{cells_of}
 use Rattle.lane_channels.specs.Senders.{AnswersOf}
-use Rattle.lane_channels.specs.Visits.{columns_in, walked}
-use Rattle.lane_channels.specs.Walks.{AreFollowed}
+use Rattle.lane_channels.specs.Visit.{columns_in, walked}
+use Rattle.lane_channels.specs.Walk.{AreFollowed}
 use Rattle.lane_channels.proofs.waits_by_lane.follow_answers_to.Given as goal
 
 abbrev pub invariant-loop-index : goal.invariant-loop-index

@@ -1,7 +1,7 @@
 -- The senders so far.
 use Rattle.fact_store.specs.View.{cells_of}
-use Rattle.lane_channels.specs.Visits.{columns_in, walked}
-use Rattle.lane_channels.specs.Walks.{AreFollowed}
+use Rattle.lane_channels.specs.Visit.{columns_in, walked}
+use Rattle.lane_channels.specs.Walk.{AreFollowed}
 use Rattle.lane_channels.proofs.Senders.{SentBySome}
 use Rattle.lane_channels.proofs.waits_by_lane.follow_lid.Given as goal
 

@@ -4,7 +4,7 @@ use Rattle.std.specs.Prelude.{Option, Some, slice_get}
 use Rattle.std.proofs.lemmas.Result.{on_ok_weaker}
 use Rattle.fact_store.specs.View.{cells_of}
 use Rattle.subnet_view.specs.declared.end_port.EndPort.{EndPort}
-use Rattle.subnet_view.specs.EndPorts.{end_ports}
+use Rattle.subnet_view.specs.EndPort.{end_ports}
 use Rattle.held_tables.specs.Switches.{sender_of}
 use Rattle.held_tables.specs.Tables.{owners_of}
 use Rattle.lanes_file.specs.Lanes.{LanesSaid, level_of}
@@ -13,8 +13,8 @@ use Rattle.lane_channels.specs.LaneNetwork.{lists_of}
 use Rattle.lane_channels.specs.Levels.{lids_held}
 use Rattle.lane_channels.specs.Senders.{AnswersTo}
 use Rattle.lane_channels.specs.Stops.{first_stop}
-use Rattle.lane_channels.specs.Visits.{columns_in, walked}
-use Rattle.lane_channels.specs.Walks.{AreFollowed, BeginsIf}
+use Rattle.lane_channels.specs.Visit.{columns_in, walked}
+use Rattle.lane_channels.specs.Walk.{AreFollowed, BeginsIf}
 use Rattle.packet_walks.specs.Network.{Seen}
 use Rattle.lane_channels.proofs.Senders.{map_of_there, no_answers, port_there, with_answers}
 use Rattle.lane_channels.proofs.waits_by_lane.follow_sender.Goals as goal

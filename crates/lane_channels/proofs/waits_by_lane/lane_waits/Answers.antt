@@ -7,8 +7,8 @@ use Rattle.packet_walks.specs.Network.{Seen}
 use Rattle.audit_channels.proofs.Waiting.{some_is}
 use Rattle.lane_channels.specs.AnyTables.{columns_for}
 use Rattle.lane_channels.specs.Senders.{SentFor}
-use Rattle.lane_channels.specs.Visits.{columns_in, walked}
-use Rattle.lane_channels.specs.Walks.{AreFollowed}
+use Rattle.lane_channels.specs.Visit.{columns_in, walked}
+use Rattle.lane_channels.specs.Walk.{AreFollowed}
 use Rattle.lane_channels.proofs.LidWaits.{all_waits, more, none_so_far, some_drop}
 use Rattle.lane_channels.proofs.waits_by_lane.lane_waits.Goals as goal
 

@@ -1,7 +1,7 @@
 -- If there is a level.
 use Rattle.std.proofs.lemmas.Result.{on_ok_weaker}
 use Rattle.fact_store.specs.View.{cells_of}
-use Rattle.lane_channels.specs.Visits.{columns_in, walked}
+use Rattle.lane_channels.specs.Visit.{columns_in, walked}
 use Rattle.lane_channels.proofs.Walks.{followed_at}
 use Rattle.lane_channels.proofs.waits_by_lane.walk_at_level.Goals as goal
 

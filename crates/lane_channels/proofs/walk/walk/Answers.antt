@@ -1,7 +1,7 @@
 -- A stop more, and the end.
 use Rattle.std.proofs.Common.{◌≡◌, [], ◌∷◌, ℕ, List, length, refl, ◌∙◌, arith}
 use Rattle.fact_store.specs.View.{cells_of}
-use Rattle.lane_channels.specs.Visits.{columns_in, walked, walking}
+use Rattle.lane_channels.specs.Visit.{columns_in, walked, walking}
 use Rattle.lane_channels.proofs.Walks.{taken, visited_if_new, walk_begins, walk_ends}
 use Rattle.lane_channels.proofs.walk.walk.Goals as goal
 

@@ -1,6 +1,6 @@
 -- The walk under way.
 use Rattle.fact_store.specs.View.{cells_of}
-use Rattle.lane_channels.specs.Visits.{columns_in, walked}
+use Rattle.lane_channels.specs.Visit.{columns_in, walked}
 use Rattle.lane_channels.proofs.Walks.{InWalk}
 use Rattle.lane_channels.proofs.walk.walk.Given as goal
 

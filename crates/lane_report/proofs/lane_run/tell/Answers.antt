@@ -1,6 +1,6 @@
 -- What was written, and whether the tables pass.
 use Rattle.std.proofs.Common.{◌∙◌, sym}
-use Rattle.lane_report.specs.RunLaneAudit.{seen_of}
+use Rattle.lane_report.specs.LaneRun.{seen_of}
 use Rattle.lane_report.proofs.Judged.{is_sound, passes}
 use Rattle.lane_report.proofs.lane_run.tell.Goals as goal
 use Rattle.lane_report.proofs.lane_run.tell.Goals.{then-delivers_within, else-delivers_within}

@@ -3,10 +3,10 @@ use Rattle.std.proofs.Common.{◌≡◌, ◌∙◌, ◌++◌, ◌/◌, [], sym, 
 use Rattle.std.specs.Prelude.{Option, map}
 use Rattle.std.specs.List.{flat_map}
 use Rattle.fact_store.specs.View.{cells_of}
-use Rattle.subnet_view.specs.EndPorts.{end_ports}
+use Rattle.subnet_view.specs.EndPort.{end_ports}
 use Rattle.audit_counts.specs.declared.site.Site.{Site}
 use Rattle.audit_counts.specs.FirstFew.{all_listed}
-use Rattle.audit_counts.specs.Sites.{IsSiteOf, site_of}
+use Rattle.audit_counts.specs.Site.{IsSiteOf, site_of}
 use Rattle.audit_counts.proofs.Sited.{no_site, site_is}
 use Rattle.lane_report.specs.declared.level_row.LevelRow.{LevelRow}
 use Rattle.lane_report.specs.LevelRow.{IsRow, missing_in_row, row_of}

@@ -3,7 +3,7 @@ use Rattle.std.specs.Prelude.{Option}
 use Rattle.fact_store.specs.View.{cells_of}
 use Rattle.lft_blocks.specs.declared.attachment.Attachment.{Attachment}
 use Rattle.lft_blocks.specs.Entries.{attachment_of_lid}
-use Rattle.lft_blocks.specs.Attachments.{IsIndexed}
+use Rattle.lft_blocks.specs.Attachment.{IsIndexed}
 use Rattle.lft_blocks.proofs.IndexedAttachments.{AreIndexedBelow, indexed_more, indexed_all}
 use Rattle.lft_blocks.proofs.attachment.attachments.Goals as goal
 

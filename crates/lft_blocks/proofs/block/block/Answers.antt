@@ -1,6 +1,6 @@
 use Rattle.std.proofs.Common.{◌+◌, ◌*◌, rules}
 use Rattle.std.proofs.lemmas.List.FromFn.{fill_by_all}
-use Rattle.lft_blocks.specs.Attachments.{entry_in}
+use Rattle.lft_blocks.specs.Attachment.{entry_in}
 use Rattle.lft_blocks.proofs.block.block.Goals as goal
 
 pub returns : goal.returns

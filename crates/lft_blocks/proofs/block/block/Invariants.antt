@@ -1,5 +1,5 @@
 use Rattle.std.proofs.Common.{◌≡◌, ◌+◌, ◌*◌, ◌<◌, ℕ, length, get_or}
-use Rattle.lft_blocks.specs.Attachments.{entry_in}
+use Rattle.lft_blocks.specs.Attachment.{entry_in}
 use Rattle.lft_blocks.proofs.block.block.Given as goal
 
 -- the entries below the index are there

@@ -1,6 +1,6 @@
 use Rattle.std.proofs.Common.{sym, arith}
 use Rattle.std.proofs.lemmas.List.FromFn.{map-range_with_len_more}
-use Rattle.lft_blocks.specs.Attachments.{block_in}
+use Rattle.lft_blocks.specs.Attachment.{block_in}
 use Rattle.lft_blocks.proofs.block.blocks.Goals as goal
 
 pub loop-b-preserved : goal.loop-b-preserved

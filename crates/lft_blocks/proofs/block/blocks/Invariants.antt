@@ -1,6 +1,6 @@
 use Rattle.std.proofs.Common.{◌≡◌, map}
 use Rattle.std.specs.List.{range_with_len}
-use Rattle.lft_blocks.specs.Attachments.{block_in}
+use Rattle.lft_blocks.specs.Attachment.{block_in}
 use Rattle.lft_blocks.proofs.block.blocks.Given as goal
 
 -- the blocks so far

@@ -7,10 +7,10 @@ use Rattle.subnet_view.specs.Reading.{switches}
 use Rattle.subnet_view.proofs.GraphSwitches.{graph_guids}
 use Rattle.spread_routes.specs.Adapters.{adapters_of}
 use Rattle.spread_routes.specs.Spread.{spread_by}
-use Rattle.spread_routes.specs.SwitchOrders.{order_value_of}
+use Rattle.spread_routes.specs.SwitchOrder.{order_value_of}
 use Rattle.lft_blocks.specs.declared.attachment.Attachment.{Attachment}
 use Rattle.lft_blocks.specs.Entries.{attachment_of_lid, block_count}
-use Rattle.lft_blocks.specs.Attachments.{AreIndexed}
+use Rattle.lft_blocks.specs.Attachment.{AreIndexed}
 use Rattle.lft_blocks.specs.LidNumbers.{number_of, numbered, numbering_of}
 use Rattle.lft_blocks.specs.Plan.{tables_of}
 use Rattle.lft_blocks.proofs.RowSteps.{same_attachments}

@@ -10,7 +10,7 @@ use Rattle.updown_routes.specs.Updown.{updown}
 use Rattle.subnet_view.proofs.GraphSwitches.{graph_guids, switches_rise}
 use Rattle.lft_blocks.specs.declared.attachment.Attachment.{Attachment}
 use Rattle.lft_blocks.specs.Entries.{attachment_of_lid, block_count}
-use Rattle.lft_blocks.specs.Attachments.{AreIndexed}
+use Rattle.lft_blocks.specs.Attachment.{AreIndexed}
 use Rattle.lft_blocks.specs.Plan.{tables_of}
 use Rattle.lft_blocks.proofs.RowSteps.{same_attachments}
 use Rattle.lft_blocks.proofs.plan.by_updown.Goals as goal

@@ -3,7 +3,7 @@ use Rattle.std.proofs.Common.{◌≡◌, ap, sym, subst}
 use Rattle.std.specs.Prelude.{IfOk}
 use Rattle.fact_store.specs.View.{cells_of}
 use Rattle.subnet_view.specs.Routing.{Routing}
-use Rattle.lft_blocks.specs.Rules.{RuleValue, rule_of, value_of}
+use Rattle.lft_blocks.specs.Rule.{RuleValue, rule_of, value_of}
 use Rattle.lft_blocks.specs.LidNumbers.{lid_numbers, numbered}
 use Rattle.lft_blocks.specs.Plan.{lid_routing, tables_by}
 use Rattle.lft_blocks.proofs.plan.tables_of.Goals as goal

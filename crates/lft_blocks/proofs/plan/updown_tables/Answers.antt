@@ -1,8 +1,8 @@
 use Rattle.std.proofs.Common.{refl, sym, ◌∙◌, length, map}
 use Rattle.std.specs.List.{range_with_len}
 use Rattle.subnet_view.specs.Graph.{guids_of}
-use Rattle.lft_blocks.specs.Attachments.{table_in}
-use Rattle.lft_blocks.specs.TableRows.{attachment_by_index}
+use Rattle.lft_blocks.specs.Attachment.{table_in}
+use Rattle.lft_blocks.specs.TableRow.{attachment_by_index}
 use Rattle.lft_blocks.proofs.AttachmentTables.{tables_same}
 use Rattle.lft_blocks.proofs.RowSteps.{indexed_itself}
 use Rattle.lft_blocks.proofs.plan.updown_tables.Goals as goal

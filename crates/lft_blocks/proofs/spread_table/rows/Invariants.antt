@@ -2,7 +2,7 @@ use Rattle.std.proofs.Common.{◌≤◌, ◌-◌, get_or}
 use Rattle.subnet_view.specs.Graph.{guids_of}
 use Rattle.spread_routes.specs.Spread.{spread_at}
 use Rattle.lft_blocks.specs.LidNumbers.{numbered}
-use Rattle.lft_blocks.specs.TableRows.{AreRows}
+use Rattle.lft_blocks.specs.TableRow.{AreRows}
 use Rattle.lft_blocks.proofs.spread_table.rows.Given as goal
 
 -- the entries for the LIDs at the switches so far

@@ -10,16 +10,16 @@ use Rattle.subnet_view.specs.SwitchEdges.{SwitchEdges}
 use Rattle.subnet_view.specs.Graph.{guids_of}
 use Rattle.subnet_view.proofs.GraphSwitches.{graph_guids, switches_rise}
 use Rattle.spread_routes.specs.LeafNumbers.{leaf_number, leaf_numbers, least_neighbors}
-use Rattle.spread_labels.specs.LeafVertices.{leaf_vertices}
+use Rattle.spread_labels.specs.Leaves.{leaf_vertices}
 use Rattle.spread_routes.specs.Adapters.{adapters_of}
 use Rattle.spread_routes.proofs.AdapterCounts.{adapters_long}
 use Rattle.spread_routes.specs.Rule.{by_index}
 use Rattle.spread_routes.specs.Spread.{Grading, grading_of, spread_at, spread_by}
-use Rattle.spread_routes.specs.SwitchOrders.{order_value_of}
-use Rattle.lft_blocks.specs.Attachments.{AreWithin}
+use Rattle.spread_routes.specs.SwitchOrder.{order_value_of}
+use Rattle.lft_blocks.specs.Attachment.{AreWithin}
 use Rattle.lft_blocks.specs.LidNumbers.{Numbering, indexed_number, indexed_numbers, number_of, numbered, numbering_by, numbering_of}
 use Rattle.lft_blocks.specs.Plan.{SwitchTable}
-use Rattle.lft_blocks.specs.TableRows.{AreRows, attachment_by_index, table_of_row}
+use Rattle.lft_blocks.specs.TableRow.{AreRows, attachment_by_index, table_of_row}
 use Rattle.lft_blocks.proofs.LidNumbers.{number_same}
 use Rattle.lft_blocks.proofs.RowSteps.{tables_are}
 use Rattle.lft_blocks.proofs.spread_table.spread_tables.Goals as goal

@@ -4,7 +4,7 @@ use Rattle.std.proofs.lemmas.List.{get_or_default, get_or-set_other, length-set}
 use Rattle.std.proofs.lemmas.List.FromFn.{length-map-range_with_len, map-range_with_len_more}
 use Rattle.std.specs.Prelude.{slice_index_or}
 use Rattle.std.specs.List.{range_with_len}
-use Rattle.lft_blocks.specs.TableRows.{block_of_row, blocks_of_row, table_of_row}
+use Rattle.lft_blocks.specs.TableRow.{block_of_row, blocks_of_row, table_of_row}
 use Rattle.lft_blocks.proofs.spread_table.tables_of.Goals as goal
 
 pub loop-own-preserved : goal.loop-own-preserved

@@ -1,6 +1,6 @@
 use Rattle.std.proofs.Common.{◌≡◌, ◌≤◌, ℕ, [], map, length, get_or}
 use Rattle.std.specs.List.{range_with_len}
-use Rattle.lft_blocks.specs.TableRows.{table_of_row}
+use Rattle.lft_blocks.specs.TableRow.{table_of_row}
 use Rattle.lft_blocks.proofs.spread_table.tables_of.Given as goal
 
 -- the tables so far, and the rows that are left

@@ -6,7 +6,7 @@ use Rattle.spread_routes.specs.Spread.{spread_at}
 use Rattle.spread_routes.specs.Exits.{port_by, with_entries}
 use Rattle.lft_blocks.specs.declared.attachment.Attachment.{Attachment}
 use Rattle.lft_blocks.specs.LidNumbers.{numbered}
-use Rattle.lft_blocks.specs.TableRows.{AreLidsAt, IsRow, entry_by, lids_at}
+use Rattle.lft_blocks.specs.TableRow.{AreLidsAt, IsRow, entry_by, lids_at}
 use Rattle.lft_blocks.proofs.RowSteps.{lids_within, row_more}
 use Rattle.lft_blocks.proofs.spread_table.write_row.Goals as goal
 

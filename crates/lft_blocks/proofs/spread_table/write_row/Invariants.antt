@@ -2,7 +2,7 @@ use Rattle.std.proofs.Common.{get_or}
 use Rattle.subnet_view.specs.Graph.{guids_of}
 use Rattle.spread_routes.specs.Spread.{spread_at}
 use Rattle.lft_blocks.specs.LidNumbers.{numbered}
-use Rattle.lft_blocks.specs.TableRows.{IsRow}
+use Rattle.lft_blocks.specs.TableRow.{IsRow}
 use Rattle.lft_blocks.proofs.spread_table.write_row.Given as goal
 
 -- the entries for the LIDs at the targets so far

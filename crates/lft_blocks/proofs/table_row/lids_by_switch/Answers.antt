@@ -2,7 +2,7 @@ use Rattle.std.proofs.Common.{◌≡◌, ◌<◌, ◌+◌, ◌++◌, ◌∷◌, 
 use Rattle.std.proofs.lemmas.List.{get_or-map, get_or_default, length-map, map-set}
 use Rattle.std.specs.Prelude.{MatchOption, None, Option, Some, slice_index_or, slice_set}
 use Rattle.lft_blocks.specs.declared.attachment.Attachment.{Attachment}
-use Rattle.lft_blocks.specs.TableRows.{AreLidsAt}
+use Rattle.lft_blocks.specs.TableRow.{AreLidsAt}
 use Rattle.lft_blocks.proofs.RowSteps.{lid_added, lid_passed}
 use Rattle.lft_blocks.proofs.table_row.lids_by_switch.Goals as goal
 use Rattle.lft_blocks.proofs.table_row.lids_by_switch.Goals.{in-Some+in_ok-push, in_default}

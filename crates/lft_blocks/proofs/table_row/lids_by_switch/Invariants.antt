@@ -1,5 +1,5 @@
 use Rattle.std.proofs.Common.{map}
-use Rattle.lft_blocks.specs.TableRows.{AreLidsAt}
+use Rattle.lft_blocks.specs.TableRow.{AreLidsAt}
 use Rattle.lft_blocks.proofs.table_row.lids_by_switch.Given as goal
 
 -- the LIDs so far

@@ -1,7 +1,7 @@
 use Rattle.std.proofs.Common.{◌≡◌, drop, length}
 use Rattle.std.specs.Prelude.{None, slice_index_or}
 use Rattle.spread_routes.specs.Exits.{with_entries}
-use Rattle.lft_blocks.specs.TableRows.{attachment_port}
+use Rattle.lft_blocks.specs.TableRow.{attachment_port}
 use Rattle.lft_blocks.proofs.table_row.write_own.Given as goal
 
 -- the LIDs that are left do the rest

@@ -1,5 +1,5 @@
 use Rattle.std.proofs.Common.{◌≡◌}
-use Rattle.lft_blocks.specs.Attachments.{row_of}
+use Rattle.lft_blocks.specs.Attachment.{row_of}
 use Rattle.lft_blocks.proofs.updown_table.row.Given as goal
 
 -- the ports so far

@@ -3,7 +3,7 @@ use Rattle.std.proofs.lemmas.Grind.{get_or_default_zero}
 use Rattle.std.proofs.lemmas.List.FromFn.{length-map-range_with_len}
 use Rattle.std.specs.Prelude.{unwrap_or}
 use Rattle.updown_routes.specs.Ports.{next_port_at}
-use Rattle.lft_blocks.specs.Attachments.{AreWithin, block_in}
+use Rattle.lft_blocks.specs.Attachment.{AreWithin, block_in}
 use Rattle.lft_blocks.proofs.AttachmentTables.{table_made}
 use Rattle.lft_blocks.proofs.updown_table.table_at.Goals as goal
 

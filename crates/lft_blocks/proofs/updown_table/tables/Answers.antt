@@ -1,6 +1,6 @@
 use Rattle.std.proofs.Common.{sym, arith}
 use Rattle.std.proofs.lemmas.List.FromFn.{map-range_with_len_more}
-use Rattle.lft_blocks.specs.Attachments.{table_in}
+use Rattle.lft_blocks.specs.Attachment.{table_in}
 use Rattle.lft_blocks.proofs.updown_table.tables.Goals as goal
 
 pub loop-own-preserved : goal.loop-own-preserved

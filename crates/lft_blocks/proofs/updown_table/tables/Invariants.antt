@@ -1,6 +1,6 @@
 use Rattle.std.proofs.Common.{◌≡◌, map}
 use Rattle.std.specs.List.{range_with_len}
-use Rattle.lft_blocks.specs.Attachments.{table_in}
+use Rattle.lft_blocks.specs.Attachment.{table_in}
 use Rattle.lft_blocks.proofs.updown_table.tables.Given as goal
 
 -- the tables so far

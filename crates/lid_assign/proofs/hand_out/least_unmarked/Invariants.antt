@@ -1,5 +1,5 @@
 use Rattle.std.proofs.Common.{◌≡◌, ◌≤◌, ◌+◌, ◌-◌, ◌%◌, length}
-use Rattle.lid_assign.specs.Marks.{NoneUnmarked}
+use Rattle.lid_assign.specs.LidMarks.{NoneUnmarked}
 use Rattle.lid_assign.proofs.hand_out.least_unmarked.Given as goal
 
 -- a multiple of the width, and none before it is open

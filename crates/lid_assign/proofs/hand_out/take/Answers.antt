@@ -2,7 +2,7 @@
 use Rattle.std.proofs.Common.{◌≡◌, ◌^◌, ℕ, sym, ◌∙◌, subst, length}
 use Rattle.std.specs.Prelude.{MatchOption, option_map}
 use Rattle.lid_assign.specs.Ranges.{width_of}
-use Rattle.lid_assign.specs.Marks.{from_on, AreMarkedMore, NoneUnmarked, IsLeastUnmarked}
+use Rattle.lid_assign.specs.LidMarks.{from_on, AreMarkedMore, NoneUnmarked, IsLeastUnmarked}
 use Rattle.lid_assign.proofs.Passing.{still_passed}
 use Rattle.lid_assign.proofs.Ranges.{width_wide}
 use Rattle.lid_assign.proofs.hand_out.take.Goals as goal

@@ -1,7 +1,7 @@
 -- An entry more.
 use Rattle.std.proofs.Common.{List, ℕ, sym, subst}
 use Rattle.subnet_view.specs.declared.end_port.EndPort.{EndPort}
-use Rattle.lid_assign.specs.Indexed.{ByPort}
+use Rattle.lid_assign.specs.LidMap.{ByPort}
 use Rattle.lid_assign.proofs.Tables.{seen, lids_more}
 use Rattle.lid_assign.proofs.lid_map.by_port.Goals as goal
 

@@ -1,5 +1,5 @@
 use Rattle.std.proofs.Common.{reverse}
-use Rattle.lid_assign.specs.Indexed.{ByPort}
+use Rattle.lid_assign.specs.LidMap.{ByPort}
 use Rattle.lid_assign.proofs.lid_map.by_port.Given as goal
 
 -- the LIDs of those seen

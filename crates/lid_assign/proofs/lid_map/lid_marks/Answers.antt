@@ -5,7 +5,7 @@ use Rattle.std.proofs.lemmas.List.{length-set, length-replicate, get_or-replicat
 use Rattle.std.specs.Prelude.{replicate, slice_index_or, slice_set}
 use Rattle.subnet_view.specs.declared.end_port.EndPort.{EndPort}
 use Rattle.subnet_view.proofs.Members.{contains_in}
-use Rattle.lid_assign.specs.Indexed.{AreLidMarks}
+use Rattle.lid_assign.specs.LidMap.{AreLidMarks}
 use Rattle.lid_assign.proofs.Ranges.{some_width}
 use Rattle.lid_assign.proofs.Tables.{stepped, seen, marks_more, next_below, rest_below}
 use Rattle.lid_assign.proofs.lid_map.lid_marks.Goals as goal

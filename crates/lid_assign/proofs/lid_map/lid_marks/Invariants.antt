@@ -1,5 +1,5 @@
 use Rattle.std.proofs.Common.{◌≡◌, length, reverse, vec_len}
-use Rattle.lid_assign.specs.Indexed.{AreLidMarks, AreBelow}
+use Rattle.lid_assign.specs.LidMap.{AreLidMarks, AreBelow}
 use Rattle.lid_assign.proofs.lid_map.lid_marks.Given as goal
 
 -- the LIDs of those seen are marked; those to come are below the bound too

@@ -1,6 +1,6 @@
 use Rattle.std.proofs.Common.{◌≡◌, ◌-◌, vec_len}
-use Rattle.lid_assign.specs.Indexed.{AreOwnersMore}
-use Rattle.lid_assign.specs.Marks.{from_on}
+use Rattle.lid_assign.specs.LidMap.{AreOwnersMore}
+use Rattle.lid_assign.specs.LidMarks.{from_on}
 use Rattle.lid_assign.proofs.lid_map.own.Given as goal
 
 -- the numbers so far have the owner

@@ -6,7 +6,7 @@ use Rattle.std.specs.Borrow.{Bor}
 use Rattle.std.specs.Prelude.{Option, None, Some, replicate, slice_index_or}
 use Rattle.subnet_view.specs.declared.end_port.EndPort.{EndPort}
 use Rattle.subnet_view.proofs.Members.{contains_in}
-use Rattle.lid_assign.specs.Indexed.{AreOwners}
+use Rattle.lid_assign.specs.LidMap.{AreOwners}
 use Rattle.lid_assign.proofs.Tables.{seen, owners_more, next_below, rest_below}
 use Rattle.lid_assign.proofs.lid_map.owners.Goals as goal
 

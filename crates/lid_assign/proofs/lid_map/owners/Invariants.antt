@@ -1,5 +1,5 @@
 use Rattle.std.proofs.Common.{◌≡◌, reverse, vec_len, map}
-use Rattle.lid_assign.specs.Indexed.{AreOwners, AreBelow}
+use Rattle.lid_assign.specs.LidMap.{AreOwners, AreBelow}
 use Rattle.lid_assign.proofs.lid_map.owners.Given as goal
 
 -- the owners of the numbers of those seen; those to come are below the bound too

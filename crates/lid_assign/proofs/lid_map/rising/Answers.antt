@@ -1,7 +1,7 @@
 -- A number with a mark is found, and the others are passed.
 use Rattle.std.proofs.Common.{◌++◌, ◌∷◌, [], ◌+◌, sym, ap, ◌∙◌}
 use Rattle.std.proofs.lemmas.List.{append_assoc}
-use Rattle.lid_assign.specs.Indexed.{marked_from}
+use Rattle.lid_assign.specs.LidMap.{marked_from}
 use Rattle.lid_assign.proofs.Marked.{marked_more, marked_past}
 use Rattle.lid_assign.proofs.lid_map.rising.Goals as goal
 use Rattle.lid_assign.proofs.lid_map.rising.Goals.{then-is_given+in_ok-push, else-is_given}

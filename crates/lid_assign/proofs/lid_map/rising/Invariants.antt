@@ -1,5 +1,5 @@
 use Rattle.std.proofs.Common.{◌≡◌, ◌++◌}
-use Rattle.lid_assign.specs.Indexed.{marked_from}
+use Rattle.lid_assign.specs.LidMap.{marked_from}
 use Rattle.lid_assign.proofs.lid_map.rising.Given as goal
 
 -- what was found, and what the rest has, are all that there is

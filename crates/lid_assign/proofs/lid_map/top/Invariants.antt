@@ -1,6 +1,6 @@
 use Rattle.std.proofs.Common.{◌≡◌, reverse}
 use Rattle.lid_assign.specs.Lids.{top_among}
-use Rattle.lid_assign.specs.Indexed.{AreBelow}
+use Rattle.lid_assign.specs.LidMap.{AreBelow}
 use Rattle.lid_assign.proofs.lid_map.top.Given as goal
 
 -- the greatest number of those seen; those to come are below the bound

@@ -1,6 +1,6 @@
 -- A number of the range is marked, or none is.
 use Rattle.std.proofs.Common.{sym, arith}
-use Rattle.lid_assign.specs.Marks.{from_on}
+use Rattle.lid_assign.specs.LidMarks.{from_on}
 use Rattle.lid_assign.proofs.Marking.{marked_at, none_marked}
 use Rattle.lid_assign.proofs.lid_marks.any_marked.Goals as goal
 

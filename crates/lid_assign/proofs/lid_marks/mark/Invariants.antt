@@ -1,6 +1,6 @@
 use Rattle.std.proofs.Common.{◌-◌}
 use Rattle.std.specs.Prelude.{Some}
-use Rattle.lid_assign.specs.Marks.{from_on, AreMarkedMore}
+use Rattle.lid_assign.specs.LidMarks.{from_on, AreMarkedMore}
 use Rattle.lid_assign.proofs.lid_marks.mark.Given as goal
 
 -- the numbers so far are marked

@@ -2,9 +2,9 @@
 use Rattle.std.proofs.Common.{ap, ◌∙◌, arith}
 use Rattle.std.specs.List.{filter_map}
 use Rattle.fact_store.specs.View.{cells_of}
-use Rattle.fact_store.specs.Walk.{cells_left}
+use Rattle.fact_store.specs.Iter.{cells_left}
 use Rattle.lid_assign.specs.Claims.{least_room}
-use Rattle.lid_assign.specs.Rooms.{usable_cap}
+use Rattle.lid_assign.specs.Room.{usable_cap}
 use Rattle.lid_assign.proofs.FreeLids.{at_most}
 use Rattle.lid_assign.proofs.FreeLids.{room_walked}
 use Rattle.subnet_view.proofs.Walks.{cell_given}

@@ -1,9 +1,9 @@
 use Rattle.std.proofs.Common.{◌≡◌, ◌≤◌, ◌++◌, min}
 use Rattle.fact_store.specs.View.{cells_of}
 use Rattle.std.specs.List.{filter_map}
-use Rattle.fact_store.specs.Walk.{cells_left}
+use Rattle.fact_store.specs.Iter.{cells_left}
 use Rattle.lid_assign.specs.Claims.{least_room}
-use Rattle.lid_assign.specs.Rooms.{usable_cap}
+use Rattle.lid_assign.specs.Room.{usable_cap}
 use Rattle.lid_assign.proofs.room.room.Given as goal
 
 -- the least so far, and the least of the rest; and the cells given and left are the store's

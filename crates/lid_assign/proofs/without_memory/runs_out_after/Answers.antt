@@ -5,7 +5,7 @@ use Rattle.fact_store.specs.View.{cells_of}
 use Rattle.subnet_view.proofs.Counting.{is_None}
 use Rattle.lid_assign.specs.declared.hand_out.Next.{Next}
 use Rattle.lid_assign.specs.Ranges.{width_of, Range}
-use Rattle.lid_assign.specs.Marks.{from_on, AreMarkedMore, NoneUnmarked, IsLeastUnmarked}
+use Rattle.lid_assign.specs.LidMarks.{from_on, AreMarkedMore, NoneUnmarked, IsLeastUnmarked}
 use Rattle.lid_assign.proofs.FreeLids.{room_at_most}
 use Rattle.lid_assign.proofs.InTurn.{GivesInTurn, giving_in_turn, gives_kept, gives_open, finds_none}
 use Rattle.lid_assign.proofs.Passing.{all_passed_start}

@@ -1,6 +1,6 @@
 use Rattle.std.proofs.Common.{length}
 use Rattle.fact_store.specs.View.{cells_of}
-use Rattle.subnet_view.specs.EndPorts.{ports_after}
+use Rattle.subnet_view.specs.EndPort.{ports_after}
 use Rattle.lid_assign.proofs.InTurn.{GivesInTurn}
 use Rattle.lid_assign.proofs.without_memory.runs_out_after.Given as goal
 

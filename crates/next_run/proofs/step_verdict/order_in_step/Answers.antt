@@ -5,7 +5,7 @@ use Rattle.lane_channels.proofs.LaneLaws.{all_carried}
 use Rattle.lane_channels.proofs.StepLaws.{one_lane_suffices_in_step}
 use Rattle.lane_channels.specs.AnyTables.{IsCycleByAny, IsSomeDropByAny, NoneShorterByAny}
 use Rattle.lane_channels.specs.LaneNetwork.{SeenByLane}
-use Rattle.lane_report.specs.RunLaneAudit.{seen_of}
+use Rattle.lane_report.specs.LaneRun.{seen_of}
 use Rattle.next_run.specs.StepLoops.{IsCycleInStep}
 use Rattle.next_run.specs.StepVerdict.{IsOrderInStep}
 use Rattle.next_run.proofs.step_verdict.order_in_step.Goals as goal

@@ -1,6 +1,6 @@
 -- The blocks so far.
 use Rattle.std.proofs.Common.{◌≡◌, ◌++◌, map}
-use Rattle.next_tables.specs.Assembled.{some_blocks}
+use Rattle.next_tables.specs.Assembly.{some_blocks}
 use Rattle.next_tables.proofs.assembly.add_blocks.Given as goal
 
 abbrev pub invariant-loop-number : goal.invariant-loop-number

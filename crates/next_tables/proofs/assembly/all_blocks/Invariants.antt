@@ -1,6 +1,6 @@
 -- The blocks so far.
 use Rattle.std.proofs.Common.{◌≡◌, map, take}
-use Rattle.next_tables.specs.Assembled.{all_blocks}
+use Rattle.next_tables.specs.Assembly.{all_blocks}
 use Rattle.next_tables.proofs.assembly.all_blocks.Given as goal
 
 abbrev pub invariant-loop-index : goal.invariant-loop-index

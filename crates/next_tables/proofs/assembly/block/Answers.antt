@@ -1,7 +1,7 @@
 -- All entries.
 use Rattle.std.proofs.Common.{ℕ, ◌+◌, ◌*◌, Vec, Global, map, arith}
 use Rattle.std.proofs.lemmas.List.FromFn.{fill_by_all}
-use Rattle.next_tables.specs.Assembled.{entry_in}
+use Rattle.next_tables.specs.Assembly.{entry_in}
 use Rattle.next_tables.proofs.assembly.block.Goals as goal
 
 pub returns : goal.returns

@@ -1,6 +1,6 @@
 -- The entries so far.
 use Rattle.std.proofs.Common.{◌≡◌, ◌+◌, ◌*◌, ◌<◌, ℕ, get_or, length, map}
-use Rattle.next_tables.specs.Assembled.{entry_in}
+use Rattle.next_tables.specs.Assembly.{entry_in}
 use Rattle.next_tables.proofs.assembly.block.Given as goal
 
 abbrev pub invariant-loop-i : goal.invariant-loop-i

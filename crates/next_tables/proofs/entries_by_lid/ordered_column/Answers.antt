@@ -10,7 +10,7 @@ use Rattle.packet_walks.specs.HopsByTables.{switch_step}
 use Rattle.packet_walks.specs.Network.{Seen}
 use Rattle.held_tables.specs.Tables.{entry_for, owners_of}
 use Rattle.next_tables.specs.NextTables.{by_order, column_of}
-use Rattle.next_tables.specs.OrderComputed.{ordered_of}
+use Rattle.next_tables.specs.OrderedEntries.{ordered_of}
 use Rattle.next_tables.proofs.ByLid.{first_of, none_first, ordered_kept, ordered_nobodys, ordered_settled}
 use Rattle.next_tables.proofs.entries_by_lid.ordered_column.Goals as goal
 

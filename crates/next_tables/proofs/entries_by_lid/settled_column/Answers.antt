@@ -11,7 +11,7 @@ use Rattle.packet_walks.specs.Network.{Seen}
 use Rattle.held_tables.specs.Tables.{entry_for, owners_of}
 use Rattle.packet_walks.proofs.Brought.{if_ok}
 use Rattle.next_tables.specs.NextTables.{column_of, keeper, settled_first}
-use Rattle.next_tables.specs.SettledComputed.{next_of}
+use Rattle.next_tables.specs.SettledEntries.{next_of}
 use Rattle.next_tables.proofs.ByLid.{nobodys, kept, others, settled}
 use Rattle.next_tables.proofs.entries_by_lid.settled_column.Goals as goal
 

@@ -3,8 +3,8 @@ use Rattle.std.proofs.Common.{◌≡◌, ◌∙◌}
 use Rattle.std.specs.Prelude.{map}
 use Rattle.packet_walks.proofs.Brought.{if_ok}
 use Rattle.packet_walks.specs.declared.next_hop.SwitchStep.{SwitchStep}
-use Rattle.next_tables.specs.SettledComputed.{arrives_by}
-use Rattle.next_tables.specs.OrderComputed.{delivered_of}
+use Rattle.next_tables.specs.SettledEntries.{arrives_by}
+use Rattle.next_tables.specs.OrderedEntries.{delivered_of}
 use Rattle.next_tables.proofs.Ordered.{delivered_is}
 use Rattle.next_tables.proofs.held_arrivals.delivered.Goals as goal
 

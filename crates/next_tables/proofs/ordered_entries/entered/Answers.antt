@@ -3,7 +3,7 @@ use Rattle.std.proofs.Common.{◌≡◌, ◌<◌, ◌∙◌, ◌+◌, ◌++◌, 
 use Rattle.std.specs.Prelude.{drop, min, take}
 use Rattle.std.proofs.Math.Seq.{take-append_seam}
 use Rattle.std.proofs.lemmas.List.{get_or_default}
-use Rattle.next_tables.specs.OrderComputed.{enters, flag}
+use Rattle.next_tables.specs.OrderedEntries.{enters, flag}
 use Rattle.next_tables.proofs.Ordered.{EnteredSoFar, entered_all, entered_more, entered_none, no_step}
 use Rattle.next_tables.proofs.ordered_entries.entered.Goals as goal
 

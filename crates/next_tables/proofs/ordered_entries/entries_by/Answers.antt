@@ -3,8 +3,8 @@ use Rattle.std.proofs.Common.{◌≡◌, ◌∙◌}
 use Rattle.std.specs.Prelude.{map}
 use Rattle.std.specs.List.{enumerate_from}
 use Rattle.packet_walks.proofs.Brought.{if_ok}
-use Rattle.next_tables.specs.SettledComputed.{arrives_by}
-use Rattle.next_tables.specs.OrderComputed.{entries_by, entry_by}
+use Rattle.next_tables.specs.SettledEntries.{arrives_by}
+use Rattle.next_tables.specs.OrderedEntries.{entries_by, entry_by}
 use Rattle.next_tables.proofs.Ordered.{entries_are}
 use Rattle.next_tables.proofs.ordered_entries.entries_by.Goals as goal
 

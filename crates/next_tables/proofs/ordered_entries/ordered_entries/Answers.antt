@@ -1,7 +1,7 @@
 -- By what was found of the switches.
 use Rattle.std.proofs.Common.{◌≡◌, ◌∙◌}
 use Rattle.packet_walks.proofs.Brought.{if_ok}
-use Rattle.next_tables.specs.OrderComputed.{entries_by, ordered_of}
+use Rattle.next_tables.specs.OrderedEntries.{entries_by, ordered_of}
 use Rattle.next_tables.proofs.Ordered.{made_is}
 use Rattle.next_tables.proofs.ordered_entries.ordered_entries.Goals as goal
 

@@ -2,7 +2,7 @@
 use Rattle.std.proofs.Common.{◌≡◌, ◌<◌, ℕ}
 use Rattle.std.specs.Prelude.{slice_index_or}
 use Rattle.packet_walks.specs.declared.next_hop.NextHop.TheVariants.{To}
-use Rattle.next_tables.specs.SettledComputed.{hops_of}
+use Rattle.next_tables.specs.SettledEntries.{hops_of}
 use Rattle.next_tables.proofs.settled_entries.are_hops_of.Given as goal
 
 abbrev pub invariant-loop-index : goal.invariant-loop-index

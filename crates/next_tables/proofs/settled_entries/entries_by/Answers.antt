@@ -1,7 +1,7 @@
 -- By where the three walks end.
 use Rattle.std.proofs.Common.{◌≡◌, ◌∙◌, [], refl, sym}
 use Rattle.packet_walks.proofs.Brought.{if_ok}
-use Rattle.next_tables.specs.SettledComputed.{agreed_of, arrives_by, chosen_by, hops_of, next_of}
+use Rattle.next_tables.specs.SettledEntries.{agreed_of, arrives_by, chosen_by, hops_of, next_of}
 use Rattle.next_tables.proofs.Listed.{next_is, next_is_whole}
 use Rattle.next_tables.proofs.settled_entries.entries_by.Goals as goal
 

@@ -4,7 +4,7 @@ use Rattle.std.specs.Prelude.{IfOk}
 use Rattle.fact_store.specs.View.{cells_of}
 use Rattle.subnet_view.specs.Reading.{switches}
 use Rattle.held_tables.specs.Held.{HeldPlan}
-use Rattle.next_tables.specs.Assembled.{all_blocks, tables_with}
+use Rattle.next_tables.specs.Assembly.{all_blocks, tables_with}
 use Rattle.next_tables.specs.NextTables.{next_switch, value_of}
 use Rattle.next_tables.proofs.Whole.{put_together}
 use Rattle.next_tables.proofs.step.tables.Goals as goal

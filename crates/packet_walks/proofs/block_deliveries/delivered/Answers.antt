@@ -3,7 +3,7 @@ use Rattle.std.proofs.Common.{◌≡◌, ◌∙◌, List, length, true, false, s
 use Rattle.packet_walks.specs.declared.block_deliveries.Exit.{Exit}
 use Rattle.packet_walks.specs.declared.lid_set.LidSet.{LidSet}
 use Rattle.packet_walks.specs.BlockDeliveries.{back_times, from_each, hops_at, target_at}
-use Rattle.packet_walks.specs.LidSets.{has}
+use Rattle.packet_walks.specs.LidSet.{has}
 use Rattle.packet_walks.proofs.GoneBack.{none_seen, seen_delivered}
 use Rattle.packet_walks.proofs.LidBits.{none_has}
 use Rattle.packet_walks.proofs.block_deliveries.delivered.Goals as goal

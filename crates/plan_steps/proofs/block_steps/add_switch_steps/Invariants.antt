@@ -1,6 +1,6 @@
 use Rattle.std.proofs.Common.{◌≡◌, ◌++◌}
 use Rattle.std.specs.List.{filter_map, range_with_len}
-use Rattle.plan_steps.specs.TableSets.{block_step}
+use Rattle.plan_steps.specs.BlockSteps.{block_step}
 use Rattle.plan_steps.proofs.block_steps.add_switch_steps.Given as goal
 
 -- the steps of the blocks so far were added

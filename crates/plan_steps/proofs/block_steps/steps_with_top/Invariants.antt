@@ -1,7 +1,7 @@
 use Rattle.std.proofs.Common.{◌≡◌, ◌++◌, drop}
 use Rattle.std.specs.List.{filter_map}
 use Rattle.lft_blocks.specs.Plan.{switches_of}
-use Rattle.plan_steps.specs.TableSets.{top_step}
+use Rattle.plan_steps.specs.BlockSteps.{top_step}
 use Rattle.plan_steps.proofs.block_steps.steps_with_top.Given as goal
 
 -- the steps so far, and those of the switches that are left, are all that there are

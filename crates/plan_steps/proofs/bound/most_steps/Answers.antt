@@ -5,7 +5,7 @@ use Rattle.std.specs.List.{filter_map}
 use Rattle.fact_store.specs.View.{cells_of}
 use Rattle.subnet_view.specs.Reading.{usable_guid}
 use Rattle.plan_steps.specs.Bound.{most_steps}
-use Rattle.fact_store.specs.Walk.{cells_left}
+use Rattle.fact_store.specs.Iter.{cells_left}
 use Rattle.subnet_view.proofs.Walks.{cell_given}
 use Rattle.plan_steps.proofs.bound.most_steps.Goals as goal
 

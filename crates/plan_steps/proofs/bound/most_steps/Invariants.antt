@@ -2,7 +2,7 @@ use Rattle.std.proofs.Common.{◌≡◌, ◌≤◌, ◌+◌, ◌*◌, ◌-◌, �
 use Rattle.std.specs.Prelude.{min}
 use Rattle.std.specs.List.{filter_map}
 use Rattle.fact_store.specs.View.{cells_of}
-use Rattle.fact_store.specs.Walk.{cells_left}
+use Rattle.fact_store.specs.Iter.{cells_left}
 use Rattle.subnet_view.specs.Reading.{usable_guid}
 use Rattle.plan_steps.specs.Bound.{most_steps}
 use Rattle.plan_steps.proofs.bound.most_steps.Given as goal

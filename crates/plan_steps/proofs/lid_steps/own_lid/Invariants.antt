@@ -1,6 +1,6 @@
 use Rattle.std.proofs.Common.{◌≡◌, drop}
 use Rattle.fact_store.specs.View.{cells_of}
-use Rattle.plan_steps.specs.LidSets.{own_lid}
+use Rattle.plan_steps.specs.LidSteps.{own_lid}
 use Rattle.plan_steps.proofs.lid_steps.own_lid.Given as goal
 
 -- it is not among the end ports so far

@@ -1,7 +1,7 @@
 use Rattle.std.proofs.Common.{◌≡◌, ◌++◌, drop}
 use Rattle.fact_store.specs.View.{cells_of}
 use Rattle.std.specs.List.{filter_map}
-use Rattle.plan_steps.specs.States.{state_step}
+use Rattle.plan_steps.specs.StateSteps.{state_step}
 use Rattle.plan_steps.proofs.state_steps.state_steps.Given as goal
 
 -- the steps so far, and those of the ports that are left, are all that there are

@@ -1,8 +1,8 @@
 use Rattle.std.proofs.Common.{◌≡◌, ◌++◌}
 use Rattle.fact_store.specs.View.{cells_of}
 use Rattle.std.specs.List.{filter_map}
-use Rattle.fact_store.specs.Walk.{cells_left}
-use Rattle.plan_steps.specs.States.{wired_port, wired_ports}
+use Rattle.fact_store.specs.Iter.{cells_left}
+use Rattle.plan_steps.specs.StateSteps.{wired_port, wired_ports}
 use Rattle.plan_steps.proofs.state_steps.wired_ports.Given as goal
 
 -- what was found, and what the rest has, are all that there is

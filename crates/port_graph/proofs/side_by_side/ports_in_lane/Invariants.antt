@@ -1,4 +1,4 @@
-use Rattle.port_graph.specs.Lanes.{at, port_in}
+use Rattle.port_graph.specs.ByteLanes.{at, port_in}
 use Rattle.port_graph.proofs.Rows.{IsMapped}
 use Rattle.port_graph.proofs.side_by_side.ports_in_lane.Given as goal
 

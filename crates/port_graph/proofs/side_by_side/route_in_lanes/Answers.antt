@@ -4,7 +4,7 @@ use Rattle.std.proofs.lemmas.List.{length-set}
 use Rattle.std.specs.Prelude.{Contains, slice_index}
 use Rattle.port_graph.specs.declared.edge.Edge.{Edge}
 use Rattle.port_graph.proofs.Indexing.{ups_lead, downs_lead}
-use Rattle.port_graph.proofs.LaneRoutes.{AreDownFrom, down_more, up_more, all_routed}
+use Rattle.port_graph.proofs.ByteLaneRoutes.{AreDownFrom, down_more, up_more, all_routed}
 use Rattle.port_graph.proofs.SearchSteps.{all_from_contained}
 use Rattle.port_graph.proofs.side_by_side.route_in_lanes.Goals as goal
 

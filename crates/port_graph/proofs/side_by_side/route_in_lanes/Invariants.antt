@@ -1,7 +1,7 @@
 use Rattle.std.proofs.Common.{◌≡◌, ◌≤◌, length}
 use Rattle.std.specs.Prelude.{slice_index}
-use Rattle.port_graph.specs.Lanes.{EachLane}
-use Rattle.port_graph.proofs.LaneRoutes.{AreDownFrom, AreRoutedBelow}
+use Rattle.port_graph.specs.ByteLanes.{EachLane}
+use Rattle.port_graph.proofs.ByteLaneRoutes.{AreDownFrom, AreRoutedBelow}
 use Rattle.port_graph.proofs.side_by_side.route_in_lanes.Given as goal
 
 -- the down distances of the vertices from the last on

@@ -1,6 +1,6 @@
 use Rattle.std.proofs.Common.{◌≡◌, ◌<◌, ℕ, length}
 use Rattle.std.specs.Prelude.{slice_index}
-use Rattle.port_graph.specs.Lanes.{target_in}
+use Rattle.port_graph.specs.ByteLanes.{target_in}
 use Rattle.port_graph.proofs.side_by_side.targets_from.Given as goal
 
 -- the targets of the lanes so far

@@ -6,7 +6,7 @@ use Rattle.fact_join.specs.declared.cell.Cell.{Cell}
 use Rattle.reply_facts.specs.declared.key.Key.{Key}
 use Rattle.reply_facts.specs.declared.value.Value.{Value}
 use Rattle.fact_store.specs.View.{cells_of}
-use Rattle.fact_store.specs.Walk.{cells_left}
+use Rattle.fact_store.specs.Iter.{cells_left}
 use Rattle.record_file.proofs.Writing.{appends_then, none_written, written_all, written_more}
 use Rattle.record_file.specs.FactsText.{facts_text, floor_line, line_text}
 use Rattle.record_file.proofs.facts_text.write_facts.Goals as goal

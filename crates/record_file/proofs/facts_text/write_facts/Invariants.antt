@@ -1,4 +1,4 @@
-use Rattle.fact_store.specs.Walk.{cells_left}
+use Rattle.fact_store.specs.Iter.{cells_left}
 use Rattle.record_file.proofs.Writing.{HasWritten}
 use Rattle.record_file.specs.FactsText.{line_text}
 use Rattle.record_file.proofs.facts_text.write_facts.Given as goal

@@ -6,7 +6,7 @@ use Rattle.fact_join.specs.declared.cell.Cell.{Cell}
 use Rattle.reply_facts.specs.declared.key.Key.{Key}
 use Rattle.reply_facts.specs.declared.value.Value.{Value}
 use Rattle.fact_store.specs.View.{cells_of}
-use Rattle.fact_store.specs.Walk.{cells_left}
+use Rattle.fact_store.specs.Iter.{cells_left}
 use Rattle.record_file.specs.declared.format.Format.TheVariants.{Cells}
 use Rattle.record_file.specs.CellRecord.{record_bytes}
 use Rattle.record_file.specs.Head.{head_bytes}

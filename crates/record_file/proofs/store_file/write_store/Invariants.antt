@@ -1,4 +1,4 @@
-use Rattle.fact_store.specs.Walk.{cells_left}
+use Rattle.fact_store.specs.Iter.{cells_left}
 use Rattle.record_file.specs.CellRecord.{record_bytes}
 use Rattle.record_file.proofs.Writing.{HasWritten}
 use Rattle.record_file.proofs.store_file.write_store.Given as goal

@@ -1,6 +1,6 @@
 use Rattle.std.proofs.Common.{◌≡◌, ◌∙◌, Some, sym, ap}
 use Rattle.text_words.specs.Text.{lines}
-use Rattle.schedule_file.specs.declared.fault.ScheduleFault.TheVariants.{Memory}
+use Rattle.schedule_file.specs.declared.schedule_fault.ScheduleFault.TheVariants.{Memory}
 use Rattle.schedule_file.specs.FirstFault.{fault_of}
 use Rattle.schedule_file.specs.Schedule.{schedule_of_lines}
 use Rattle.schedule_file.proofs.FirstFault.{first_plain}

@@ -1,5 +1,5 @@
 -- The inputs were read, and the run goes on.
-use Rattle.lft_blocks.specs.Rules.{value_of}
+use Rattle.lft_blocks.specs.Rule.{value_of}
 use Rattle.schedule_run.proofs.Running.{has_printed, run_fails}
 use Rattle.schedule_run.proofs.run.run_schedule.Goals as goal
 

@@ -6,7 +6,8 @@ use Rattle.std.proofs.lemmas.Result.{err_from_is_err_and}
 use Rattle.schedule_file.specs.Schedule.{NamesManagers}
 use Rattle.schedule_file.specs.Resolve.{SeatCommand, is_seat}
 use Rattle.schedule_file.specs.declared.schedule.Seat.{Seat}
-use Rattle.schedule_world.specs.Commands.{after_command, after_commands, new_seated, script_text, world_of}
+use Rattle.schedule_world.specs.Commands.{after_command, after_commands, new_seated, world_of}
+use Rattle.schedule_world.specs.RunText.{script_text}
 use Rattle.schedule_lines.specs.Prints.{Prints}
 use Rattle.schedule_lines.specs.Outcome.{Outcome}
 use Rattle.schedule_world.specs.World.{WorldValue, seated_value, value_of}

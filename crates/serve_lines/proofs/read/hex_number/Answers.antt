@@ -5,7 +5,7 @@ use Rattle.std.specs.Char.{is_digit}
 use Rattle.std.specs.List.{list_all}
 use Rattle.std.specs.Prelude.{IfSome, Option, Some, None, min, option_map, if◌then◌else◌}
 use Rattle.std.specs.Str.Parse.{digits_value}
-use Rattle.text_words.specs.Number.{number_of}
+use Rattle.text_words.specs.Numbers.{number_of}
 use Rattle.text_words.proofs.Digits.{all_digits}
 use Rattle.text_words.proofs.Names.{both}
 use Rattle.text_words.proofs.Ranges.{tested}

@@ -1,6 +1,6 @@
 use Rattle.std.proofs.Common.{◌≡◌, false}
 use Rattle.std.specs.Prelude.{IsTrue}
-use Rattle.serve_run.specs.Serving.{value_of}
+use Rattle.serve_run.specs.Server.{value_of}
 use Rattle.serve_run.proofs.Going.{Going}
 use Rattle.serve_run.proofs.server.serve.Given as goal
 

@@ -1,10 +1,10 @@
 use Rattle.std.proofs.Common.{◌≡◌, ◌∙◌, ◌+◌, ℕ, ◌++◌, inl, inr, refl, ap, subst}
 use Rattle.std.specs.Io.KnownBytes.{Appends}
-use Rattle.lft_blocks.specs.Rules.{value_of}
+use Rattle.lft_blocks.specs.Rule.{value_of}
 use Rattle.schedule_lines.specs.Prints.{PrintsSome}
 use Rattle.sm_cli.specs.Asked.{texts_for}
 use Rattle.sm_manager.specs.Manager.{Manager, new_manager}
-use Rattle.serve_run.specs.Serving.{HasServed, StopsServing}
+use Rattle.serve_run.specs.Server.{HasServed, StopsServing}
 use Rattle.serve_task.specs.RunServe.{fault_of_serving, manager_asked}
 use Rattle.serve_task.proofs.Parts.{inputs_are, inputs_of, inputs_were, one_behind, the_one}
 use Rattle.sm_state.specs.declared.conduct.Conduct.TheVariants.{Live}

@@ -1,6 +1,6 @@
 -- The inputs are two parts of their list, the text that the rule takes and the others.
 use Rattle.std.proofs.Common.{◌∙◌, ℕ, inl, inr, refl, subst, sym}
-use Rattle.lft_blocks.specs.Rules.{value_of}
+use Rattle.lft_blocks.specs.Rule.{value_of}
 use Rattle.sm_cli.proofs.InParts.{in_parts}
 use Rattle.sm_cli.proofs.inputs.read_inputs.Goals as goal
 

@@ -6,8 +6,8 @@ use Rattle.record_file.specs.Whole.{IsReadWhole}
 use Rattle.roots_file.specs.Reading.{roots_of}
 use Rattle.roots_file.specs.RootsTextFault.{RootsLineFault}
 use Rattle.roots_file.specs.RootsTextFault.{RootsTextFault as RootsFault}
-use Rattle.text_words.specs.Faults.{is_memory}
-use Rattle.text_words.specs.declared.fault.LinesFault.TheVariants as wrong
+use Rattle.text_words.specs.LinesFault.{is_memory}
+use Rattle.text_words.specs.declared.lines_fault.LinesFault.TheVariants as wrong
 use Rattle.sm_cli.specs.SwitchLists.{IsFaultOfText}
 use Rattle.sm_cli.proofs.inputs.read_switches.Goals as goal
 

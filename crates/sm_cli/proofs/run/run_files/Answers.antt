@@ -1,7 +1,7 @@
 -- The inputs were read, by the rule that is asked for.
 use Rattle.std.proofs.Common.{inl, inr, subst}
 use Rattle.std.proofs.lemmas.Result.{IfErr-weaker, on_ok_weaker}
-use Rattle.lft_blocks.specs.Rules.{value_of}
+use Rattle.lft_blocks.specs.Rule.{value_of}
 use Rattle.sm_cli.specs.InputReaders.{files_reader}
 use Rattle.sm_cli.specs.Inputs.{AreInputs, IsInputFault}
 use Rattle.sm_cli.specs.declared.asked.RuleAsked.{RuleAsked}

@@ -1,6 +1,6 @@
 use Rattle.std.proofs.Common.{◌≡◌, [], map, get_or, length}
-use Rattle.spread_labels.specs.TargetSets.{EachTarget}
-use Rattle.spread_labels.specs.PortLists.{added}
+use Rattle.spread_labels.specs.TargetSet.{EachTarget}
+use Rattle.spread_labels.specs.CandidateLists.{added}
 use Rattle.spread_labels.proofs.candidate_lists.add.Given as goal
 
 -- what the targets that are left add makes the lists whole

@@ -2,7 +2,7 @@ use Rattle.std.proofs.Common.{◌≡◌, ◌<◌, ◌++◌, suc, List, sym, ap, 
 use Rattle.std.proofs.lemmas.List.{get_or_default}
 use Rattle.port_graph.specs.declared.edge.Edge.{Edge}
 use Rattle.spread_labels.specs.MarkSets.{edge_at, picked, set_at}
-use Rattle.spread_labels.specs.PortLists.{added}
+use Rattle.spread_labels.specs.CandidateLists.{added}
 use Rattle.spread_labels.proofs.PortLists.{added_is, list_at, picked_first}
 use Rattle.spread_labels.proofs.candidate_lists.add_all.Goals as goal
 

@@ -1,5 +1,5 @@
 use Rattle.std.proofs.Common.{◌≡◌, ◌++◌, [], map, get_or, drop, length}
-use Rattle.spread_labels.specs.TargetSets.{EachTarget}
+use Rattle.spread_labels.specs.TargetSet.{EachTarget}
 use Rattle.spread_labels.specs.MarkSets.{picked}
 use Rattle.spread_labels.proofs.candidate_lists.add_all.Given as goal
 

@@ -1,6 +1,6 @@
 use Rattle.std.proofs.Common.{◌≡◌, ◌<◌, ◌≤◌, ℕ, length, get_or}
 use Rattle.std.specs.Prelude.{None}
-use Rattle.spread_labels.specs.DistanceClasses.{with_distance, no_distances}
+use Rattle.spread_labels.specs.DistanceClass.{with_distance, no_distances}
 use Rattle.spread_labels.proofs.distance_class.add_distances.Given as goal
 
 -- those so far have a distance more, and the others are as they were

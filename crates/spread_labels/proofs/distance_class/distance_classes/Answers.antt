@@ -1,5 +1,5 @@
 use Rattle.std.proofs.Common.{◌++◌, [], ◌∷◌, sym, ap, ◌∙◌, map}
-use Rattle.spread_labels.specs.DistanceClasses.{distance_class_at}
+use Rattle.spread_labels.specs.DistanceClass.{distance_class_at}
 use Rattle.spread_labels.specs.Orders.{numbers_from}
 use Rattle.spread_labels.proofs.DistanceSums.{distance_classes_more}
 use Rattle.spread_labels.proofs.distance_class.distance_classes.Goals as goal

@@ -1,5 +1,5 @@
 use Rattle.std.proofs.Common.{◌≡◌, map}
-use Rattle.spread_labels.specs.DistanceClasses.{distance_class_at}
+use Rattle.spread_labels.specs.DistanceClass.{distance_class_at}
 use Rattle.spread_labels.specs.Orders.{numbers_from}
 use Rattle.spread_labels.proofs.distance_class.distance_classes.Given as goal
 

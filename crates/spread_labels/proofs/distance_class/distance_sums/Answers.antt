@@ -1,7 +1,7 @@
 use Rattle.std.proofs.Common.{◌+◌, List, sym, subst, arith, get_or}
 use Rattle.std.proofs.lemmas.List.{with_items_is, get_or_default}
 use Rattle.spread_labels.specs.declared.distance_class.DistanceSum.{DistanceSum}
-use Rattle.spread_labels.specs.DistanceClasses.{AreWithDistances}
+use Rattle.spread_labels.specs.DistanceClass.{AreWithDistances}
 use Rattle.spread_labels.proofs.DistanceSums.{distance_sums_more, BecomeDistanceSums}
 use Rattle.spread_labels.proofs.distance_class.distance_sums.Goals as goal
 

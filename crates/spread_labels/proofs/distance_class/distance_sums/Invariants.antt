@@ -1,6 +1,6 @@
 use Rattle.std.proofs.Common.{◌≡◌, ◌<◌, ℕ, length, drop, All}
 use Rattle.std.specs.Prelude.{slice_index_or}
-use Rattle.spread_labels.specs.DistanceClasses.{IsDistanceSumOf, distance_sum, with_distances, no_distances}
+use Rattle.spread_labels.specs.DistanceClass.{IsDistanceSumOf, distance_sum, with_distances, no_distances}
 use Rattle.spread_labels.proofs.distance_class.distance_sums.Given as goal
 
 -- with the distances from those that are left these are the distance sums

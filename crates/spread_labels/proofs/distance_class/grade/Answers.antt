@@ -1,6 +1,6 @@
 use Rattle.std.proofs.Common.{ap, ◌∙◌, map, length}
 use Rattle.std.specs.Prelude.{unwrap_or}
-use Rattle.spread_labels.specs.DistanceClasses.{distance_class_at}
+use Rattle.spread_labels.specs.DistanceClass.{distance_class_at}
 use Rattle.spread_labels.specs.Orders.{numbers_from}
 use Rattle.spread_labels.proofs.Numbers.{distance_classes_are, levels_are}
 use Rattle.spread_labels.proofs.distance_class.grade.Goals as goal

@@ -1,5 +1,5 @@
 use Rattle.std.specs.Prelude.{◌≡◌, drop, length}
-use Rattle.spread_labels.specs.Stages.{beside_all, after_add_vertex}
+use Rattle.spread_labels.specs.Growth.{beside_all, after_add_vertex}
 use Rattle.spread_labels.proofs.growth.add_vertex.Given as goal
 
 -- the edges that are left do the rest

@@ -1,7 +1,7 @@
 use Rattle.std.proofs.Common.{◌<◌, ℕ, sym, ap, ◌∙◌, subst, length}
 use Rattle.std.specs.Prelude.{Some}
 use Rattle.spread_labels.specs.KeyOrder.{before_by}
-use Rattle.spread_labels.specs.Stages.{earlier_of}
+use Rattle.spread_labels.specs.Growth.{earlier_of}
 use Rattle.spread_labels.proofs.Earlier.{IsBelow, earlier_below, earliest_with, earliest_without}
 use Rattle.spread_labels.proofs.growth.earliest.Goals as goal
 use Rattle.spread_labels.proofs.growth.earliest.Goals.{then-is_at, else-is_at}

@@ -1,6 +1,6 @@
 use Rattle.std.specs.Prelude.{◌≡◌, ◌<◌, MatchOption, length}
 use Rattle.spread_labels.specs.KeyOrder.{before_by}
-use Rattle.spread_labels.specs.Stages.{earliest_at}
+use Rattle.spread_labels.specs.Growth.{earliest_at}
 use Rattle.spread_labels.proofs.growth.earliest.Given as goal
 
 -- the earliest of the vertices so far, which is one of them

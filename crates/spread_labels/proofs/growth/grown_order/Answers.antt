@@ -7,7 +7,7 @@ use Rattle.port_graph.specs.Heads.{edges_at}
 use Rattle.port_graph.proofs.SearchSteps.{all_from_contained}
 use Rattle.spread_labels.specs.declared.growth.Stage.TheVariants.{Left}
 use Rattle.spread_labels.specs.KeyOrder.{before_by}
-use Rattle.spread_labels.specs.Stages.{next_at, after_add_vertex}
+use Rattle.spread_labels.specs.Growth.{next_at, after_add_vertex}
 use Rattle.spread_labels.proofs.Earlier.{IsBelow}
 use Rattle.spread_labels.proofs.OrderSteps.{IsGrowing, begins, grows, length-after_add_vertex, rests}
 use Rattle.spread_labels.proofs.growth.grown_order.Goals as goal

@@ -1,6 +1,6 @@
 use Rattle.std.proofs.Common.{◌≡◌, ◌<◌, ◌++◌, ◌∷◌, [], suc, sym, ap, ◌∙◌, arith, map, length, get_or, take}
 use Rattle.std.proofs.lemmas.List.{get_or_default}
-use Rattle.spread_labels.specs.Levels.{greatest, digit_weight_of}
+use Rattle.spread_labels.specs.Level.{greatest, digit_weight_of}
 use Rattle.spread_labels.proofs.Numbers.{made_at, mapped_more, numbers_long}
 use Rattle.spread_labels.proofs.Widths.{greatest_all}
 use Rattle.spread_labels.proofs.level.digit_weights.Goals as goal

@@ -1,5 +1,5 @@
 use Rattle.std.proofs.Common.{◌≡◌, map, take}
-use Rattle.spread_labels.specs.Levels.{digit_weight_of}
+use Rattle.spread_labels.specs.Level.{digit_weight_of}
 use Rattle.spread_labels.proofs.level.digit_weights.Given as goal
 
 -- the digit weights of the vertices so far

@@ -1,5 +1,5 @@
 use Rattle.std.proofs.Common.{◌≡◌, ◌+◌, ◌*◌, ◌++◌, ◌∷◌, [], suc, min, sym, ap, ◌∙◌, map, add-one}
-use Rattle.spread_labels.specs.Levels.{digit_weight_of}
+use Rattle.spread_labels.specs.Level.{digit_weight_of}
 use Rattle.spread_labels.specs.Orders.{numbers_from}
 use Rattle.spread_labels.proofs.DistanceSums.{distance_classes_more}
 use Rattle.spread_labels.proofs.level.digit_weights_by_level.Goals as goal

@@ -1,5 +1,5 @@
 use Rattle.std.proofs.Common.{◌≡◌, suc, map}
-use Rattle.spread_labels.specs.Levels.{digit_weight_of}
+use Rattle.spread_labels.specs.Level.{digit_weight_of}
 use Rattle.spread_labels.specs.Orders.{numbers_from}
 use Rattle.spread_labels.proofs.level.digit_weights_by_level.Given as goal
 

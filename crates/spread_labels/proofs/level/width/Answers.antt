@@ -3,7 +3,7 @@ use Rattle.std.proofs.lemmas.Bool.{eq-eqb, ne_eqb}
 use Rattle.std.specs.Prelude.{Contains, filter, slice_index}
 use Rattle.port_graph.specs.declared.edge.Edge.{Edge}
 use Rattle.port_graph.proofs.SearchSteps.{all_from_contained}
-use Rattle.spread_labels.specs.Levels.{is_rise, rises_at}
+use Rattle.spread_labels.specs.Level.{is_rise, rises_at}
 use Rattle.spread_labels.proofs.Widths.{greatest_with, greatest_without, max_turned}
 use Rattle.spread_labels.proofs.level.width.Goals as goal
 use Rattle.spread_labels.proofs.level.width.Goals.{then-levels-vertex, else-levels-vertex}

@@ -1,6 +1,6 @@
 use Rattle.std.proofs.Common.{◌≡◌, ◌==◌, map}
 use Rattle.std.specs.Prelude.{filter, slice_index}
-use Rattle.spread_labels.specs.Levels.{greatest, rises_at}
+use Rattle.spread_labels.specs.Level.{greatest, rises_at}
 use Rattle.spread_labels.specs.Orders.{numbers_from}
 use Rattle.spread_labels.proofs.level.width.Given as goal
 

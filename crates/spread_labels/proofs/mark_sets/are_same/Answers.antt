@@ -1,6 +1,6 @@
 use Rattle.std.proofs.Common.{◌≡◌, sym, ap, ◌∙◌, arith}
 use Rattle.std.proofs.lemmas.List.{get_or_default}
-use Rattle.spread_labels.specs.TargetSets.{has, no_targets}
+use Rattle.spread_labels.specs.TargetSet.{has, no_targets}
 use Rattle.spread_labels.specs.MarkSets.{set_at}
 use Rattle.spread_labels.proofs.mark_sets.are_same.Goals as goal
 

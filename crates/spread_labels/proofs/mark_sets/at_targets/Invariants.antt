@@ -1,5 +1,5 @@
 use Rattle.std.proofs.Common.{◌≡◌, ◌<◌, ◌≤◌, ℕ, false}
-use Rattle.spread_labels.specs.TargetSets.{EachTarget, has}
+use Rattle.spread_labels.specs.TargetSet.{EachTarget, has}
 use Rattle.spread_labels.specs.MarkSets.{AreAtTargets, set_at}
 use Rattle.spread_labels.proofs.mark_sets.at_targets.Given as goal
 

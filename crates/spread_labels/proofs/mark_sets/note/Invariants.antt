@@ -1,5 +1,5 @@
 use Rattle.std.proofs.Common.{◌≡◌, ◌<◌, ◌≤◌, ◌&&◌, ◌||◌, ℕ}
-use Rattle.spread_labels.specs.TargetSets.{EachTarget, has}
+use Rattle.spread_labels.specs.TargetSet.{EachTarget, has}
 use Rattle.spread_labels.specs.MarkSets.{edge_at, giver_set, set_at}
 use Rattle.spread_labels.proofs.mark_sets.note.Given as goal
 

@@ -4,7 +4,7 @@ use Rattle.port_graph.specs.declared.edge.Edge.{Edge}
 use Rattle.port_graph.specs.Heads.{edges_at}
 use Rattle.port_graph.proofs.SearchSteps.{all_from_contained}
 use Rattle.spread_labels.specs.Orders.{positioned_edge}
-use Rattle.spread_labels.specs.Positions.{to_position}
+use Rattle.spread_labels.specs.VertexPositions.{to_position}
 use Rattle.spread_labels.proofs.Numbers.{mapped_more}
 use Rattle.spread_labels.proofs.PositionSteps.{edges_positioned}
 use Rattle.spread_labels.proofs.vertex_positions.by_positions.Goals as goal

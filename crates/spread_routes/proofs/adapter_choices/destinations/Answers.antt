@@ -1,7 +1,7 @@
 use Rattle.std.proofs.Common.{◌≡◌, ◌<◌, List, sym, ap, ◌∙◌, subst, arith, length, map, take}
 use Rattle.std.proofs.lemmas.List.{take_all}
 use Rattle.std.specs.Prelude.{All}
-use Rattle.spread_labels.specs.LeafVertices.{leaf_vertices}
+use Rattle.spread_labels.specs.Leaves.{leaf_vertices}
 use Rattle.balanced_choices.specs.declared.choice_rounds.Destination.{Destination}
 use Rattle.spread_routes.specs.AdapterChoices.{destination}
 use Rattle.spread_routes.proofs.PastEnds.{all_destinations}

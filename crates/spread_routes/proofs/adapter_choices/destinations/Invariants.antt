@@ -1,5 +1,5 @@
 use Rattle.std.proofs.Common.{◌≡◌, map, take}
-use Rattle.spread_labels.specs.LeafVertices.{leaf_vertices}
+use Rattle.spread_labels.specs.Leaves.{leaf_vertices}
 use Rattle.spread_routes.specs.AdapterChoices.{destination}
 use Rattle.spread_routes.proofs.adapter_choices.destinations.Given as goal
 

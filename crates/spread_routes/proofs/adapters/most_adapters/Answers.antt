@@ -1,6 +1,6 @@
 use Rattle.std.proofs.Common.{max, sym, ap, ◌∙◌, take, get_or}
 use Rattle.std.proofs.lemmas.List.{take_more}
-use Rattle.spread_labels.specs.Levels.{greatest}
+use Rattle.spread_labels.specs.Level.{greatest}
 use Rattle.spread_labels.proofs.Widths.{greatest_more, max_turned}
 use Rattle.spread_routes.proofs.adapters.most_adapters.Goals as goal
 

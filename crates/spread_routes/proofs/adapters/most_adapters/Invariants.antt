@@ -1,5 +1,5 @@
 use Rattle.std.proofs.Common.{◌≡◌, take}
-use Rattle.spread_labels.specs.Levels.{greatest}
+use Rattle.spread_labels.specs.Level.{greatest}
 use Rattle.spread_routes.proofs.adapters.most_adapters.Given as goal
 
 -- the most so far

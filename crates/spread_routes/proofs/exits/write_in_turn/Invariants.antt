@@ -2,7 +2,7 @@ use Rattle.std.proofs.Common.{◌≡◌, ◌%◌, drop, get_or, length}
 use Rattle.std.specs.Prelude.{max}
 use Rattle.spread_routes.specs.AdapterChoices.{choice_towards}
 use Rattle.spread_routes.specs.Exits.{port_turn, with_entries}
-use Rattle.balanced_choices.specs.RoundRobins.{IsTurn}
+use Rattle.balanced_choices.specs.RoundRobin.{IsTurn}
 use Rattle.spread_routes.proofs.exits.write_in_turn.Given as goal
 
 -- the LIDs that are left do the rest, in turn

@@ -1,7 +1,7 @@
 use Rattle.std.proofs.Common.{◌≡◌, cond, drop, get_or, length}
 use Rattle.spread_routes.specs.Spread.{number_by}
 use Rattle.spread_routes.specs.Exits.{port_turn, with_entries}
-use Rattle.balanced_choices.specs.RoundRobins.{IsTurn}
+use Rattle.balanced_choices.specs.RoundRobin.{IsTurn}
 use Rattle.spread_routes.proofs.exits.write_ports.Given as goal
 
 -- the LIDs that are left do the rest, in turn

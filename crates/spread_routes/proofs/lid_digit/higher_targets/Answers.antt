@@ -4,7 +4,7 @@ use Rattle.std.proofs.lemmas.List.{get_or_default}
 use Rattle.std.specs.Prelude.{nat_lt, slice_index_or}
 use Rattle.port_graph.specs.declared.edge.Edge.{Edge}
 use Rattle.spread_labels.specs.MarkSets.{edge_at, set_at}
-use Rattle.spread_labels.specs.TargetSets.{has}
+use Rattle.spread_labels.specs.TargetSet.{has}
 use Rattle.spread_routes.specs.Exits.{no_lid_digit}
 use Rattle.spread_routes.proofs.Leaving.{higher_more}
 use Rattle.spread_routes.proofs.lid_digit.higher_targets.Goals as goal

@@ -1,7 +1,7 @@
 use Rattle.std.proofs.Common.{◌≡◌, ◌||◌, drop}
 use Rattle.std.specs.Prelude.{nat_lt, slice_index_or}
 use Rattle.std.specs.List.{list_any}
-use Rattle.spread_labels.specs.TargetSets.{EachTarget, has}
+use Rattle.spread_labels.specs.TargetSet.{EachTarget, has}
 use Rattle.spread_labels.specs.MarkSets.{picked}
 use Rattle.spread_routes.specs.Exits.{no_lid_digit}
 use Rattle.spread_routes.proofs.lid_digit.higher_targets.Given as goal

@@ -1,6 +1,6 @@
 use Rattle.std.proofs.Common.{◌≡◌, ◌∙◌}
-use Rattle.spread_labels.specs.LeafVertices.{leaf_vertices}
-use Rattle.spread_labels.specs.Levels.{levels_of}
+use Rattle.spread_labels.specs.Leaves.{leaf_vertices}
+use Rattle.spread_labels.specs.Level.{levels_of}
 use Rattle.spread_routes.specs.Rule.{by_index}
 use Rattle.spread_routes.proofs.Positions.{edges_are}
 use Rattle.spread_routes.proofs.switch_keys.as_named.Goals as goal

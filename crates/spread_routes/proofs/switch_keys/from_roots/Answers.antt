@@ -1,8 +1,8 @@
 use Rattle.std.proofs.Common.{◌≡◌, ap, sym, ◌∙◌, subst, length}
-use Rattle.spread_labels.specs.DistanceClasses.{distance_class_of, distance_classes_of}
+use Rattle.spread_labels.specs.DistanceClass.{distance_class_of, distance_classes_of}
 use Rattle.spread_labels.specs.GrowthKeys.{keys_of}
-use Rattle.spread_labels.specs.LeafVertices.{leaf_vertices}
-use Rattle.spread_labels.specs.Levels.{levels_of}
+use Rattle.spread_labels.specs.Leaves.{leaf_vertices}
+use Rattle.spread_labels.specs.Level.{levels_of}
 use Rattle.spread_labels.proofs.Numbers.{numbers_long}
 use Rattle.spread_labels.specs.LabelLaws.{IsSymmetric}
 use Rattle.spread_routes.specs.Rule.{by_index}

@@ -5,7 +5,7 @@ use Rattle.spread_labels.specs.KeyOrder.{before_by}
 use Rattle.spread_labels.specs.Orders.{at_position, order}
 use Rattle.spread_routes.specs.Rule.{by_index, order_by_keys}
 use Rattle.spread_routes.specs.Spread.{keys_by, switches_in_order}
-use Rattle.spread_routes.specs.SwitchOrders.{order_value_of}
+use Rattle.spread_routes.specs.SwitchOrder.{order_value_of}
 use Rattle.spread_routes.proofs.Indices.{there_and_back}
 use Rattle.spread_routes.proofs.KeyLists.{all_keyed}
 use Rattle.spread_routes.proofs.Positions.{are_indices, edges_are, named}

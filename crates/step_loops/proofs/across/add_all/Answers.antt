@@ -1,5 +1,5 @@
 -- The four kinds.
-use Rattle.audit_channels.specs.Columns.{IsWithAcross}
+use Rattle.audit_channels.specs.Column.{IsWithAcross}
 use Rattle.step_loops.specs.StepOrder.{IsWithStep}
 use Rattle.step_loops.proofs.Taken.{all_kinds, on_ok}
 use Rattle.step_loops.proofs.across.add_all.Goals as goal

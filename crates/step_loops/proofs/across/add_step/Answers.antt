@@ -2,7 +2,7 @@
 use Rattle.std.proofs.Common.{◌≡◌, ◌∙◌, List, sym, subst}
 use Rattle.std.specs.Prelude.{Option}
 use Rattle.port_graph.specs.declared.edge.Edge.{Edge}
-use Rattle.audit_channels.specs.Columns.{IsWithColumn}
+use Rattle.audit_channels.specs.Column.{IsWithColumn}
 use Rattle.step_loops.specs.StepOrder.{IsWithStep}
 use Rattle.step_loops.proofs.Taken.{on_ok, one_kind}
 use Rattle.step_loops.proofs.across.add_step.Goals as goal

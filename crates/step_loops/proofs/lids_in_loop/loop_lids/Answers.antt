@@ -5,7 +5,7 @@ use Rattle.std.proofs.Math.Seq.{take-append_seam}
 use Rattle.port_graph.specs.declared.edge.Edge.{Edge}
 use Rattle.fact_store.specs.View.{Facts, cells_of}
 use Rattle.packet_walks.specs.Edges.{edges_of, greatest_top}
-use Rattle.step_loops.specs.LoopLids.{AreNoted, are_known}
+use Rattle.step_loops.specs.LidsInLoop.{AreNoted, are_known}
 use Rattle.step_loops.proofs.LoopLids.{LidsUpTo, all_lids, known_lids, more_lids, turned_long}
 use Rattle.step_loops.proofs.lids_in_loop.loop_lids.Goals as goal
 

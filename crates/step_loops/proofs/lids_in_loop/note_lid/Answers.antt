@@ -2,7 +2,7 @@
 use Rattle.std.proofs.Common.{◌∙◌, ◌<◌, ℕ, length, refl, subst, arith}
 use Rattle.std.specs.Prelude.{slice_index_or}
 use Rattle.std.proofs.lemmas.Grind.{get_or_default_zero}
-use Rattle.step_loops.specs.LoopLids.{IsNoted}
+use Rattle.step_loops.specs.LidsInLoop.{IsNoted}
 use Rattle.step_loops.proofs.LoopLids.{one_noted}
 use Rattle.step_loops.proofs.lids_in_loop.note_lid.Goals as goal
 

@@ -3,8 +3,8 @@ use Rattle.std.proofs.Common.{sym, ap, ◌∙◌, subst, arith, length}
 use Rattle.std.proofs.lemmas.List.{length-map}
 use Rattle.std.specs.List.{filter_map}
 use Rattle.fact_store.specs.View.{cells_of}
-use Rattle.fact_store.specs.Walk.{cells_left}
-use Rattle.subnet_view.specs.EndPorts.{guid_and_port, in_order}
+use Rattle.fact_store.specs.Iter.{cells_left}
+use Rattle.subnet_view.specs.EndPort.{guid_and_port, in_order}
 use Rattle.subnet_view.proofs.Counting.{CountedTo, is_None, length_in_order, one_counted, one_fewer}
 use Rattle.subnet_view.proofs.Walks.{cell_given, given_more}
 use Rattle.subnet_view.proofs.end_port.count_end_ports.Goals as goal

@@ -1,8 +1,8 @@
 use Rattle.std.proofs.Common.{◌≡◌, ◌+◌, ◌++◌, length}
 use Rattle.fact_store.specs.View.{cells_of}
 use Rattle.std.specs.List.{filter_map}
-use Rattle.fact_store.specs.Walk.{cells_left}
-use Rattle.subnet_view.specs.EndPorts.{guid_and_port}
+use Rattle.fact_store.specs.Iter.{cells_left}
+use Rattle.subnet_view.specs.EndPort.{guid_and_port}
 use Rattle.subnet_view.proofs.end_port.count_end_ports.Given as goal
 
 -- the end ports of the cells that were passed, and all cells that are left; and the cells given and left are the store's

@@ -1,5 +1,5 @@
 -- Each cell that the walk gives is the store's.
-use Rattle.fact_store.specs.Walk.{cells_left}
+use Rattle.fact_store.specs.Iter.{cells_left}
 use Rattle.subnet_view.proofs.Walks.{cell_given}
 use Rattle.subnet_view.proofs.end_port.found_end_ports.Goals as goal
 

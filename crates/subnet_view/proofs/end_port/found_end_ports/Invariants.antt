@@ -1,8 +1,8 @@
 use Rattle.std.proofs.Common.{◌≡◌, ◌++◌}
 use Rattle.fact_store.specs.View.{cells_of}
 use Rattle.std.specs.List.{filter_map}
-use Rattle.fact_store.specs.Walk.{cells_left}
-use Rattle.subnet_view.specs.EndPorts.{guid_and_port}
+use Rattle.fact_store.specs.Iter.{cells_left}
+use Rattle.subnet_view.specs.EndPort.{guid_and_port}
 use Rattle.subnet_view.proofs.end_port.found_end_ports.Given as goal
 
 -- what was found, and what the rest has, are all that there is; and the cells given and left are the store's

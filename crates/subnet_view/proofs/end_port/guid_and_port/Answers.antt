@@ -3,7 +3,7 @@ use Rattle.std.proofs.Common.{◌≡◌, sym, ap, ◌∙◌}
 use Rattle.fact_store.specs.View.{cells_of}
 use Rattle.reply_facts.specs.Known.{guid_in, value_in}
 use Rattle.std.specs.Prelude.{Some}
-use Rattle.subnet_view.specs.EndPorts.{guid_and_port}
+use Rattle.subnet_view.specs.EndPort.{guid_and_port}
 use Rattle.subnet_view.proofs.Walks.{end_at, guid_at}
 use Rattle.subnet_view.proofs.end_port.guid_and_port.Goals as goal
 

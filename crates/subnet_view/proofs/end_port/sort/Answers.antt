@@ -1,7 +1,7 @@
 -- Each call gives the numbers of its end port.
 use Rattle.std.proofs.Common.{◌≡◌, rules, of_calls}
 use Rattle.std.proofs.lemmas.Fn.{always_returns_same}
-use Rattle.subnet_view.specs.EndPorts.{port_numbers}
+use Rattle.subnet_view.specs.EndPort.{port_numbers}
 use Rattle.subnet_view.proofs.end_port.sort.Goals as goal
 
 pub returns-clause-sorted : goal.returns-clause-sorted

@@ -1,7 +1,7 @@
 use Rattle.std.proofs.Common.{◌≡◌, ◌++◌}
 use Rattle.fact_store.specs.View.{cells_of}
 use Rattle.std.specs.List.{filter_map}
-use Rattle.fact_store.specs.Walk.{cells_left}
+use Rattle.fact_store.specs.Iter.{cells_left}
 use Rattle.subnet_view.specs.Reading.{usable_guid}
 use Rattle.subnet_view.proofs.switch.listed_switches.Given as goal
 

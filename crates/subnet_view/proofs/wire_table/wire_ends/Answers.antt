@@ -2,7 +2,7 @@
 use Rattle.std.proofs.Common.{sym, ap, ◌∙◌}
 use Rattle.std.proofs.lemmas.List.{append-nil}
 use Rattle.std.specs.Prelude.{None, Some}
-use Rattle.fact_store.specs.Walk.{cells_left}
+use Rattle.fact_store.specs.Iter.{cells_left}
 use Rattle.subnet_view.proofs.EndsInStep.{found_more, walked_at_first}
 use Rattle.subnet_view.proofs.wire_table.wire_ends.Goals as goal
 

@@ -1,4 +1,4 @@
-use Rattle.fact_store.specs.Walk.{cells_left}
+use Rattle.fact_store.specs.Iter.{cells_left}
 use Rattle.subnet_view.proofs.EndsInStep.{IsWalked}
 use Rattle.subnet_view.proofs.wire_table.wire_ends.Given as goal
 

@@ -2,7 +2,7 @@
 use Rattle.std.proofs.Common.{◌≡◌, ◌∙◌, Some, sym, ap}
 use Rattle.text_words.specs.Text.{lines}
 use Rattle.topo_file.specs.FirstFault.{first_line_fault}
-use Rattle.topo_file.specs.declared.fault.TopoFault.TheVariants.{Memory}
+use Rattle.topo_file.specs.declared.topo_fault.TopoFault.TheVariants.{Memory}
 use Rattle.topo_file.specs.Reading.{topology_of, topology_in, nodes_of_lines}
 use Rattle.topo_file.proofs.FirstFault.{first_plain, first_refuses, told_soundly}
 use Rattle.topo_file.proofs.Folds.{refused_then}

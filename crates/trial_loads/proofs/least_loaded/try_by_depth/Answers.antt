@@ -3,7 +3,7 @@ use Rattle.std.specs.Prelude.{nat_lt}
 use Rattle.spread_labels.specs.KeyOrder.{before_by}
 use Rattle.spread_labels.specs.Orders.{numbers_from}
 use Rattle.spread_labels.proofs.Numbers.{numbers_long}
-use Rattle.depth_orders.specs.DepthOrders.{order_by_depth, turned}
+use Rattle.depth_orders.specs.DepthOrder.{order_by_depth, turned}
 use Rattle.trial_loads.specs.LeastLoaded.{key_in, keys_by_depth, least_by}
 use Rattle.trial_loads.specs.TrialLoads.{trial_load}
 use Rattle.trial_loads.specs.declared.least_loaded.Trial.{Trial}

@@ -1,6 +1,6 @@
 use Rattle.std.proofs.Common.{◌≡◌, ◌≤◌, take}
 use Rattle.std.specs.Prelude.{count_by}
-use Rattle.spread_labels.specs.TargetSets.{has}
+use Rattle.spread_labels.specs.TargetSet.{has}
 use Rattle.trial_loads.proofs.shared_loads.count_having.Given as goal
 
 -- the sets so far

@@ -4,7 +4,7 @@ use Rattle.std.specs.Prelude.{Contains, IfOk}
 use Rattle.spread_labels.specs.KeyOrder.{before_by}
 use Rattle.port_graph.specs.Heads.{LeadToVertices}
 use Rattle.spread_labels.specs.Orders.{by_position, order}
-use Rattle.spread_labels.specs.Positions.{StandOnce}
+use Rattle.spread_labels.specs.VertexPositions.{StandOnce}
 use Rattle.spread_labels.proofs.ByPositions.{orders_in_words}
 use Rattle.trial_loads.specs.TrialLoads.{loads_by, trial_loads}
 use Rattle.trial_loads.proofs.trials.trial_loads.Goals as goal

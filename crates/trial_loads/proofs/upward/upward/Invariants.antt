@@ -1,6 +1,6 @@
 use Rattle.std.proofs.Common.{◌≡◌, ◌<◌, ℕ, length}
 use Rattle.spread_labels.specs.MarkSets.{set_at}
-use Rattle.spread_labels.specs.TargetSets.{EachTarget, has}
+use Rattle.spread_labels.specs.TargetSet.{EachTarget, has}
 use Rattle.trial_loads.specs.TrialLoads.{candidates_in, goes_up}
 use Rattle.trial_loads.proofs.upward.upward.Given as goal
 

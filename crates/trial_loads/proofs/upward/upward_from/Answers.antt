@@ -6,7 +6,7 @@ use Rattle.port_graph.specs.declared.edge.Edge.{Edge}
 use Rattle.spread_labels.specs.declared.target_set.TargetSet.{TargetSet}
 use Rattle.spread_labels.specs.Labels.{leads_up}
 use Rattle.spread_labels.specs.MarkSets.{picked}
-use Rattle.spread_labels.specs.TargetSets.{has, no_targets}
+use Rattle.spread_labels.specs.TargetSet.{has, no_targets}
 use Rattle.trial_loads.proofs.Picked.{joined_up, passed_up, picked_from, up_with}
 use Rattle.trial_loads.proofs.upward.upward_from.Goals as goal
 use Rattle.trial_loads.proofs.upward.upward_from.Goals.{then-edge-position, else-edge-position}

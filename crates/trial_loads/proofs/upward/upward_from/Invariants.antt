@@ -2,7 +2,7 @@ use Rattle.std.proofs.Common.{◌≡◌, drop}
 use Rattle.std.specs.Prelude.{◌||◌}
 use Rattle.spread_labels.specs.Labels.{leads_up}
 use Rattle.spread_labels.specs.MarkSets.{picked}
-use Rattle.spread_labels.specs.TargetSets.{EachTarget, has}
+use Rattle.spread_labels.specs.TargetSet.{EachTarget, has}
 use Rattle.trial_loads.proofs.upward.upward_from.Given as goal
 
 -- the targets so far and those of the edges that are left make up all

@@ -4,7 +4,7 @@ use Rattle.std.specs.Prelude.{IsTrue, ◌↔◌, ◌==◌}
 use Rattle.std.proofs.lemmas.Bool.{eq-eqb, ne_eqb}
 use Rattle.port_graph.proofs.Counts.{length_map}
 use Rattle.fact_store.specs.View.{cells_of}
-use Rattle.subnet_view.specs.EndPorts.{end_ports}
+use Rattle.subnet_view.specs.EndPort.{end_ports}
 use Rattle.held_tables.specs.Switches.{sender_of}
 use Rattle.audit_report.specs.Passing.{Audited, EachHasTables}
 use Rattle.audit_report.proofs.Missing.{tables_is}

@@ -5,7 +5,7 @@ use Rattle.fabric_sim.specs.Simulation.{Simulation, next_serial, has_cable_port,
 use Rattle.fabric_sim.specs.declared.envelope.Envelope.{Envelope}
 use Rattle.fabric_sim.specs.Called.{refused, Called}
 use Rattle.fabric_sim.specs.Delivery.{asked, flight_in}
-use Rattle.fabric_sim.specs.declared.fault.FabricFault.TheVariants.{SerialsSpent}
+use Rattle.fabric_sim.specs.declared.fabric_fault.FabricFault.TheVariants.{SerialsSpent}
 use Rattle.fabric_sim.specs.declared.delivered.Delivered.{Delivered}
 use Rattle.std.proofs.lemmas.Bool.{cond-false}
 use Rattle.fabric_sim.proofs.Written.{removed, next_after, waiting_at, asks, asked_now, asked_valid, is_left}

@@ -3,7 +3,8 @@ use Rattle.fabric_sim.specs.declared.delivered.Delivered.{Delivered}
 use Rattle.fabric_sim.specs.declared.delivered.Delivered.TheVariants.{Discarded}
 use Rattle.fabric_sim.specs.declared.delivered.Reason.TheVariants.{Unreadable}
 use Rattle.fabric_sim.specs.Called.{Called}
-use Rattle.fabric_sim.specs.Delivery.{after_deliver, after_outcome, flight_in, outcome_by, packet_in, without}
+use Rattle.fabric_sim.specs.Delivery.{after_deliver, after_outcome, flight_in, packet_in, without}
+use Rattle.fabric_sim.specs.PacketOutcome.{outcome_by}
 use Rattle.fabric_sim.proofs.Envelopes.{acted, can_act, dropped, read}
 use Rattle.fabric_sim.proofs.fabric.Fabric.deliver.Goals as goal
 

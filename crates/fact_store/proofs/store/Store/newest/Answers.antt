@@ -2,7 +2,7 @@
 use Rattle.std.proofs.Common.{◌≡◌, ◌++◌, ◌∷◌, [], sym, ap, ◌∙◌, subst}
 use Rattle.std.proofs.lemmas.List.{append_assoc}
 use Rattle.std.specs.Prelude.{Some}
-use Rattle.page_list.specs.Rest.{rest_of}
+use Rattle.page_list.specs.Iter.{rest_of}
 use Rattle.fact_join.specs.Cell.{generation_of}
 use Rattle.fact_store.specs.View.{cells_of}
 use Rattle.fact_store.proofs.Held.{entries_are, found_is, newest_more, given_all, none_of, newest_of_all}

@@ -1,6 +1,6 @@
 -- So far the newest generation is that of the cells given.
 use Rattle.std.proofs.Common.{◌≡◌, ◌++◌}
-use Rattle.page_list.specs.Rest.{rest_of}
+use Rattle.page_list.specs.Iter.{rest_of}
 use Rattle.fact_store.proofs.SightingRanges.{IsNewestAmong}
 use Rattle.fact_store.proofs.store.Store.newest.Given as goal
 

@@ -4,7 +4,9 @@ use Rattle.std.specs.Io.KnownBytes.{Appends}
 use Rattle.std.proofs.lemmas.Result.{on_ok_weaker}
 use Rattle.fact_store.specs.View.{cells_of}
 use Rattle.record_file.proofs.Writing.{appends_then}
-use Rattle.lane_report.specs.LaneText.{cycle_line, dropped_text, lanes_text, missing_text}
+use Rattle.audit_report.specs.declared.cycle_text.ChannelKind.TheVariants.{ByLane}
+use Rattle.audit_report.specs.CycleText.{cycle_line}
+use Rattle.lane_report.specs.LaneText.{dropped_text, lanes_text, missing_text}
 use Rattle.lane_report.proofs.lane_findings.LaneFindings.write.Goals as goal
 
 pub returns : goal.returns
@@ -16,15 +18,15 @@ returns g c =
     let start = written a.sink.now in
     let missing = missing_text found.missing in
     let dropped = dropped_text cells found.order.dropped in
-    let cycle = cycle_line cells c.deref.result.now in
+    let cycle = cycle_line cells ByLane c.deref.result.now in
     let two = appends_then start (written c.write_missing.new.sink) (written c.write_dropped.new.sink) missing dropped c.in_ok-write_missing.ensures.ok
     c.in_ok-write_dropped.ensures.ok in
     let whole : ((missing ++ dropped) ++ cycle) ≡ lanes_text cells found.missing found.order.dropped found.order.cycle.items =
-    ap (λ channels. missing ++ dropped ++ cycle_line cells channels) c.deref.ensures.value in
+    ap (λ channels. missing ++ dropped ++ cycle_line cells ByLane channels) c.deref.ensures.value in
     record {
-      ok = on_ok_weaker c.write_lane_cycle.result
-          (λ part. subst (Appends start (written c.write_lane_cycle.new.sink)) whole
-          (appends_then start (written c.write_dropped.new.sink) (written c.write_lane_cycle.new.sink) (missing ++ dropped) cycle two part))
-          c.write_lane_cycle.ensures.ok;
-      err = c.write_lane_cycle.ensures.err;
+      ok = on_ok_weaker c.write_cycle.result
+          (λ part. subst (Appends start (written c.write_cycle.new.sink)) whole
+          (appends_then start (written c.write_dropped.new.sink) (written c.write_cycle.new.sink) (missing ++ dropped) cycle two part))
+          c.write_cycle.ensures.ok;
+      err = c.write_cycle.ensures.err;
     }

@@ -1,7 +1,7 @@
 use Rattle.std.proofs.Common.{sym, subst, ◌∙◌}
 use Rattle.fact_store.specs.View.{cells_of}
 use Rattle.lid_assign.specs.Lids.{top_of}
-use Rattle.lft_blocks.specs.Rules.{rule_of, value_of}
+use Rattle.lft_blocks.specs.Rule.{rule_of, value_of}
 use Rattle.lft_blocks.specs.Entries.{attachment_of_lid, block_count}
 use Rattle.lft_blocks.specs.Arrival.{EveryPacketArrivesBy}
 use Rattle.lft_blocks.specs.Plan.{PlanValue, lid_routing, tables_by, tables_of}

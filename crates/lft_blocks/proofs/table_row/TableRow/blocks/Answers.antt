@@ -1,6 +1,6 @@
 use Rattle.std.proofs.Common.{◌++◌, ◌∷◌, [], sym, ap, ◌∙◌, arith}
 use Rattle.std.proofs.lemmas.List.FromFn.{map-range_with_len_more}
-use Rattle.lft_blocks.specs.TableRows.{block_of_row, blocks_of_row}
+use Rattle.lft_blocks.specs.TableRow.{block_of_row, blocks_of_row}
 use Rattle.lft_blocks.proofs.table_row.TableRow.blocks.Goals as goal
 
 pub loop-b-preserved : goal.loop-b-preserved

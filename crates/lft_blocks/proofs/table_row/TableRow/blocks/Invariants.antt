@@ -1,5 +1,5 @@
 use Rattle.std.proofs.Common.{◌≡◌}
-use Rattle.lft_blocks.specs.TableRows.{blocks_of_row}
+use Rattle.lft_blocks.specs.TableRow.{blocks_of_row}
 use Rattle.lft_blocks.proofs.table_row.TableRow.blocks.Given as goal
 
 -- the blocks so far

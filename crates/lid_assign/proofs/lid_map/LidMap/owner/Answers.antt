@@ -1,6 +1,6 @@
 -- An end port's numbers are below the first number that is no unicast LID.
 use Rattle.std.proofs.Common.{◌≡◌, rules, subst}
-use Rattle.lid_assign.specs.Indexed.{AreBelow}
+use Rattle.lid_assign.specs.LidMap.{AreBelow}
 use Rattle.lid_assign.specs.Lids.{Given, owner_of}
 use Rattle.lid_assign.proofs.Unicast.{owned_below}
 use Rattle.lid_assign.proofs.lid_map.LidMap.owner.Goals as goal

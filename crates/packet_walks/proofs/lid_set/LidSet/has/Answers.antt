@@ -1,6 +1,6 @@
 use Rattle.std.proofs.Common.{ap, ◌==◌}
 use Rattle.std.proofs.lemmas.Nat.Bits.{shr_and_one}
-use Rattle.packet_walks.specs.LidSets.{has}
+use Rattle.packet_walks.specs.LidSet.{has}
 use Rattle.packet_walks.proofs.lid_set.LidSet.has.Goals as goal
 
 pub returns : goal.returns

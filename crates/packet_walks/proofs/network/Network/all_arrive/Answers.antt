@@ -2,7 +2,7 @@
 use Rattle.std.proofs.Common.{◌≡◌, ◌∙◌, true, false, length, sym, subst, refl}
 use Rattle.std.specs.Prelude.{map}
 use Rattle.fact_store.specs.View.{cells_of}
-use Rattle.subnet_view.specs.EndPorts.{end_ports}
+use Rattle.subnet_view.specs.EndPort.{end_ports}
 use Rattle.subnet_view.specs.Reading.{switches}
 use Rattle.packet_walks.specs.Deliveries.{ComeToOwner, is_delivered}
 use Rattle.held_tables.specs.Owners.{is_sole}

@@ -1,6 +1,6 @@
 -- The same items are left; each turn takes a page.
 use Rattle.std.proofs.Common.{◌≡◌, length}
-use Rattle.page_list.specs.Rest.{rest_of}
+use Rattle.page_list.specs.Iter.{rest_of}
 use Rattle.page_list.proofs.iter.IterIterator.next.Given as goal
 
 abbrev pub invariant-loop-page : goal.invariant-loop-page

@@ -1,7 +1,7 @@
 -- By the lane, or else by the ports of all vertices.
 use Rattle.std.proofs.Common.{◌≡◌, ◌∙◌, ap, subst, List, ℕ, map}
 use Rattle.std.specs.Prelude.{Option, None, IfOk, slice_index, slice_index_or}
-use Rattle.port_graph.specs.Lanes.{at, port_in}
+use Rattle.port_graph.specs.ByteLanes.{at, port_in}
 use Rattle.port_graph.proofs.Rows.{row_to, row_in_lane, row_at}
 use Rattle.port_graph.proofs.side_by_side.Block.row.Goals as goal
 

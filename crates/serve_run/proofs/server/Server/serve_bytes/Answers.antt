@@ -3,7 +3,7 @@ use Rattle.std.proofs.lemmas.Result.{err_from_is_err_and}
 use Rattle.schedule_lines.specs.Outcome.{Outcome}
 use Rattle.schedule_lines.proofs.Printing.{IsUnderWay, begins, goes_on, is_over, stops_in}
 use Rattle.serve_run.specs.Kept.{ServerValue, after_byte, after_bytes}
-use Rattle.serve_run.specs.Serving.{value_of}
+use Rattle.serve_run.specs.Server.{value_of}
 use Rattle.serve_run.proofs.Turns.{bytes_next, bytes_none}
 use Rattle.serve_run.proofs.server.Server.serve_bytes.Goals as goal
 

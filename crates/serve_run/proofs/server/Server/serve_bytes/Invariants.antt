@@ -2,7 +2,7 @@ use Rattle.std.proofs.Common.{drop}
 use Rattle.std.specs.Prelude.{IsTrue}
 use Rattle.schedule_lines.proofs.Printing.{IsUnderWay}
 use Rattle.serve_run.specs.Kept.{after_bytes}
-use Rattle.serve_run.specs.Serving.{value_of}
+use Rattle.serve_run.specs.Server.{value_of}
 use Rattle.serve_run.proofs.server.Server.serve_bytes.Given as goal
 
 -- the bytes that are left are yet to be dealt with, and nothing is held back

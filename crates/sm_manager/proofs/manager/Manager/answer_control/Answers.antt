@@ -10,7 +10,7 @@ use Rattle.sm_state.specs.Transitions.{status_of, stepped}
 use Rattle.sm_manager.specs.Election.{message_count, message_out, message_pending}
 use Rattle.sm_manager.specs.Manager.{Manager}
 use Rattle.sm_manager.specs.PlanFaults.{number_fault}
-use Rattle.sm_manager.specs.Served.{acknowledged_at, answer_out, answering, controlled}
+use Rattle.sm_manager.specs.SmInfoAnswers.{acknowledged_at, answer_out, answering, controlled}
 use Rattle.sm_manager.proofs.Messages.{message_sent, numbers_taken, spent_fault, unspent}
 use Rattle.sm_manager.proofs.manager.Manager.answer_control.Goals as goal
 

@@ -1,7 +1,7 @@
 -- What the table of states says goes to the successor.
 use Rattle.std.proofs.Common.{◌≡◌, ◌+◌, [], ◌∷◌, ◌++◌, sym, ap, ◌∙◌, subst}
 use Rattle.sm_state.specs.declared.transition.Transition.{Transition}
-use Rattle.sm_state.specs.Controls.{modifier_of_control}
+use Rattle.sm_state.specs.Control.{modifier_of_control}
 use Rattle.sm_manager.specs.declared.pending.Purpose.TheVariants.{Control}
 use Rattle.sm_manager.specs.contracts.manager.Manager.{the_view}
 use Rattle.sm_manager.specs.Election.{control_out, after_handover, successor_lid, info_pending}

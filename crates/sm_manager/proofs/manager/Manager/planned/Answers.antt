@@ -4,7 +4,7 @@ use Rattle.std.proofs.lemmas.Result.{err_from_is_err_and}
 use Rattle.std.specs.Prelude.{IfOk}
 use Rattle.lft_blocks.specs.Plan.{plan_of}
 use Rattle.fact_store.specs.View.{cells_of}
-use Rattle.plan_steps.specs.Phases.{Phase, phases_of}
+use Rattle.plan_steps.specs.Phase.{Phase, phases_of}
 use Rattle.sm_manager.specs.Manager.{Manager, Writing}
 use Rattle.sm_manager.specs.Writing.{without_empty_phases, phases_by}
 use Rattle.sm_manager.specs.PlanFaults.{plan_fault}

@@ -3,7 +3,7 @@ use Rattle.std.proofs.Common.{◌≡◌, ◌++◌, ◌∷◌, [], refl, sym, ap,
 use Rattle.std.proofs.lemmas.Result.{err_from_is_err_and}
 use Rattle.sm_state.specs.Standing.{after_request_heard}
 use Rattle.sm_manager.specs.Manager.{Manager}
-use Rattle.sm_manager.specs.Served.{answer_out, replying, status_for}
+use Rattle.sm_manager.specs.SmInfoAnswers.{answer_out, replying, status_for}
 use Rattle.sm_manager.proofs.Messages.{none_taken, spent_fault, unspent}
 use Rattle.sm_manager.proofs.manager.Manager.reply.Goals as goal
 

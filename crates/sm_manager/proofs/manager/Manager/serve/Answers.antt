@@ -6,7 +6,7 @@ use Rattle.smp_bytes.specs.Judges.{JudgesButFor}
 use Rattle.sm_manager.specs.Fault.{is_memory}
 use Rattle.sm_manager.specs.Manager.{Manager}
 use Rattle.sm_manager.specs.Packets.{Called, unless_spent}
-use Rattle.sm_manager.specs.Served.{controlled, is_control, replying, served}
+use Rattle.sm_manager.specs.SmInfoAnswers.{controlled, is_control, replying, served}
 use Rattle.sm_manager.proofs.manager.Manager.serve.Goals as goal
 
 obeys : (m : Manager) (packet : List ℕ) (from : Option ℕ) → is_control m.standing packet ≡ true → unless_spent m (controlled m packet from)

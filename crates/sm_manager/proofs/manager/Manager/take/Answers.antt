@@ -6,7 +6,7 @@ use Rattle.smp_bytes.specs.Judges.{JudgesButFor}
 use Rattle.sm_manager.specs.Fault.{is_memory}
 use Rattle.sm_manager.specs.Manager.{Manager}
 use Rattle.sm_manager.specs.Packets.{Called, is_info_request, packet_taken, unless_spent}
-use Rattle.sm_manager.specs.Served.{served}
+use Rattle.sm_manager.specs.SmInfoAnswers.{served}
 use Rattle.sm_manager.proofs.manager.Manager.take.Goals as goal
 
 comes_to : (m : Manager) (packet : List ℕ) (from : Option ℕ) → is_info_request packet ≡ true

@@ -2,7 +2,7 @@ use Rattle.std.proofs.Common.{◌≡◌, ℕ, List, Vec, Global, sym, ap, subst,
 use Rattle.std.proofs.lemmas.List.{with_items_is}
 use Rattle.std.specs.Prelude.{OnOk}
 use Rattle.port_graph.specs.declared.edge.Edge.{Edge}
-use Rattle.spread_labels.specs.TargetSets.{EachTarget}
+use Rattle.spread_labels.specs.TargetSet.{EachTarget}
 use Rattle.spread_labels.specs.MarkSets.{picked}
 use Rattle.spread_labels.proofs.PortLists.{list_at}
 use Rattle.spread_labels.proofs.candidate_lists.CandidateLists.find.Goals as goal

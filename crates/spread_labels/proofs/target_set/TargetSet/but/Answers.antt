@@ -1,4 +1,4 @@
-use Rattle.spread_labels.specs.TargetSets.{has}
+use Rattle.spread_labels.specs.TargetSet.{has}
 use Rattle.spread_labels.proofs.TargetBits.{but_bit, but_less}
 use Rattle.spread_labels.proofs.target_set.TargetSet.but.Goals as goal
 

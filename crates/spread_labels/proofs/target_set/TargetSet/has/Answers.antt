@@ -1,6 +1,6 @@
 use Rattle.std.proofs.Common.{ap, ◌==◌}
 use Rattle.std.proofs.lemmas.Nat.Bits.{shr_and_one}
-use Rattle.spread_labels.specs.TargetSets.{has}
+use Rattle.spread_labels.specs.TargetSet.{has}
 use Rattle.spread_labels.proofs.target_set.TargetSet.has.Goals as goal
 
 pub returns : goal.returns

@@ -1,7 +1,7 @@
 use Rattle.std.proofs.Common.{ap, arith, ◌==◌}
 use Rattle.std.specs.Int.{bit_at}
 use Rattle.std.proofs.lemmas.Bool.{eq-eqb, eqb-true}
-use Rattle.spread_labels.specs.TargetSets.{has}
+use Rattle.spread_labels.specs.TargetSet.{has}
 use Rattle.spread_labels.proofs.TargetBits.{same_bits}
 use Rattle.spread_labels.proofs.target_set.TargetSet.is_same.Goals as goal
 

@@ -1,5 +1,5 @@
 use Rattle.std.proofs.Common.{refl}
-use Rattle.spread_labels.specs.TargetSets.{has}
+use Rattle.spread_labels.specs.TargetSet.{has}
 use Rattle.spread_labels.proofs.TargetBits.{no_bit}
 use Rattle.spread_labels.proofs.target_set.TargetSet.none.Goals as goal
 

@@ -1,4 +1,4 @@
-use Rattle.spread_labels.specs.TargetSets.{has}
+use Rattle.spread_labels.specs.TargetSet.{has}
 use Rattle.spread_labels.proofs.TargetBits.{or_bit}
 use Rattle.spread_labels.proofs.target_set.TargetSet.or.Goals as goal
 

@@ -1,5 +1,5 @@
 use Rattle.std.proofs.Common.{arith}
-use Rattle.spread_labels.specs.TargetSets.{has}
+use Rattle.spread_labels.specs.TargetSet.{has}
 use Rattle.spread_labels.proofs.TargetBits.{without_bit}
 use Rattle.spread_labels.proofs.target_set.TargetSet.without.Goals as goal
 

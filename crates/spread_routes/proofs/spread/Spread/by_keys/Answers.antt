@@ -1,7 +1,7 @@
 use Rattle.std.proofs.Common.{◌≡◌, ◌<◌, ℕ, List, sym, ap, ◌∙◌, subst, arith, length, map, All}
 use Rattle.std.specs.Prelude.{Contains, None}
 use Rattle.spread_labels.specs.Orders.{by_position}
-use Rattle.spread_labels.specs.Positions.{ArePositions, StandOnce}
+use Rattle.spread_labels.specs.VertexPositions.{ArePositions, StandOnce}
 use Rattle.spread_routes.specs.Rule.{by_index}
 use Rattle.spread_routes.specs.Spread.{lid_digit_at}
 use Rattle.spread_routes.proofs.Positions.{all_stand, are_indices, by_positions_is, edges_are, stand_once}

@@ -3,8 +3,8 @@ use Rattle.std.specs.Prelude.{All, IfOk, Some, slice_index}
 use Rattle.port_graph.proofs.Counts.{length_map}
 use Rattle.spread_labels.specs.KeyOrder.{before_by}
 use Rattle.spread_labels.specs.LabelLaws.{IsSymmetric}
-use Rattle.spread_labels.specs.LeafVertices.{leaf_vertices}
-use Rattle.spread_labels.specs.Levels.{levels_of}
+use Rattle.spread_labels.specs.Leaves.{leaf_vertices}
+use Rattle.spread_labels.specs.Level.{levels_of}
 use Rattle.spread_labels.specs.Orders.{order}
 use Rattle.spread_routes.specs.Rule.{by_index, by_positions, order_by_keys}
 use Rattle.spread_routes.proofs.Indices.{there_and_back}
@@ -12,7 +12,7 @@ use Rattle.spread_routes.proofs.Names.{all_positioned}
 use Rattle.spread_routes.proofs.Positions.{are_indices, edges_are}
 use Rattle.spread_routes.specs.Spread.{Grading, adapters_there, grading_of, keys_by, leaf_numbers_there, weights_there}
 use Rattle.spread_routes.specs.AdapterChoices.{adapter_choices}
-use Rattle.spread_routes.specs.SwitchOrders.{order_value_of}
+use Rattle.spread_routes.specs.SwitchOrder.{order_value_of}
 use Rattle.spread_routes.proofs.KeyLists.{all_keyed, all_levelled, all_numbered}
 use Rattle.spread_routes.proofs.Balanced.{choices_if}
 use Rattle.spread_routes.proofs.spread.Spread.of.Goals as goal

@@ -6,7 +6,7 @@ use Rattle.reply_facts.specs.declared.key.Key.{Key}
 use Rattle.reply_facts.specs.declared.value.Value.{Value}
 use Rattle.reply_facts.specs.Key.{key_cmp}
 use Rattle.reply_facts.specs.Known.{value_in, known_in}
-use Rattle.fact_store.specs.Walk.{cells_left}
+use Rattle.fact_store.specs.Iter.{cells_left}
 use Rattle.subnet_view.proofs.Passing.{read_first}
 use Rattle.subnet_view.proofs.cell_cursor.CellCursor.known.Goals.{then-eq, else-eq}
 use Rattle.subnet_view.proofs.cell_cursor.CellCursor.known.Goals as goal

@@ -4,7 +4,7 @@ use Rattle.std.specs.List.{cons_option}
 use Rattle.std.specs.Ordering.{is_ge}
 use Rattle.reply_facts.specs.declared.key.Key.{Key}
 use Rattle.reply_facts.specs.Key.{key_cmp}
-use Rattle.fact_store.specs.Walk.{cells_left}
+use Rattle.fact_store.specs.Iter.{cells_left}
 use Rattle.subnet_view.proofs.Passing.{passed_in_step}
 use Rattle.subnet_view.proofs.cell_cursor.CellCursor.pass.Goals as goal
 

@@ -1,6 +1,6 @@
 use Rattle.std.proofs.Common.{length}
 use Rattle.std.specs.List.{cons_option}
-use Rattle.fact_store.specs.Walk.{cells_left}
+use Rattle.fact_store.specs.Iter.{cells_left}
 use Rattle.subnet_view.specs.CellCursor.{AreLeft, KeepsFrom}
 use Rattle.subnet_view.proofs.cell_cursor.CellCursor.pass.Given as goal
 

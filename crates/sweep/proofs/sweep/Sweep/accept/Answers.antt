@@ -5,7 +5,8 @@ use Rattle.request_table.specs.Numbers.{IsIndexFor}
 use Rattle.sweep.specs.declared.answer.Answer.{Answer}
 use Rattle.sweep.specs.declared.finding.Finding.{Finding}
 use Rattle.sweep.specs.declared.request.Request.{Request}
-use Rattle.sweep.specs.Finding.{IsWithinReach, finding, questions}
+use Rattle.sweep.specs.Finding.{IsWithinReach, finding}
+use Rattle.sweep.specs.Questions.{questions}
 use Rattle.sweep.specs.Replies.{answer_by, answer_for, fault_for, report_for, request_of, sightings_by}
 use Rattle.sweep.specs.Sweep.{Sweep}
 use Rattle.sweep.proofs.Few.{within_reach}

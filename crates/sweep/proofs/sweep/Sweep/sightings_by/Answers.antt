@@ -5,7 +5,7 @@ use Rattle.reply_facts.specs.Report.{Sightings, reply_fault, sightings_by_packet
 use Rattle.smp_bytes.specs.Judges.{Judges}
 use Rattle.std.specs.Prelude.{Option, nat_le, nat_lt}
 use Rattle.std.proofs.lemmas.Bool.{and_parts, leb-true}
-use Rattle.sweep.specs.declared.request.Question.TheVariants as ask
+use Rattle.sweep.specs.declared.question.Question.TheVariants as ask
 use Rattle.sweep.specs.declared.request.Request.{Request}
 use Rattle.sweep.specs.Replies.{answer_for, fault_for, sightings_by}
 use Rattle.sweep.specs.Sweep.{Sweep}

@@ -1,8 +1,8 @@
 use Rattle.std.proofs.Common.{ℕ, ◌∷◌, [], List, sym, subst, arith}
 use Rattle.reply_facts.specs.declared.report.Context.TheVariants.{About}
 use Rattle.reply_facts.specs.declared.report.Context.{Context}
-use Rattle.sweep.specs.declared.request.Question.TheVariants as ask
-use Rattle.sweep.specs.Finding.{port_questions}
+use Rattle.sweep.specs.declared.question.Question.TheVariants as ask
+use Rattle.sweep.specs.Questions.{port_questions}
 use Rattle.sweep.specs.SweepRequests.{HasAsked}
 use Rattle.sweep.specs.Sweep.{Asking}
 use Rattle.sweep.proofs.Asked.{asked_both, length_ports, ports_more}

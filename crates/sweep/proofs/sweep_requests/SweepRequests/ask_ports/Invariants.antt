@@ -1,6 +1,6 @@
 -- The ports so far are asked.
 use Rattle.reply_facts.specs.declared.report.Context.TheVariants.{About}
-use Rattle.sweep.specs.Finding.{port_questions}
+use Rattle.sweep.specs.Questions.{port_questions}
 use Rattle.sweep.specs.SweepRequests.{HasAsked}
 use Rattle.sweep.proofs.sweep_requests.SweepRequests.ask_ports.Given as goal
 

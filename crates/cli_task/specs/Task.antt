@@ -1,0 +1,108 @@
+-- The task that the words of a command line ask for.
+use Rattle.std.specs.Prelude.{ℕ, Bool, true, false, List, Option, None, Some, codes, is_some, option_map}
+use Rattle.std.specs.Prelude.{option_and_then, if◌then◌else◌}
+use Rattle.std.specs.Str.{bytes_eq}
+use Rattle.clap.specs.Matches.{subcommand_name_of}
+use Rattle.clap.specs.declared.parser.matches.ArgMatches.{ArgMatches}
+use Rattle.cli_arguments.specs.Words.{is_set, word_named}
+use Rattle.audit_report.specs.declared.audit_run.AuditAsked.{AuditAsked}
+use Rattle.sm_cli.specs.declared.asked.Output.{Output}
+use Rattle.sm_cli.specs.declared.asked.Output.TheVariants.{Facts, Join, Plan, Order}
+use Rattle.sm_cli.specs.declared.asked.RuleAsked.{RuleAsked}
+use Rattle.next_run.specs.declared.asked.StepLanes.{StepLanes}
+use Rattle.next_run.specs.declared.asked.StepLanes.TheVariants.{ByText, One}
+use Rattle.next_run.specs.declared.asked.HeldOrder.{HeldOrder}
+use Rattle.next_run.specs.declared.asked.HeldOrder.TheVariants.{Ignored, NearNamed, NearPlan}
+use Rattle.next_run.specs.declared.asked.StepAsked.{StepAsked}
+use Rattle.serve_task.specs.declared.serving.Serving.{Serving}
+use Rattle.cli_task.specs.declared.task.Task.{Task}
+use Rattle.cli_task.specs.declared.task.Task.TheVariants.{Answer, Audit, AuditByLane, OrderOf, Next, Run, Serve}
+use Rattle.cli_task.specs.OptionValues.{floor_asked, planning_asked, order_asked, max_load_asked, guid_asked}
+use Rattle.cli_task.specs.OptionValues.{port_asked, priority_asked, sm_key_asked}
+
+-- the audit that the words ask for; None if one of them is wrong
+abbrev pub audit_asked : (List ℕ → Option (List ℕ)) → Option AuditAsked
+audit_asked word = option_and_then (λ floor. option_map
+    (λ max_load. record { floor = floor; all = is_set (word (codes "all")); max_load = max_load })
+    (max_load_asked (word (codes "max-load")))) (floor_asked (word (codes "floor")))
+
+-- the task of an audit, lane by lane if the first argument is true; None if `answers`, which is about lanes, is true
+-- and the first argument is false
+abbrev pub audit_by : Bool → Bool → AuditAsked → Option Task
+audit_by true answers audit = Some (AuditByLane (record { audit = audit; answers = answers }))
+audit_by false false audit = Some (Audit audit)
+audit_by false true audit = None
+
+-- the task of the audit that the words ask for, lane by lane if a file of lanes is named; None if one of them is wrong
+abbrev pub audit_task : (List ℕ → Option (List ℕ)) → Option Task
+audit_task word = option_and_then
+    (audit_by (is_some (word (codes "lanes"))) (is_set (word (codes "answers-as-asked")))) (audit_asked word)
+
+-- of the orders that the held tables imply, the one that a step may go by: if the second argument is true, the one
+-- nearest to the order that a text names; otherwise, if `told` is true, the one nearest to the plan's order; otherwise
+-- none
+abbrev pub held_order_asked : Bool → Bool → HeldOrder
+held_order_asked told true = NearNamed
+held_order_asked true false = NearPlan
+held_order_asked false false = Ignored
+
+-- of the orders that the held tables imply, the one that the words let a step go by, or none
+abbrev pub held_order_of : (List ℕ → Option (List ℕ)) → HeldOrder
+held_order_of word = held_order_asked (is_set (word (codes "told-order"))) (is_some (word (codes "last-order")))
+
+-- the choice of how credit loops in a step are judged: by lane if a file of lanes is named, otherwise on one lane; None
+-- if `answers`, which is about lanes, is set without a file of lanes
+abbrev pub lanes_asked : Bool → Bool → Option StepLanes
+lanes_asked true answers = Some (ByText answers)
+lanes_asked false false = Some One
+lanes_asked false true = None
+
+-- the choice of how credit loops in a step are judged, as the words ask; None if a flag about lanes is set without a
+-- file of lanes
+abbrev pub lanes_of : (List ℕ → Option (List ℕ)) → Option StepLanes
+lanes_of word = lanes_asked (is_some (word (codes "lanes"))) (is_set (word (codes "answers-as-asked")))
+
+-- the step that the words ask for; None if one of them is wrong
+abbrev pub step_asked : (List ℕ → Option (List ℕ)) → Option StepAsked
+step_asked word = option_and_then (λ by. option_and_then (λ lanes. option_map
+    (λ floor. record { lmc = by.0; rule = by.1; floor = floor; held_order = held_order_of word; lanes = lanes })
+    (floor_asked (word (codes "floor")))) (lanes_of word)) (planning_asked word)
+
+-- the manager with this GUID, port, priority and SM_Key, which plans by the LMC and the rule of `by`; None if one of
+-- the four is None
+abbrev pub serving_by : ℕ × RuleAsked → Option ℕ → Option ℕ → Option ℕ → Option ℕ → Option Serving
+serving_by by guid port priority sm_key =
+    option_and_then (λ g. option_and_then (λ p. option_and_then (λ q. option_map
+    (λ k. record { guid = g; port = p; priority = q; sm_key = k; lmc = by.0; rule = by.1 }) sm_key) priority) port) guid
+
+-- the manager that is to be served; None if one of the words is missing or wrong
+abbrev pub serving_asked : (List ℕ → Option (List ℕ)) → Option Serving
+serving_asked word = option_and_then (λ by. serving_by by (guid_asked (word (codes "GUID")))
+    (port_asked (word (codes "PORT"))) (priority_asked (word (codes "PRIORITY"))) (sm_key_asked (word (codes "sm-key"))))
+    (planning_asked word)
+
+-- the output that the subcommand `command` writes from facts; None if `command` is another subcommand, or if a word is
+-- wrong
+abbrev pub output_asked : (List ℕ → Option (List ℕ)) → List ℕ → Option Output
+output_asked word command =
+    if bytes_eq command (codes "facts") then Some Facts
+    else (if bytes_eq command (codes "join") then Some Join
+    else (if bytes_eq command (codes "plan") then option_map (λ by. Plan by.0 by.1) (planning_asked word)
+    else (if bytes_eq command (codes "order") then option_map Order (order_asked word) else None)))
+
+-- the task of the subcommand `command` with the words of its arguments; None if one of the words is wrong, or there is
+-- no such subcommand
+abbrev pub task_behind : (List ℕ → Option (List ℕ)) → List ℕ → Option Task
+task_behind word command =
+    if bytes_eq command (codes "audit") then audit_task word
+    else (if bytes_eq command (codes "order-of") then option_map OrderOf (floor_asked (word (codes "floor")))
+    else (if bytes_eq command (codes "next") then option_map Next (step_asked word)
+    else (if bytes_eq command (codes "run") then option_map (λ by. Run by.0 by.1) (planning_asked word)
+    else (if bytes_eq command (codes "serve") then option_map Serve (serving_asked word)
+    else option_and_then (λ output. option_map (λ floor. Answer (record { output = output; floor = floor }))
+    (floor_asked (word (codes "floor")))) (output_asked word command)))))
+
+-- the task that the words of the command line ask for; None if the words name no subcommand, or one of the words is
+-- wrong
+abbrev pub task_asked : ArgMatches → Option Task
+task_asked matches = option_and_then (task_behind (word_named matches)) (subcommand_name_of matches)

@@ -1,0 +1,45 @@
+//! The words of the command line, and what is printed if they are wrong.
+use crate::perform::say;
+use byte_io::ToWrite;
+use clap::Error;
+use clap::error::ErrorKind;
+use sm_cli::{ExitStatus, Fault};
+use std::alloc::AllocError;
+use std::io::Write;
+use std::rt::Env;
+use std::{env, io};
+
+/// Returns the words of the command line. If a word is not UTF-8, prints that to standard error and returns `None`.
+/// Returns an error if memory was refused.
+pub(crate) fn words<R: Env + Eprint + AllocGlobal>(
+    rt: &R,
+) -> Result<Option<Vec<String>>, AllocError> {
+    match env::args(rt) {
+        Ok(words) => Ok(Some(words.collect(rt.alloc())?)),
+        Err(error) if error.kind() == io::ErrorKind::OutOfMemory => Err(AllocError),
+        Err(_) => {
+            let _ = rt.eprintln("error: an argument is not UTF-8");
+            Ok(None)
+        }
+    }
+}
+
+/// Prints help or the version to standard output, or the fault of the command line to standard error. If help or the
+/// version cannot be printed, writes that to `errors`. Returns an error if `error` is a lack of memory.
+pub(crate) fn explain<R: Print + Eprint, E: Write>(
+    rt: &R,
+    error: &Error,
+    errors: &mut ToWrite<E>,
+) -> Result<ExitStatus, AllocError> {
+    if error.kind() == ErrorKind::OutOfMemory {
+        return Err(AllocError);
+    }
+    let printed = error.print(rt);
+    if error.use_stderr() {
+        return Ok(ExitStatus::Usage);
+    }
+    if printed.is_err() {
+        return Ok(say(errors, &[], &Fault::Write));
+    }
+    Ok(ExitStatus::Done)
+}

@@ -1,0 +1,293 @@
+//! A step from held tables towards the plan of the subnet that files describe.
+ghost use Rattle.std.specs.Prelude.{◌≡◌, ◌⊎◌, ◌+◌, ◌++◌, ◌≤◌, Err, IfErr, IfOk, IsTrue, None, OnErr, OnOk, false};
+ghost use Rattle.std.specs.Prelude.{length};
+ghost use Rattle.std.specs.Io.KnownBytes.{Appends};
+ghost use Rattle.std.specs.Option.{option_map};
+ghost use Rattle.fact_store.specs.View.{cells_of};
+ghost use Rattle.lft_blocks.specs.Rule.{RuleValue, value_of};
+ghost use Rattle.lft_blocks.specs.WritesPart.{WritesPart};
+ghost use Rattle.next_run.specs.Asked.{preferred_rule, rule_or};
+ghost use Rattle.next_run.specs.NextRun.{HasStepped, IsMade, IsSaid, IsStepFault, IsStepOf, StopsNext};
+ghost use Rattle.next_run.specs.NextRun.{StopsStep, choice_of, fault_of_step, goal_or, next_by_choice, texts_before};
+ghost use Rattle.next_run.specs.StepVerdict.{verdict_of, verdict_text};
+ghost use Rattle.next_run.specs.StepOrderText.{items_of, step_order_text};
+ghost use Rattle.next_tables.specs.NextTables.{first_moved, next_tables};
+ghost use Rattle.next_tables.specs.NextTables.{value_of as chosen_of};
+ghost use Rattle.held_tables.specs.PlanTables.{held_plan};
+
+use crate::asked::{HeldOrder, StepAsked};
+use crate::step_choice::{StepChoice, step_choice};
+use crate::step_order_text::write_step_order;
+use crate::step_verdict::StepVerdict;
+use byte_io::{Sink, Source, WriteFault};
+use held_tables::{Held, Subnet};
+use lft_blocks::{Plan, Rule, SwitchOrder};
+use next_tables::{StepFault, StepRule, next_tables};
+use packet_walks::Network;
+use sm_cli::{Fault, StepInputs, StepReader, TextFault, read_inputs, texts_if};
+use smp_bytes::Guid;
+use std::alloc::{AllocError, Global};
+use tables_file::write_next;
+
+/// A step from held tables: the tables to write next, and the order that the step goes by.
+#[derive(Drop)]
+struct MadeStep {
+    /// The tables to write next.
+    next: Held,
+    /// The usable switches in the order that the step goes by. `None` if the step goes by the order of the plan's
+    /// switches, or by settled entries.
+    order: Option<Vec<Guid>>,
+}
+
+/// Reads the inputs in order (`read_inputs`): the text that the rule takes, the text of lanes and the text of an order,
+/// each if it is asked for, then the text of the held tables and the files. There must be an input for each text.
+/// Writes to `sink` the tables to write next, towards the plan of the subnet that the files describe together.
+///
+/// Writes to `told` what can happen while these tables are written, under any mixtures of the held and the next
+/// tables. On one lane, writes a shortest credit loop and its LIDs, or that there is no credit loop. Lane by lane,
+/// writes what an audit by lane finds by lane. If the step goes towards a goal in between, a last line has the
+/// switches in the order that the step goes by. Returns whether there is no credit loop and, lane by lane, each
+/// packet between adapter ports of the same component has a service level and no packet is dropped for want of a
+/// lane. A failed write to `told` is not an error.
+///
+/// # Errors
+///
+/// Returns the fault of `read_inputs` if an input is refused. Otherwise returns `NoRoom` if the plan has no room for
+/// its LIDs. If the plan has room, returns a fault of the held tables' text if the plan gives a LID to an end port
+/// while another end port holds the LID, `Memory` if memory is refused, or `Write` if a write to `sink` fails. Nothing
+/// is written to `sink` unless the error is `Write`; how much is written then is unspecified. Nothing is written to
+/// `told` if an error is returned.
+pub fn run_next<S: Source, W: Sink, E: Sink>(
+    alloc: Global,
+    inputs: &mut [S],
+    asked: StepAsked,
+    sink: &mut W,
+    told: &mut E,
+) -> Result<bool, Fault>
+    requires { texts_before asked + 1 ≤ length inputs.old }
+    ensures done { IfOk result (HasStepped S.state asked inputs.old inputs.new
+        (Appends (W.written sink.old) (W.written sink.new))
+        (IsSaid E.written E.has_failed told.old told.new)) }
+    ensures flushed { OnOk result (IsTrue (W.is_flushed sink.new)) }
+    ensures sink_works { OnOk result (W.has_failed sink.new ≡ false) }
+    ensures refused { IfErr result (IsStepFault S.state asked
+        inputs.old inputs.new (W.has_failed sink.new)) }
+    ensures nothing_written { OnErr result ((result ≡ Err Fault.Write) ⊎ (sink.new ≡ sink.old)) }
+    ensures nothing_told { OnErr result (told.new ≡ told.old) }
+{
+    let reader = StepReader {
+        floor: asked.floor,
+        has_lanes: asked.lanes.has_lanes(),
+        has_order: asked.held_order.is_named(),
+    };
+    match read_inputs(alloc, asked.rule, &reader, inputs) {
+        Ok((rule, found)) => step(alloc, asked, &rule, &found, sink, told),
+        Err(fault) => Err(fault),
+    }
+}
+
+/// Returns the number of texts that a step reads before the text of the held tables.
+fn texts_before(asked: StepAsked) -> usize
+    ensures { result ≡ texts_before asked }
+{
+    asked.rule.texts() + texts_if(asked.lanes.has_lanes()) + texts_if(asked.held_order.is_named())
+}
+
+/// Writes to `sink` the step that `asked` asks for, from `found`, what the inputs say, towards the plan by `rule`.
+/// Writes to `told` what `run_next` writes there, and returns what `run_next` returns.
+fn step<W: Sink, E: Sink>(
+    alloc: Global,
+    asked: StepAsked,
+    rule: &Rule,
+    found: &StepInputs,
+    sink: &mut W,
+    told: &mut E,
+) -> Result<bool, Fault>
+    ensures done { IfOk result (IsStepOf asked (value_of rule.now) found.now
+        (Appends (W.written sink.old) (W.written sink.new))
+        (IsSaid E.written E.has_failed told.old told.new)) }
+    ensures flushed { OnOk result (IsTrue (W.is_flushed sink.new)) }
+    ensures sink_works { OnOk result (W.has_failed sink.new ≡ false) }
+    ensures refused { IfErr result (StopsStep (texts_before asked) asked.lmc (value_of rule.now)
+        found.now.others.read.store found.now.others.read.held (W.has_failed sink.new)) }
+    ensures nothing_written { OnErr result ((result ≡ Err Fault.Write) ⊎ (sink.new ≡ sink.old)) }
+    ensures nothing_told { OnErr result (told.new ≡ told.old) }
+{
+    let read = &found.others.read;
+    let lmc = asked.lmc;
+    let by_told = asked.held_order.is_told();
+    let answers = asked.lanes.has_answers();
+    let plan = Plan::of(alloc, &read.store, lmc, rule)?;
+    let Ok(subnet) = Subnet::of(alloc, &read.store) else {
+        return Err(Fault::Memory);
+    };
+    let Ok(from) = Network::of(alloc, &subnet, &read.held) else {
+        return Err(Fault::Memory);
+    };
+    let Ok(named) = named_rule(alloc, asked.held_order, &found.others.order) else {
+        return Err(Fault::Memory);
+    };
+    let input = texts_before(asked);
+    let made = match made_step(alloc, input, by_told, rule, &named, &from, &plan) {
+        Ok(made) => made,
+        Err(fault) => return Err(fault),
+    };
+    let lanes = &found.lanes;
+    let Ok(verdict) = StepVerdict::of(alloc, lanes, answers, &from, &made.next) else {
+        return Err(Fault::Memory);
+    };
+    write_next(sink, plan.lids(), &made.next)?;
+    let _ = write_verdict(told, &from, &verdict, &made.order);
+    Ok(verdict.is_sound())
+}
+
+/// Returns the rule that spreads in the order of `switches`, which a text names, or `None` if `held_order` is not
+/// `NearNamed`.
+fn named_rule(
+    alloc: Global,
+    held_order: HeldOrder,
+    switches: &[Guid],
+) -> Result<Option<Rule>, AllocError>
+    ensures { IfOk result (λ named. (rule : RuleValue)
+        → preferred_rule held_order rule switches.now ≡ rule_or rule (option_map value_of named)) }
+{
+    match held_order {
+        HeldOrder::Ignored | HeldOrder::NearPlan => Ok(None),
+        HeldOrder::NearNamed => {
+            let switches = Vec::from_slice(alloc, switches)?;
+            Ok(Some(Rule::Spread {
+                order: SwitchOrder::AsNamed { switches },
+            }))
+        }
+    }
+}
+
+/// Writes to `told` what can happen while the step is written, and the line of `order`, if `order` is not `None`.
+fn write_verdict<E: Sink>(
+    told: &mut E,
+    from: &Network,
+    verdict: &StepVerdict,
+    order: &Option<Vec<Guid>>,
+) -> Result<(), WriteFault>
+    ensures { WritesPart E.written E.has_failed result told.old told.new
+        (verdict_text (cells_of from.now.facts) (verdict_of verdict.now) ++ step_order_text (items_of order.now)) }
+{
+    verdict.write(told, from)?;
+    write_step_order(told, order)
+}
+
+/// Makes the step from the tables of the network `from` towards `plan`, which is meant to be the plan by `rule`.
+/// `told` says whether the step may go by an order that the tables of `from` imply. Of several such orders, the step
+/// goes by the one nearest to the order of `named`, or to the order of `rule` if `named` is `None`. Returns a fault
+/// of the input `input`, the held tables' text, if a LID moves, or `Memory` if memory is refused.
+fn made_step(
+    alloc: Global,
+    input: usize,
+    told: bool,
+    rule: &Rule,
+    named: &Option<Rule>,
+    from: &Network,
+    plan: &Plan,
+) -> Result<MadeStep, Fault>
+    ensures made { IfOk result (λ made. IsMade told (value_of rule.now)
+        (rule_or (value_of rule.now) (option_map value_of named.now)) from.now.facts from.now.held (held_plan plan.now)
+        made.next (items_of made.order)) }
+    ensures still { OnOk result (first_moved from.now.held (held_plan plan.now) ≡ None) }
+    ensures refused { IfErr result (StopsNext input from.now.held (held_plan plan.now)) }
+{
+    let Ok(planned) = Held::of_plan(alloc, plan) else {
+        return Err(Fault::Memory);
+    };
+    let Ok(to) = Network::of(alloc, from.subnet(), &planned) else {
+        return Err(Fault::Memory);
+    };
+    let Ok(choice) = step_choice(alloc, told, rule, named, from, &to) else {
+        return Err(Fault::Memory);
+    };
+    let next = match next_by_choice(alloc, input, &choice, from, &to) {
+        Ok(next) => next,
+        Err(fault) => return Err(fault),
+    };
+    let StepChoice { order, .. } = choice;
+    Ok(MadeStep { next, order })
+}
+
+/// Returns the tables to write next by the rule of `choice`, from the tables of the network `from`. They lead towards
+/// the goal of `choice` or, if `choice` has no goal, towards the tables of the network `plan`. Both networks must have
+/// the same facts. If another end port holds a LID of the goal in the tables of `from`, returns the fault `Moves` with
+/// the first such LID, at `input`, the index of the held tables' text. Returns `Memory` if memory is refused.
+fn next_by_choice(
+    alloc: Global,
+    input: usize,
+    choice: &StepChoice,
+    from: &Network,
+    plan: &Network,
+) -> Result<Held, Fault>
+    requires { plan.now.facts ≡ from.now.facts }
+    ensures tables { IfOk result (λ next.
+        next ≡ next_by_choice (cells_of from.now.facts) (choice_of choice.now) from.now.held plan.now.held) }
+    ensures still { OnOk result (first_moved from.now.held (goal_or plan.now.held choice.now.goal) ≡ None) }
+    ensures refused { IfErr result (StopsNext input from.now.held (goal_or plan.now.held choice.now.goal)) }
+{
+    match &choice.goal {
+        Some(goal) => next_towards_goal(alloc, input, &choice.by, from, goal),
+        None => next_towards(alloc, input, &choice.by, from, plan),
+    }
+}
+
+/// Returns the tables to write next by the rule `by`, from the tables of the network `from` towards the tables
+/// `goal`. If another end port holds a LID of `goal` in the tables of `from`, returns the fault `Moves` with the first
+/// such LID, at `input`, the index of the held tables' text. Returns `Memory` if memory is refused.
+fn next_towards_goal(
+    alloc: Global,
+    input: usize,
+    by: &StepRule,
+    from: &Network,
+    goal: &Held,
+) -> Result<Held, Fault>
+    ensures tables { IfOk result (λ next.
+        next ≡ next_tables (cells_of from.now.facts) (chosen_of by.now) from.now.held goal.now) }
+    ensures still { OnOk result (first_moved from.now.held goal.now ≡ None) }
+    ensures refused { IfErr result (StopsNext input from.now.held goal.now) }
+{
+    let Ok(to) = Network::of(alloc, from.subnet(), goal) else {
+        return Err(Fault::Memory);
+    };
+    next_towards(alloc, input, by, from, &to)
+}
+
+/// Returns the tables to write next by the rule `by`, from the tables of the network `from` towards the tables of the
+/// network `to`. Both networks must have the same facts. Returns a fault of the input `input`, the held tables' text,
+/// if a LID moves, or `Memory` if memory is refused.
+fn next_towards(
+    alloc: Global,
+    input: usize,
+    by: &StepRule,
+    from: &Network,
+    to: &Network,
+) -> Result<Held, Fault>
+    requires { to.now.facts ≡ from.now.facts }
+    ensures tables { IfOk result (λ next.
+        next ≡ next_tables (cells_of from.now.facts) (chosen_of by.now) from.now.held to.now.held) }
+    ensures still { OnOk result (first_moved from.now.held to.now.held ≡ None) }
+    ensures refused { IfErr result (StopsNext input from.now.held to.now.held) }
+{
+    match next_tables(alloc, by, from, to) {
+        Ok(next) => Ok(next),
+        Err(fault) => Err(fault_of_step(input, &fault)),
+    }
+}
+
+/// Returns `fault`, the reason why no step is made, as a fault of the run. `input` is the index of the held tables'
+/// text.
+fn fault_of_step(input: usize, fault: &StepFault) -> Fault
+    ensures { result ≡ fault_of_step input fault.now }
+{
+    match fault {
+        StepFault::Moves(lid) => Fault::Text {
+            input,
+            fault: TextFault::Moves(*lid),
+        },
+        StepFault::Memory => Fault::Memory,
+    }
+}

@@ -1,0 +1,32 @@
+-- The phases in which a plan is written: the steps of a phase are sent together, and the next phase follows once all of
+-- them were answered or timed out. InfiniBand Architecture Specification, Volume 1: subnet management, initialization.
+use Rattle.std.specs.Prelude.{ℕ, Bool, true, false, List, [], ◌∷◌}
+use Rattle.attr_codec.specs.declared.port_state.PortState.TheVariants.{Armed, Active}
+use Rattle.subnet_view.specs.Reading.{Cells}
+use Rattle.lft_blocks.specs.Plan.{PlanValue}
+use Rattle.sweep.specs.Sweep.{Sweep}
+use Rattle.plan_steps.specs.declared.step.Step.{Step}
+use Rattle.plan_steps.specs.LidSteps.{own_lid, lid_steps}
+use Rattle.plan_steps.specs.BlockSteps.{block_steps, top_steps}
+use Rattle.plan_steps.specs.StateSteps.{state_steps}
+
+-- the steps of a phase, and whether the plan counts as written only if all of them succeed
+pub record Phase : Type 0 where
+  pub counts : Bool
+  pub steps : List Step
+
+-- the phases in which a manager with the LID `master` writes a plan: LIDs, blocks, tops, and then the port states
+-- Armed and Active. No data moves before the plan is set
+abbrev pub phases_by : PlanValue → Cells → Sweep → ℕ → List Phase
+phases_by plan cells sweep master =
+    record { counts = true; steps = lid_steps cells sweep master plan.given }
+    ∷ record { counts = true; steps = block_steps sweep plan }
+    ∷ record { counts = true; steps = top_steps sweep plan }
+    ∷ record { counts = false; steps = state_steps cells sweep plan.given master Armed }
+    ∷ record { counts = false; steps = state_steps cells sweep plan.given master Active }
+    ∷ []
+
+-- the phases of a plan, as the manager at the port with the GUID `port_guid` and the number `port` writes it, along
+-- the paths of the manager's last sweep
+abbrev pub phases_of : PlanValue → Cells → Sweep → ℕ → ℕ → List Phase
+phases_of plan cells sweep port_guid port = phases_by plan cells sweep (own_lid cells plan.given.ports port_guid port)

@@ -1,5 +1,0 @@
-use Rattle.roots_file.proofs.Folds.{HasPassed}
-use Rattle.roots_file.proofs.text.is_named.Given as goal
-
-abbrev pub invariant-loop : goal.invariant-loop
-invariant-loop l = HasPassed l.text l.rest l.root l.count l.counter

@@ -1,0 +1,35 @@
+"""The LIDs of end ports, by the facts and by dumps of forwarding tables that name the owners of LIDs."""
+from __future__ import annotations
+
+from dump_tables import Dump
+from ibsm_texts import End, Facts, name_of
+
+
+def lids_of(
+    facts: Facts, dump: Dump, lmcs: dict[End, int] | None = None
+) -> tuple[dict[End, tuple[int, int]], list[str]]:
+    """Returns the first and the last LID of each end port, by facts, dumps and known LMCs, and a line for each case in
+    which these disagree."""
+    by_guid, ranges, found = {}, {}, []
+    for lid, guid in sorted(dump.named.items()):
+        by_guid.setdefault(guid, []).append(lid)
+    for end, guid in sorted(facts.port_guids.items()):
+        claimed, named = facts.claims.get(end, 0), by_guid.pop(guid, [])
+        first = claimed or (named[0] if named else 0)
+        count = len(named) if named and named[-1] - first + 1 == len(named) else 1
+        if lmcs and end in lmcs:
+            count = 2 ** lmcs[end]
+            goes = not named or first <= named[0] and named[-1] < first + count
+        else:
+            goes = not named or named[0] == first and count == len(named) and not count & (count - 1)
+        if not goes:
+            given = ", ".join(map(str, named[:8]))
+            told = f"claims LID {claimed}, and the dumps give it {given}: are they of one time?"
+            found.append(f"port {name_of(end)} {told}")
+            count = 1
+        if first:
+            ranges[end] = first, first + count - 1
+    found += [
+        f"LID {lids[0]} is of port GUID {guid:016x}, which the facts do not know" for guid, lids in by_guid.items()
+    ]
+    return ranges, found
