@@ -19,12 +19,12 @@ use Rattle.fact_store.specs.View.{Facts, cells_of}
 use Rattle.subnet_view.specs.Reading.{Cells, switches}
 use Rattle.subnet_view.specs.Wires.{across}
 use Rattle.subnet_view.specs.FabricAgreement.{Part}
-use Rattle.held_tables.specs.Held.{HeldPlan}
-use Rattle.held_tables.specs.declared.far_end.Far.TheVariants.{Nothing, Switch}
+use Rattle.packet_walks.specs.Held.{HeldPlan}
+use Rattle.packet_walks.specs.Far.TheVariants.{Nothing, Switch}
 use Rattle.packet_walks.specs.Edges.{edge_by, edge_to, edges_of}
 use Rattle.packet_walks.specs.Fabrics.{IsSeenIn}
-use Rattle.held_tables.specs.Switches.{index_in, far_at, far_to, far_of, row_of}
-use Rattle.held_tables.specs.Tables.{entry_for}
+use Rattle.packet_walks.specs.Switches.{index_in, far_at, far_to, far_of, row_of}
+use Rattle.packet_walks.specs.Tables.{entry_for}
 use Rattle.packet_walks.proofs.FabricParts.{indexed, listed, wire_told, switch_end}
 use Rattle.packet_walks.proofs.FarRows.{has, row_at}
 use Rattle.packet_walks.proofs.Told.{IsClosed, switch_goes, joined_closed}

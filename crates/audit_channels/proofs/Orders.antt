@@ -5,7 +5,7 @@ use Rattle.audit_channels.specs.ChannelOrders.{GoesOn, IsCycle, IsOrder, IsShort
 use Rattle.audit_channels.specs.declared.order.ChannelOrder.{ChannelOrder}
 use Rattle.audit_channels.specs.declared.order.ChannelOrder.TheVariants.{Rises, Cycle}
 use Rattle.subnet_view.specs.Reading.{Cells}
-use Rattle.held_tables.specs.Held.{HeldPlan}
+use Rattle.packet_walks.specs.Held.{HeldPlan}
 use Rattle.audit_channels.specs.Waiting.{AreWaits, RiseOnWays, WaitOn, WaitInCycle, IsOrderOf, IsShortestOf, NeverBoth}
 
 module _ (cells : Cells) (held : HeldPlan) (waits : List (List ℕ)) (are : AreWaits cells held waits) where

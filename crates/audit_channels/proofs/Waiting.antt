@@ -11,7 +11,7 @@ use Rattle.audit_channels.specs.ChannelOrders.{Follows}
 use Rattle.audit_channels.specs.Column.{TakesInTurn, IsWithColumn}
 use Rattle.audit_channels.proofs.Columns.{within}
 use Rattle.subnet_view.specs.Reading.{Cells, switches}
-use Rattle.held_tables.specs.Held.{HeldPlan}
+use Rattle.packet_walks.specs.Held.{HeldPlan}
 use Rattle.packet_walks.specs.Edges.{edges_of, greatest_top}
 use Rattle.packet_walks.proofs.Tops.{none_above}
 use Rattle.audit_channels.specs.Waiting.{WaitsFor, AreWaits, IsAdded}

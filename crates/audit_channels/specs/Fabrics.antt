@@ -9,9 +9,9 @@ use Rattle.fabric_model.specs.Forwarding.{Standing, sent_from, Hop, Goes}
 use Rattle.fact_store.specs.View.{Facts, cells_of}
 use Rattle.subnet_view.specs.Reading.{Cells, switches}
 use Rattle.subnet_view.specs.FabricAgreement.{Part, IsEndPortIn}
-use Rattle.held_tables.specs.Held.{HeldPlan}
+use Rattle.packet_walks.specs.Held.{HeldPlan}
 use Rattle.packet_walks.specs.Fabrics.{IsSeenIn}
-use Rattle.held_tables.specs.Switches.{index_in}
+use Rattle.packet_walks.specs.Switches.{index_in}
 use Rattle.audit_channels.specs.Waiting.{RiseOnWays}
 
 -- `hop` goes from one switch to another, and `channel` is 256 times the index of the first switch among the usable

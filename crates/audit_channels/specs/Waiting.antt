@@ -8,7 +8,7 @@ use Rattle.audit_channels.specs.Column.{TakesInTurn}
 use Rattle.audit_channels.specs.declared.order.ChannelOrder.{ChannelOrder}
 use Rattle.audit_channels.specs.declared.order.ChannelOrder.TheVariants.{Rises, Cycle}
 use Rattle.subnet_view.specs.Reading.{Cells, switches}
-use Rattle.held_tables.specs.Held.{HeldPlan}
+use Rattle.packet_walks.specs.Held.{HeldPlan}
 use Rattle.packet_walks.specs.Edges.{edges_of}
 
 -- for some LID, whether or not an end port holds it, packets leave a switch on `channel` and the next switch on

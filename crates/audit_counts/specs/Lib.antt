@@ -6,3 +6,6 @@ pub mod Packets
 pub mod Pairs
 pub mod Site
 pub mod Unmatched
+pub use Rattle.audit_ways.specs.Figures
+pub use Rattle.audit_ways.specs.Ways
+pub use Rattle.audit_ways.specs.declared.way_figures.WayFigures

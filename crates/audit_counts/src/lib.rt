@@ -12,6 +12,7 @@ mod site;
 mod unmatched;
 
 pub use all_packets::{PacketSurvey, survey};
+pub use audit_ways::{Figures, WayFigures, figures_of_ways_known};
 pub use cause_counts::Causes;
 pub use disputed_facts::disputed;
 pub use first_few::FirstFew;

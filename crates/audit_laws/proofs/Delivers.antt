@@ -42,8 +42,8 @@ use Rattle.packet_walks.proofs.Told.{IsClosed, joined_closed, packets_end_as_tol
 use Rattle.held_tables.specs.Tables.{is_same_end}
 use Rattle.audit_laws.specs.Laws.{MissedPacketsMiss, PassingAuditsDeliver}
 use Rattle.audit_report.proofs.Judged.{brought}
-use Rattle.audit_counts.specs.Packets.{arrives}
-use Rattle.audit_counts.specs.Site.{in_one_component, is_one_root, root_at}
+use Rattle.audit_report.specs.Packets.{arrives}
+use Rattle.audit_report.specs.Site.{in_one_component, is_one_root, root_at}
 
 -- what is delivered stays within what is joined -----------------------------------------------
 

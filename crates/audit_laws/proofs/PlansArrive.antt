@@ -22,7 +22,7 @@ use Rattle.held_tables.proofs.HeldPlans.{made}
 use Rattle.packet_walks.proofs.Judged.{same_ends}
 use Rattle.packet_walks.proofs.PlanPackets.{HasRoot, Meets, itself, of_root, by_wire, brought}
 use Rattle.audit_report.specs.Passing.{EachArrives}
-use Rattle.audit_counts.specs.Site.{in_one_component, root_at, is_one_root}
+use Rattle.audit_report.specs.Site.{in_one_component, root_at, is_one_root}
 
 roots : (a b : Option ℕ) → is_one_root a b ≡ true → (r : ℕ) × (a ≡ Some r) × (b ≡ Some r)
 roots None b h = absurd (cc)

@@ -19,8 +19,8 @@ use Rattle.lft_blocks.specs.Plan.{plan_of}
 use Rattle.held_tables.specs.Held.{HeldPlan}
 use Rattle.held_tables.specs.PlanTables.{held_plan}
 use Rattle.packet_walks.specs.Fabrics.{ArrivesAt, IsSeenIn}
-use Rattle.audit_counts.specs.declared.sent_packet.SentPacket.{SentPacket}
-use Rattle.audit_counts.specs.Packets.{arrives, packets_of}
+use Rattle.audit_report.specs.SentPacket.{SentPacket}
+use Rattle.audit_report.specs.Packets.{arrives, packets_of}
 use Rattle.audit_report.specs.Passing.{EachNodeIsKnown, Passes}
 
 -- if a view's facts are in range and have room for the LIDs, and have the type of each node that they name and, for a

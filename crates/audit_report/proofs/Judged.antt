@@ -22,7 +22,7 @@ use Rattle.packet_walks.proofs.InTime.{end_found, end_is}
 use Rattle.packet_walks.proofs.Judged.{same_ends, same_itself, at_is}
 use Rattle.audit_channels.specs.Waiting.{NoneShorter}
 use Rattle.audit_channels.proofs.Orders.{never_both}
-use Rattle.audit_ways.specs.declared.way_figures.WayFigures.{WayFigures}
+use Rattle.audit_counts.specs.WayFigures.{WayFigures}
 use Rattle.packet_walks.specs.HopsByTables.{IsBrought}
 use Rattle.audit_counts.specs.declared.sent_packet.SentPacket.{SentPacket}
 use Rattle.audit_counts.specs.declared.packet_tally.PacketTally.{PacketTally}

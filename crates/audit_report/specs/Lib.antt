@@ -2,3 +2,6 @@ pub mod AuditText
 pub mod CycleText
 pub mod Passing
 pub mod AuditRun
+pub use Rattle.audit_counts.specs.Packets
+pub use Rattle.audit_counts.specs.Site
+pub use Rattle.audit_counts.specs.declared.sent_packet.SentPacket

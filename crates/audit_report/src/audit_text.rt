@@ -16,8 +16,9 @@ ghost use Rattle.audit_report.specs.AuditText.{unmatched_text};
 
 use crate::cycle_text::{ChannelKind, write_cycle};
 use crate::findings::Audit;
-use audit_counts::{Causes, FirstFew, PacketTally, Pairs, SentPacket, Unmatched};
-use audit_ways::{Figures, WayFigures};
+use audit_counts::{
+    Causes, Figures, FirstFew, PacketTally, Pairs, SentPacket, Unmatched, WayFigures,
+};
 use byte_io::{Sink, WriteFault, write_guid, write_number, write_port};
 use held_tables::HeldLid;
 use packet_walks::{Cause, End, Network};

@@ -1,8 +1,8 @@
 ghost use Rattle.std.specs.Prelude.{◌≡◌, ◌↔◌, IfOk, IsTrue};
 ghost use Rattle.fact_store.specs.View.{cells_of};
 ghost use Rattle.audit_channels.specs.Waiting.{NoneShorter};
-ghost use Rattle.audit_ways.specs.Figures.{figures_of};
-ghost use Rattle.audit_ways.specs.Ways.{AreKnownToArrive, AreWayFigures, loads_of};
+ghost use Rattle.audit_counts.specs.Figures.{figures_of};
+ghost use Rattle.audit_counts.specs.Ways.{AreKnownToArrive, AreWayFigures, loads_of};
 ghost use Rattle.audit_counts.specs.Packets.{packets_of};
 ghost use Rattle.audit_counts.specs.PacketTally.{IsTally};
 ghost use Rattle.audit_counts.specs.Unmatched.{IsUnmatched};
@@ -11,8 +11,10 @@ ghost use Rattle.audit_report.specs.Passing.{EachNodeIsKnown, IsCycle, IsFound};
 ghost use Rattle.audit_report.specs.Passing.{IsSound, IsWholeFor, Passes, PassesWithin, is_within};
 
 use audit_channels::{ChannelOrder, channel_order};
-use audit_counts::{PacketSurvey, PacketTally, Unmatched, disputed, sites, survey};
-use audit_ways::{Figures, WayFigures, figures_of_ways_known};
+use audit_counts::{
+    Figures, PacketSurvey, PacketTally, Unmatched, WayFigures, disputed, figures_of_ways_known,
+    sites, survey,
+};
 use fact_store::Refused;
 use held_tables::{Held, Subnet};
 use packet_walks::Network;

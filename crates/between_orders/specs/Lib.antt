@@ -4,3 +4,4 @@ pub mod GoalLaws
 pub mod HandedStages
 pub mod Orders
 pub mod TablesBetween
+pub use Rattle.ordered_steps.specs.Rightness

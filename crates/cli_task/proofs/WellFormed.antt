@@ -6,7 +6,7 @@ use Rattle.clap.specs.declared.parser.matches.ArgMatches.{ArgMatches}
 use Rattle.cli_arguments.specs.WellFormed.{HasItsWords, IsGiven, IsNumberWithin, IsRouting, IsWellFormed, NamesFiles, NamesOrder, NamesPlanning, NamesSeat}
 use Rattle.cli_arguments.specs.WellFormed.{facts, join, plan, order, audit, order_of, next, run, serve}
 use Rattle.cli_arguments.specs.Words.{files_named, has_conflict_of, is_guid, is_key, is_set, lacks_lanes, order_rule, word_named}
-use Rattle.audit_report.specs.declared.audit_run.AuditAsked.{AuditAsked}
+use Rattle.next_run.specs.AuditAsked.{AuditAsked}
 use Rattle.sm_cli.specs.declared.asked.RuleAsked.{RuleAsked}
 use Rattle.sm_cli.specs.declared.asked.RuleAsked.TheVariants.{UpDown, Spread, SpreadFromRoots, SpreadInOrder, Balance, BalanceInOrder}
 use Rattle.next_run.specs.Asked.{has_lanes, is_named}

@@ -12,15 +12,13 @@ use crate::option_values::{
 };
 use arrayvec::ArrayVec;
 use attr_codec::Lmc;
-use audit_report::AuditAsked;
 use clap::ArgMatches;
 use cli_arguments::argument_names::{
     ALL, ANSWERS_AS_ASKED, AUDIT, FACTS, FILE, GUID, JOIN, LANES, LAST_ORDER, NEXT, ORDER,
     ORDER_OF, PLAN, ROOTS, RUN, SCHEDULE, SERVE, TABLES, TOLD_ORDER, TOPOLOGY,
 };
 use cli_arguments::is_set;
-use lane_report::LaneAuditAsked;
-use next_run::{HeldOrder, StepAsked, StepLanes};
+use next_run::{AuditAsked, HeldOrder, LaneAuditAsked, StepAsked, StepLanes};
 use serve_task::Serving;
 use sm_cli::{Invocation, Output, RuleAsked};
 use smp_bytes::Generation;

@@ -10,8 +10,8 @@ use Rattle.fact_store.specs.View.{Facts, cells_of}
 use Rattle.subnet_view.specs.Reading.{Cells, switches}
 use Rattle.subnet_view.proofs.Apart.{contains_map}
 use Rattle.subnet_view.proofs.UsableSwitches.{switches_law}
-use Rattle.lid_assign.specs.Lids.{Given, IsNoRoom, lids, owner_of, top_of as lid_top}
-use Rattle.lid_assign.proofs.LidLaws.{lids_law}
+use Rattle.lft_blocks.specs.Lids.{Given, IsNoRoom, lids, owner_of, top_of as lid_top}
+use Rattle.lft_blocks.proofs.LidLaws.{lids_law}
 use Rattle.subnet_view.specs.declared.end_port.EndPort.{EndPort}
 use Rattle.subnet_view.specs.Routing.{Routing}
 use Rattle.lft_blocks.specs.Rule.{RuleValue}

@@ -11,3 +11,10 @@ pub mod OwnedLids
 pub mod PlanRanges
 pub mod SwitchIndices
 pub mod Wired
+pub use Rattle.lft_blocks.proofs.AttachmentSwitches
+pub use Rattle.lft_blocks.proofs.AttachmentTables
+pub use Rattle.lft_blocks.proofs.BlockLaws
+pub use Rattle.lft_blocks.proofs.HeldEntries
+pub use Rattle.lft_blocks.proofs.RisingLids
+pub use Rattle.lft_blocks.proofs.RulesRoute
+pub use Rattle.lft_blocks.proofs.TargetBits

@@ -10,18 +10,18 @@ use Rattle.subnet_view.specs.Graph.{edges_at, graph_of}
 use Rattle.subnet_view.specs.GraphLaws.{IsSwitch}
 use Rattle.subnet_view.specs.Components.{in_one_component}
 use Rattle.subnet_view.specs.Routing.{Routing, FollowsRule, Passes}
-use Rattle.updown_routes.proofs.ComponentCosts.{cost_in_component}
+use Rattle.lft_blocks.proofs.ComponentCosts.{cost_in_component}
 use Rattle.subnet_view.proofs.Graphs.{graph_law}
-use Rattle.updown_routes.proofs.LeastCosts.{no_cost_between}
-use Rattle.spread_labels.specs.declared.label.Mark.{Mark}
-use Rattle.spread_labels.specs.Labels.{candidates_by, marks}
-use Rattle.spread_routes.specs.Adapters.{adapters_of}
-use Rattle.spread_routes.specs.Rule.{Spreading, by_positions, position, taken}
+use Rattle.lft_blocks.proofs.LeastCosts.{no_cost_between}
+use Rattle.lft_blocks.specs.Mark.{Mark}
+use Rattle.lft_blocks.specs.Labels.{candidates_by, marks}
+use Rattle.lft_blocks.specs.Adapters.{adapters_of}
+use Rattle.lft_blocks.specs.SpreadRule.{Spreading, by_positions, position, taken}
 use Rattle.lft_blocks.specs.Rule.{RuleValue, routing_by, spread_in, up_and_down}
-use Rattle.spread_routes.specs.Spread.{grading_of, keys_by, number_there, spread_by}
-use Rattle.spread_routes.specs.SwitchOrder.{OrderValue}
+use Rattle.lft_blocks.specs.Spread.{grading_of, keys_by, number_there, spread_by}
+use Rattle.lft_blocks.specs.SwitchOrder.{OrderValue}
 use Rattle.lft_blocks.proofs.RulesRoute.{rules_are_routings}
-use Rattle.lid_assign.specs.Lids.{lids}
+use Rattle.lft_blocks.specs.Lids.{lids}
 use Rattle.lft_blocks.specs.LidNumbers.{lid_numbers}
 use Rattle.lft_blocks.specs.Plan.{lid_routing}
 

@@ -8,11 +8,11 @@ use Rattle.std.proofs.lemmas.Option.{same_Some}
 use Rattle.fact_store.specs.View.{Facts, cells_of}
 use Rattle.subnet_view.specs.declared.end_port.EndPort.{EndPort}
 use Rattle.subnet_view.proofs.Taken.{is_taken, taken_from}
-use Rattle.lid_assign.specs.Lids.{Given, IsNoRoom, lids, lmc_of, owner_of, rising_lids}
-use Rattle.lid_assign.proofs.HandOut.{PairsApart}
-use Rattle.lid_assign.proofs.LidLaws.{handed, pairs}
-use Rattle.lid_assign.proofs.Owners.{given-from_owner, owner-from_given}
-use Rattle.lid_assign.proofs.RisingLids.{rising_lids_law}
+use Rattle.lft_blocks.specs.Lids.{Given, IsNoRoom, lids, lmc_of, owner_of, rising_lids}
+use Rattle.lft_blocks.proofs.HandOut.{PairsApart}
+use Rattle.lft_blocks.proofs.LidLaws.{handed, pairs}
+use Rattle.lft_blocks.proofs.Owners.{given-from_owner, owner-from_given}
+use Rattle.lft_blocks.proofs.RisingLids.{rising_lids_law}
 use Rattle.held_tables.specs.declared.held.HeldLid.{HeldLid}
 use Rattle.held_tables.specs.Held.{LidRange, lid_at, lids_of}
 use Rattle.held_tables.specs.PlanTables.{owned_lids, owned_range, range_from}

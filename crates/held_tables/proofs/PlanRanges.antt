@@ -29,15 +29,15 @@ use Rattle.std.proofs.lemmas.Option.{same_Some}
 use Rattle.std.specs.List.{filter_map}
 use Rattle.std.specs.List.Sorted.{IsStrictlyIncreasing}
 use Rattle.std.proofs.lemmas.Nat.{pow_pos}
-use Rattle.lid_assign.specs.Ranges.{lmc_at}
-use Rattle.lid_assign.specs.Lids.{lids, owner_of, top_of, rising_lids, IsNoRoom}
-use Rattle.lid_assign.specs.LidLaws.{AreLids}
-use Rattle.lid_assign.specs.Claims.{room}
-use Rattle.lid_assign.proofs.FreeLids.{at_most}
-use Rattle.lid_assign.proofs.LidLaws.{lids_law}
-use Rattle.lid_assign.proofs.Owners.{given-from_owner}
-use Rattle.lid_assign.proofs.RisingLids.{rising_lids_law}
-use Rattle.lid_assign.proofs.Tops.{top_below}
+use Rattle.lft_blocks.specs.Ranges.{lmc_at}
+use Rattle.lft_blocks.specs.Lids.{lids, owner_of, top_of, rising_lids, IsNoRoom}
+use Rattle.lft_blocks.specs.LidLaws.{AreLids}
+use Rattle.lft_blocks.specs.Claims.{room}
+use Rattle.lft_blocks.proofs.FreeLids.{at_most}
+use Rattle.lft_blocks.proofs.LidLaws.{lids_law}
+use Rattle.lft_blocks.proofs.Owners.{given-from_owner}
+use Rattle.lft_blocks.proofs.RisingLids.{rising_lids_law}
+use Rattle.lft_blocks.proofs.Tops.{top_below}
 use Rattle.subnet_view.proofs.Apart.{contains_map}
 use Rattle.subnet_view.proofs.EndPortList.{end_ports_law}
 use Rattle.subnet_view.proofs.UsableSwitches.{switches_law}

@@ -9,3 +9,9 @@ pub mod PlanTables
 pub mod PlanRanges
 pub mod Switches
 pub mod Subnet
+pub use Rattle.lft_blocks.specs.Entries
+pub use Rattle.lft_blocks.specs.Lids
+pub use Rattle.lft_blocks.specs.Plan
+pub use Rattle.lft_blocks.specs.PlanText
+pub use Rattle.lft_blocks.specs.Rule
+pub use Rattle.lft_blocks.specs.WritesPart

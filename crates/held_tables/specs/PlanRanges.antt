@@ -4,7 +4,7 @@ use Rattle.std.specs.List.{AllByRecursion}
 use Rattle.std.specs.List.Sorted.{IsStrictlyIncreasing}
 use Rattle.hex.specs.Hex.{IsBytes}
 use Rattle.subnet_view.specs.declared.end_port.EndPort.{EndPort}
-use Rattle.lid_assign.specs.Lids.{Given, lmc_of, owner_of, top_of, rising_lids}
+use Rattle.lft_blocks.specs.Lids.{Given, lmc_of, owner_of, top_of, rising_lids}
 use Rattle.lft_blocks.specs.Plan.{SwitchTable, PlanValue}
 
 -- all LIDs of the end port whose first LID is `lid` are from 1 to 0xBFFF, and its GUID and port number are in range

@@ -5,8 +5,7 @@ ghost use Rattle.held_tables.specs.Held.{lids_of};
 ghost use Rattle.held_tables.specs.PlanTables.{blocks_from, blocks_of, owned_lids, owned_range, with_top};
 
 use crate::held::{HeldBlock, HeldLid, HeldSwitch, push_lids};
-use lft_blocks::Table;
-use lid_assign::LidMap;
+use lft_blocks::{LidMap, Table};
 use smp_bytes::Lid;
 use std::alloc::{AllocError, Global};
 

@@ -21,3 +21,13 @@ pub mod Triangle
 pub mod TriangleArrives
 pub mod WholeFabrics
 pub mod Written
+pub use Rattle.lid_assign.proofs.FreeLids
+pub use Rattle.lid_assign.proofs.HandOut
+pub use Rattle.lid_assign.proofs.LidLaws
+pub use Rattle.lid_assign.proofs.Owners
+pub use Rattle.lid_assign.proofs.RisingLids
+pub use Rattle.lid_assign.proofs.Tables
+pub use Rattle.lid_assign.proofs.Tops
+pub use Rattle.updown_routes.proofs.ComponentCosts
+pub use Rattle.updown_routes.proofs.LeastCosts
+pub use Rattle.spread_labels.proofs.TargetBits

@@ -10,3 +10,13 @@ pub mod Planning
 pub mod Rule
 pub mod TableRow
 pub mod WritesPart
+pub use Rattle.lid_assign.specs.Claims
+pub use Rattle.lid_assign.specs.LidLaws
+pub use Rattle.lid_assign.specs.Lids
+pub use Rattle.lid_assign.specs.Ranges
+pub use Rattle.spread_routes.specs.Adapters
+pub use Rattle.spread_routes.specs.Rule as SpreadRule
+pub use Rattle.spread_routes.specs.Spread
+pub use Rattle.spread_routes.specs.SwitchOrder
+pub use Rattle.spread_labels.specs.Labels
+pub use Rattle.spread_labels.specs.declared.label.Mark

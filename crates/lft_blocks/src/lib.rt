@@ -17,7 +17,7 @@ mod table_row;
 mod updown_table;
 
 pub use block::block_count;
-pub use lid_assign::LidFault as PlanFault;
+pub use lid_assign::{LidFault as PlanFault, LidMap};
 pub use order::switch_order;
 pub use plan::Plan;
 pub use plan_text::{write_block, write_lid, write_lids, write_plan, write_switch};

@@ -4,3 +4,8 @@ pub mod NextRun
 pub mod StepLoops
 pub mod StepOrderText
 pub mod StepVerdict
+pub use Rattle.between_orders.specs.Between
+pub use Rattle.between_orders.specs.GoalLaws
+pub use Rattle.between_orders.specs.HandedStages
+pub use Rattle.step_loops.specs.StepOrder
+pub use Rattle.lane_report.specs.AuditAsked

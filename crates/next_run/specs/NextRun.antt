@@ -15,7 +15,7 @@ use Rattle.tables_file.specs.PrintedTables.{next_text}
 use Rattle.next_tables.specs.SwitchPositions.{position_at}
 use Rattle.between_orders.specs.Between.{Goal, IsGoal}
 use Rattle.next_tables.specs.NextTables.{StepRuleValue, by_order, first_moved, next_tables, settled_first, value_of}
-use Rattle.ordered_steps.specs.Rightness.{are_right}
+use Rattle.between_orders.specs.Rightness.{are_right}
 use Rattle.plan_order.specs.PlanOrder.{positions_by}
 use Rattle.next_tables.specs.declared.step_fault.StepFault.{StepFault}
 use Rattle.next_tables.specs.declared.step_fault.StepFault.TheVariants as steps

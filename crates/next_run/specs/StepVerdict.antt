@@ -3,11 +3,11 @@ use Rattle.std.specs.Prelude.{◌≡◌, ℕ, Bool, false, List, [], ◌∷◌, 
 use Rattle.fact_store.specs.View.{Facts, cells_of}
 use Rattle.subnet_view.specs.Reading.{Cells}
 use Rattle.held_tables.specs.Held.{HeldPlan}
-use Rattle.audit_counts.specs.FirstFew.{Listed, all_listed}
-use Rattle.audit_report.specs.AuditRun.{most_lines}
+use Rattle.lane_report.specs.FirstFew.{Listed, all_listed}
+use Rattle.lane_report.specs.AuditRun.{most_lines}
 use Rattle.lanes_file.specs.Lanes.{LanesSaid}
-use Rattle.lane_channels.specs.AnyTables.{IsCycleByAny, IsSomeDropByAny, NoneShorterByAny}
-use Rattle.lane_channels.specs.declared.dropped.Dropped.{Dropped}
+use Rattle.lane_report.specs.AnyTables.{IsCycleByAny, IsSomeDropByAny, NoneShorterByAny}
+use Rattle.lane_report.specs.Dropped.{Dropped}
 use Rattle.lane_report.specs.declared.levels_missing.PacketPair.{PacketPair}
 use Rattle.lane_report.specs.LaneText.{lanes_text}
 use Rattle.lane_report.specs.LevelsMissing.{missing_levels}

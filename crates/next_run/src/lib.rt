@@ -10,4 +10,5 @@ mod step_order_text;
 mod step_verdict;
 
 pub use asked::{HeldOrder, StepAsked, StepLanes};
+pub use lane_report::{AuditAsked, LaneAuditAsked};
 pub use next_run::run_next;

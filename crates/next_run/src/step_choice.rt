@@ -9,12 +9,11 @@ ghost use Rattle.next_run.specs.Asked.{preferred_positions, rule_or};
 ghost use Rattle.next_run.specs.NextRun.{IsChoice, IsGoalFrom, choice_of};
 
 use crate::step_order_text::switches_by;
-use between_orders::{StepGoal, between};
+use between_orders::{StepGoal, are_right, between};
 use fact_store::Refused;
 use held_tables::Held;
 use lft_blocks::Rule;
 use next_tables::StepRule;
-use ordered_steps::are_right;
 use packet_walks::Network;
 use plan_order::plan_positions;
 use smp_bytes::Guid;

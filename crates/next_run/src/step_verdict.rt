@@ -6,12 +6,12 @@ ghost use Rattle.next_run.specs.StepVerdict.{IsFoundInStep, IsOrderInStep, IsSou
 ghost use Rattle.next_run.specs.StepVerdict.{verdict_text};
 
 use crate::loop_text::StepLoop;
-use audit_report::most_lines;
 use byte_io::{Sink, WriteFault};
 use fact_store::Refused;
 use held_tables::Held;
-use lane_channels::{LaneNetwork, LaneOrder, step_lane_order};
-use lane_report::{LaneFindings, pairs_without_level};
+use lane_report::{
+    LaneFindings, LaneNetwork, LaneOrder, most_lines, pairs_without_level, step_lane_order,
+};
 use lanes_file::Lanes;
 use packet_walks::Network;
 use std::alloc::Global;

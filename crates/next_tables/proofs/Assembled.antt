@@ -8,8 +8,8 @@ use Rattle.std.proofs.lemmas.List.FromFn.{get_or-map-range_with_len, length-map-
 use Rattle.std.specs.Option.{option_map_or}
 use Rattle.std.proofs.lemmas.Option.{get_or_from_slice_get, same_Some, slice_get-get_or}
 use Rattle.subnet_view.specs.Reading.{Cells, switches}
-use Rattle.lid_assign.specs.Lids.{greatest}
-use Rattle.lft_blocks.specs.Entries.{block_count}
+use Rattle.held_tables.specs.Lids.{greatest}
+use Rattle.held_tables.specs.Entries.{block_count}
 use Rattle.held_tables.specs.declared.held.HeldBlock.{HeldBlock}
 use Rattle.held_tables.specs.declared.held.HeldSwitch.{HeldSwitch}
 use Rattle.held_tables.specs.Held.{HeldPlan}

@@ -12,9 +12,9 @@ use Rattle.fact_store.specs.View.{Facts, cells_of, AreInRange}
 use Rattle.subnet_view.specs.declared.end_port.EndPort.{EndPort}
 use Rattle.subnet_view.specs.Reading.{Cells, switches}
 use Rattle.subnet_view.proofs.Members.{contains_here, contains_later}
-use Rattle.lft_blocks.specs.Entries.{block_count}
-use Rattle.lft_blocks.specs.Plan.{PlanValue, SwitchTable}
-use Rattle.lft_blocks.proofs.AttachmentTables.{switches_rise}
+use Rattle.held_tables.specs.Entries.{block_count}
+use Rattle.held_tables.specs.Plan.{PlanValue, SwitchTable}
+use Rattle.held_tables.proofs.AttachmentTables.{switches_rise}
 use Rattle.held_tables.specs.declared.held.HeldBlock.{HeldBlock}
 use Rattle.held_tables.specs.declared.held.HeldLid.{HeldLid}
 use Rattle.held_tables.specs.declared.held.HeldSwitch.{HeldSwitch}

@@ -8,9 +8,9 @@ use Rattle.std.proofs.lemmas.List.{length-map}
 use Rattle.std.proofs.lemmas.List.FromFn.{get_or-map-range_with_len}
 use Rattle.subnet_view.specs.declared.end_port.EndPort.{EndPort}
 use Rattle.subnet_view.specs.Reading.{Cells, switches}
-use Rattle.lft_blocks.specs.Entries.{block_count}
-use Rattle.lft_blocks.specs.Plan.{SwitchTable}
-use Rattle.lft_blocks.proofs.BlockLaws.{made_at}
+use Rattle.held_tables.specs.Entries.{block_count}
+use Rattle.held_tables.specs.Plan.{SwitchTable}
+use Rattle.held_tables.proofs.BlockLaws.{made_at}
 use Rattle.held_tables.specs.declared.held.HeldLid.{HeldLid}
 use Rattle.held_tables.specs.declared.held.HeldSwitch.{HeldSwitch}
 use Rattle.held_tables.specs.Held.{HeldPlan}

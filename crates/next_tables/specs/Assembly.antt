@@ -2,7 +2,7 @@
 use Rattle.std.specs.Prelude.{ℕ, suc, ◌+◌, ◌*◌, List, [], ◌∷◌, ◌++◌, Some, map, max, slice_index_or}
 use Rattle.std.specs.List.{range_with_len}
 use Rattle.subnet_view.specs.Reading.{Cells, switches}
-use Rattle.lft_blocks.specs.Entries.{block_count}
+use Rattle.held_tables.specs.Entries.{block_count}
 use Rattle.held_tables.specs.declared.held.HeldBlock.{HeldBlock}
 use Rattle.held_tables.specs.declared.held.HeldSwitch.{HeldSwitch}
 use Rattle.held_tables.specs.Held.{HeldPlan}

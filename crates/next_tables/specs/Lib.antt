@@ -9,3 +9,4 @@ pub mod NextTextIsRead
 pub mod OrderedEntries
 pub mod SettledStepLaws
 pub mod SettledEntries
+pub use Rattle.audit_channels.specs.Column

@@ -1,9 +1,9 @@
 -- The text of a step is read back as the step's tables.
 use Rattle.std.specs.Prelude.{◌≤◌, ℕ, List}
 use Rattle.fact_store.specs.View.{Facts, cells_of, AreInRange}
-use Rattle.lid_assign.specs.Lids.{IsNoRoom}
-use Rattle.lft_blocks.specs.Plan.{PlanValue, plan_of}
-use Rattle.lft_blocks.specs.Rule.{RuleValue}
+use Rattle.held_tables.specs.Lids.{IsNoRoom}
+use Rattle.held_tables.specs.Plan.{PlanValue, plan_of}
+use Rattle.held_tables.specs.Rule.{RuleValue}
 use Rattle.held_tables.specs.Held.{HeldPlan}
 use Rattle.held_tables.specs.PlanRanges.{IsPlanInRange}
 use Rattle.held_tables.specs.PlanTables.{held_plan}

@@ -16,6 +16,7 @@ mod step_rule;
 mod switch_positions;
 
 pub use assembly::{greater, most_blocks, tables_with};
+pub use audit_channels::edge_of;
 pub use entries_by_lid::{first_owner, no_entries};
 pub use step::next_tables;
 pub use step_fault::StepFault;

@@ -3,7 +3,7 @@ use Rattle.std.proofs.Common.{◌≡◌, ℕ, List, Some, refl, sym, ap, ◌∙�
 use Rattle.std.specs.Prelude.{slice_get, unwrap_or}
 use Rattle.fact_store.specs.View.{Facts, cells_of}
 use Rattle.subnet_view.specs.Reading.{switches}
-use Rattle.lft_blocks.proofs.AttachmentTables.{switches_rise}
+use Rattle.held_tables.proofs.AttachmentTables.{switches_rise}
 use Rattle.held_tables.specs.Held.{HeldPlan}
 use Rattle.held_tables.specs.Switches.{index_in}
 use Rattle.held_tables.specs.Tables.{owners_of}

@@ -7,7 +7,7 @@ use Rattle.subnet_view.specs.Reading.{Cells, switches}
 use Rattle.held_tables.specs.Held.{HeldPlan}
 use Rattle.held_tables.specs.Switches.{far_by}
 use Rattle.packet_walks.specs.Edges.{edges_of}
-use Rattle.audit_channels.specs.Column.{number_of}
+use Rattle.next_tables.specs.Column.{number_of}
 use Rattle.next_tables.specs.Mixtures.{TakesBy, WaitsInStep}
 use Rattle.next_tables.proofs.Waits.{no_cycle_in_step}
 use Rattle.next_tables.specs.OrderRule.{channel_number, number_over, numbers_by}

@@ -4,8 +4,7 @@ ghost use Rattle.fact_store.specs.View.{cells_of};
 ghost use Rattle.next_tables.specs.SwitchPositions.{position_at};
 ghost use Rattle.ordered_steps.specs.Rightness.{are_right, goes_well, is_right_column, leaves_up};
 
-use audit_channels::edge_of;
-use next_tables::{is_down, is_up};
+use next_tables::{edge_of, is_down, is_up};
 use packet_walks::{LidCursor, Network};
 use port_graph::Edge;
 use smp_bytes::Lid;

@@ -17,7 +17,7 @@ use Rattle.subnet_view.proofs.EndPortList.{end_ports_law}
 use Rattle.subnet_view.proofs.WireEnds.{linked, across_back}
 use Rattle.subnet_view.proofs.WireLaws.{wire_law}
 use Rattle.port_graph.specs.declared.edge.Edge.{Edge}
-use Rattle.lid_assign.specs.Lids.{IsNoRoom, lids, owner_of, top_of}
+use Rattle.held_tables.specs.Lids.{IsNoRoom, lids, owner_of, top_of}
 use Rattle.subnet_view.specs.SwitchEdges.{SwitchEdges}
 use Rattle.subnet_view.specs.Graph.{graph_of}
 use Rattle.subnet_view.specs.GraphLaws.{IsSwitch}
@@ -26,11 +26,11 @@ use Rattle.subnet_view.specs.Routing.{Routing, Passes, FollowsRule}
 use Rattle.subnet_view.proofs.Components.{component_itself, component_symm, component_trans, joined, rooted}
 use Rattle.subnet_view.proofs.Graphs.{edge_is_wire, edge_to_usable, graph_law, wire_end}
 use Rattle.subnet_view.proofs.GraphSwitches.{graph_guids, switch_usable, usable_switch}
-use Rattle.lft_blocks.specs.Rule.{RuleValue}
-use Rattle.lft_blocks.proofs.RulesRoute.{lids_are_routed}
-use Rattle.lft_blocks.specs.Entries.{attachment_of}
-use Rattle.lft_blocks.proofs.HeldEntries.{entry_of as planned_entry, entry_by_attachment}
-use Rattle.lft_blocks.proofs.AttachmentSwitches.{attachment_is_switch}
+use Rattle.held_tables.specs.Rule.{RuleValue}
+use Rattle.held_tables.proofs.RulesRoute.{lids_are_routed}
+use Rattle.held_tables.specs.Entries.{attachment_of}
+use Rattle.held_tables.proofs.HeldEntries.{entry_of as planned_entry, entry_by_attachment}
+use Rattle.held_tables.proofs.AttachmentSwitches.{attachment_is_switch}
 use Rattle.held_tables.specs.declared.held.HeldLid.{HeldLid}
 use Rattle.held_tables.specs.Held.{HeldPlan}
 use Rattle.held_tables.proofs.PlanRanges.{wire_small}
@@ -50,7 +50,7 @@ use Rattle.held_tables.proofs.OwnedLids.{line_owned}
 use Rattle.held_tables.proofs.HeldPlans.{made, entry_counts}
 use Rattle.held_tables.proofs.HeldTables.{get_mapped}
 use Rattle.packet_walks.proofs.PlanSteps.{contains_at, index_is, no_wire_at_0}
-use Rattle.lft_blocks.specs.Plan.{lid_routing}
+use Rattle.held_tables.specs.Plan.{lid_routing}
 
 -- the switch at which an end port lies, and the root of its component
 pub record HasRoot (cells : Cells) (e : EndPort) (r : ℕ) : Type 0 where

@@ -17,12 +17,12 @@ use Rattle.subnet_view.proofs.Members.{contains_here, contains_later}
 use Rattle.subnet_view.proofs.WireEnds.{linked, across_back}
 use Rattle.subnet_view.proofs.WireLaws.{wire_law}
 use Rattle.port_graph.specs.declared.edge.Edge.{Edge}
-use Rattle.lid_assign.specs.Lids.{lids, owner_of}
+use Rattle.held_tables.specs.Lids.{lids, owner_of}
 use Rattle.subnet_view.specs.Routing.{Routing}
 use Rattle.subnet_view.proofs.Graphs.{wire_end}
 use Rattle.subnet_view.proofs.GraphSwitches.{switch_usable}
-use Rattle.lft_blocks.specs.Entries.{attachment_of, port_to}
-use Rattle.lft_blocks.proofs.HeldEntries.{entry_of as planned_entry, entry_by_attachment}
+use Rattle.held_tables.specs.Entries.{attachment_of, port_to}
+use Rattle.held_tables.proofs.HeldEntries.{entry_of as planned_entry, entry_by_attachment}
 use Rattle.packet_walks.specs.Edges.{edge_to, edge_by}
 use Rattle.held_tables.specs.Switches.{far_at, far_to, far_of, row_of, index_in}
 use Rattle.held_tables.specs.declared.far_end.Far.{Far}

@@ -8,3 +8,7 @@ pub mod Network
 pub mod HopsByTables
 pub mod EndsBySwitch
 pub mod LidCursor
+pub use Rattle.held_tables.specs.Held
+pub use Rattle.held_tables.specs.Switches
+pub use Rattle.held_tables.specs.Tables
+pub use Rattle.held_tables.specs.declared.far_end.Far

@@ -6,3 +6,4 @@ pub mod Bounds
 pub mod Whole
 pub mod Changed
 pub mod SetLaws
+pub use Rattle.lft_blocks.proofs.Reached

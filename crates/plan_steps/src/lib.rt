@@ -12,5 +12,6 @@ mod step;
 
 pub use bound::most_steps;
 pub use carried::PortRead;
+pub use lft_blocks::{Plan, PlanFault, Planning};
 pub use phase::{Phase, phases};
 pub use step::Step;

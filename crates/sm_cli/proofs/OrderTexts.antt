@@ -35,7 +35,7 @@ use Rattle.spread_routes.proofs.Names.{grows}
 use Rattle.lft_blocks.specs.PlanText.{plan_text}
 use Rattle.lft_blocks.specs.Rule.{order_of}
 use Rattle.lft_blocks.proofs.RulesRoute.{orders_hold}
-use Rattle.held_tables.proofs.PlanRanges.{switch_small}
+use Rattle.tables_file.proofs.PlanRanges.{switch_small}
 use Rattle.roots_file.specs.Line.{root_of, root_on}
 use Rattle.roots_file.specs.Reading.{is_among, roots_of, with_lines}
 use Rattle.sm_cli.specs.OrderText.{order_line, order_text}

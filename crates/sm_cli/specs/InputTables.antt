@@ -2,7 +2,7 @@
 use Rattle.std.specs.Prelude.{◌≡◌, ◌⊎◌, ◌+◌, ℕ, List, None, Some}
 use Rattle.byte_io.specs.Source.{SourceState}
 use Rattle.record_file.specs.Whole.{IsReadWhole, FailsToRead}
-use Rattle.held_tables.specs.Held.{HeldPlan}
+use Rattle.tables_file.specs.Held.{HeldPlan}
 use Rattle.tables_file.specs.Reading.{first_fault, held_of}
 use Rattle.tables_file.specs.TablesTextFault.{TablesTextFault as TablesFault}
 use Rattle.text_words.specs.declared.lines_fault.LinesFault.TheVariants as wrong

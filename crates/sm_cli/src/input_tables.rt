@@ -9,12 +9,11 @@ use crate::inputs::InputReader;
 use crate::text_fault::TextFault;
 use byte_io::Source;
 use fact_store::Store;
-use held_tables::Held;
 use record_file::read_whole;
 use smp_bytes::{Generation, Guid};
 use std::alloc::Global;
 use subnet_view::is_usable;
-use tables_file::parse;
+use tables_file::{Held, parse};
 
 /// What a text of tables and the files after it say.
 #[derive(Drop)]

@@ -11,7 +11,7 @@ use Rattle.plan_steps.specs.Bound.{most_steps}
 use Rattle.plan_steps.specs.LidSteps.{own_lid}
 use Rattle.plan_steps.specs.Phase.{Phase}
 use Rattle.plan_steps.proofs.Bounds.{phase_bound_law}
-use Rattle.lft_blocks.specs.Plan.{plan_of}
+use Rattle.plan_steps.specs.Plan.{plan_of}
 use Rattle.request_table.proofs.Indices.{some_is}
 use Rattle.sm_state.specs.declared.state.SmState.TheVariants.{Master}
 use Rattle.sm_state.specs.Standing.{is_in}

@@ -16,10 +16,10 @@ use Rattle.sweep.specs.declared.answer.Answer.{Answer}
 use Rattle.sweep.specs.declared.fault.SweepFault.{SweepFault}
 use Rattle.sweep.specs.Replies.{judged}
 use Rattle.sweep.specs.Sweep.{Sweep, timeout_fault}
-use Rattle.lft_blocks.specs.Plan.{plan_of}
+use Rattle.plan_steps.specs.Plan.{plan_of}
 use Rattle.sm_manager.specs.Manager.{Manager, Writing, new_manager, begin_fault, after_begin_sweep, taken_of}
 use Rattle.sm_manager.specs.declared.fault.ManagerFault.TheVariants.{SequenceSpent}
-use Rattle.lft_blocks.proofs.Reached.{every_packet_arrives}
+use Rattle.plan_steps.proofs.Reached.{every_packet_arrives}
 use Rattle.sm_manager.specs.declared.outgoing.Outgoing.{Outgoing}
 use Rattle.sm_manager.specs.declared.pending.Pending.{Pending}
 use Rattle.sm_manager.specs.Packets.{Called, refused, done, answered_by, sweep_answered, request_answered, after_request, pending_for, unless_spent, packet_taken, sweep_timed_out, sweep_gave_up, request_gave_up, after_timeout, is_for_sweep, is_info_request}

@@ -10,12 +10,12 @@ use Rattle.sweep.specs.declared.fault.SweepFault.{SweepFault}
 use Rattle.sweep.specs.Replies.{judged, sightings_by}
 use Rattle.sweep.specs.Sweep.{Sweep}
 use Rattle.lid_assign.specs.Lids.{IsNoRoom}
-use Rattle.lft_blocks.specs.Arrival.{EveryPacketArrives}
-use Rattle.lft_blocks.specs.Plan.{plan_of}
+use Rattle.plan_steps.specs.Arrival.{EveryPacketArrives}
+use Rattle.plan_steps.specs.Plan.{plan_of}
 use Rattle.sm_manager.specs.Manager.{Manager, new_manager, begin_fault, after_begin_sweep, after_raise_floor, after_merge, after_take_outgoing}
 use Rattle.sm_manager.specs.Election.{after_handover, handover_fault, poll_fault, after_poll}
 use Rattle.sm_manager.specs.Packets.{after_packet, after_timeout, is_for_sweep, is_info_request}
-use Rattle.lft_blocks.specs.Planning.{Planning}
+use Rattle.plan_steps.specs.Planning.{Planning}
 use Rattle.sm_state.specs.declared.conduct.Conduct.{Conduct}
 use Rattle.sm_manager.specs.Traps.{represses}
 use Rattle.sm_manager.specs.PlanFaults.{writing_fault}

@@ -16,7 +16,7 @@ use Rattle.sm_state.specs.contracts.standing.Standing as standing
 use Rattle.plan_steps.specs.Phase.{Phase}
 use Rattle.plan_steps.specs.contracts.phase.Phase as phase
 use Rattle.sm_manager.specs.Manager.{Manager, Writing}
-use Rattle.lft_blocks.specs.Planning.{Planning, planning_code}
+use Rattle.plan_steps.specs.Planning.{Planning, planning_code}
 
 -- a code of writings, made of the codes of their parts
 abbrev pub writing_code : Coded Writing

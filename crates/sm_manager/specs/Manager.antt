@@ -16,7 +16,7 @@ use Rattle.sm_manager.specs.declared.progress.Progress.TheVariants.{Never, Runni
 use Rattle.sm_state.specs.declared.conduct.Conduct.{Conduct}
 use Rattle.sm_state.specs.declared.election.SeenManager.{SeenManager}
 use Rattle.sm_state.specs.declared.standing.Standing.{Standing}
-use Rattle.lft_blocks.specs.Planning.{Planning}
+use Rattle.plan_steps.specs.Planning.{Planning}
 use Rattle.sm_state.specs.Conduct.{is_live}
 use Rattle.sm_state.specs.Election.{sweep_verdict}
 use Rattle.sm_state.specs.Standing.{active_once_more, info_of, moved_by, new_standing}

@@ -9,7 +9,7 @@ use Rattle.sm_manager.specs.declared.pending.Pending.{Pending}
 use Rattle.sm_manager.specs.CallLists.{Call, BeginSweep, WriteSteps, Take, Packet, Timeout, Raise, Merge, Poll, Handover, after_call, after_calls}
 use Rattle.sm_manager.specs.Manager.{Manager, new_manager}
 use Rattle.sm_manager.specs.Packets.{is_for_sweep, is_info_request, pending_for, request_answered}
-use Rattle.lft_blocks.specs.Planning.{Planning}
+use Rattle.plan_steps.specs.Planning.{Planning}
 use Rattle.sm_state.specs.declared.conduct.Conduct.{Conduct}
 use Rattle.sm_manager.specs.PlanFaults.{writing_fault}
 use Rattle.sm_manager.specs.ManagerRequests.{counts}

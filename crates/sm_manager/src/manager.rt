@@ -1,7 +1,7 @@
 ghost use Rattle.std.specs.Prelude.{◌≡◌, IfOk, OnOk, OnErr, slice_get, ◌-◌};
 ghost use Rattle.fact_store.specs.View.{cells_of};
-ghost use Rattle.lft_blocks.specs.Arrival.{EveryPacketArrives};
-ghost use Rattle.lft_blocks.specs.Plan.{plan_of};
+ghost use Rattle.plan_steps.specs.Arrival.{EveryPacketArrives};
+ghost use Rattle.plan_steps.specs.Plan.{plan_of};
 ghost use Rattle.sm_manager.specs.Manager.{begin_fault, after_raise_floor, after_merge, new_manager};
 ghost use Rattle.sm_manager.specs.Manager.{outstanding, progress_of, after_begin_sweep, after_take_outgoing};
 ghost use Rattle.sm_manager.specs.Manager.{is_running, silent_in};
@@ -17,7 +17,7 @@ use crate::progress::Progress;
 use crate::writing::Writing;
 use attr_codec::Priority;
 use fact_store::Store;
-use lft_blocks::{Plan, PlanFault, Planning};
+use plan_steps::{Plan, PlanFault, Planning};
 use sm_state::{Conduct, SeenManager, SmState, Standing};
 use smp_bytes::{Generation, Guid, PortNum};
 use std::alloc::Global;

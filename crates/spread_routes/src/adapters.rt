@@ -1,6 +1,6 @@
 //! The adapters at switches.
 ghost use Rattle.std.specs.Prelude.{◌≡◌, IfOk};
-ghost use Rattle.fact_store.specs.View.{cells_of};
+ghost use Rattle.subnet_view.specs.View.{cells_of};
 ghost use Rattle.spread_labels.specs.Level.{greatest};
 ghost use Rattle.subnet_view.specs.Reading.{switches};
 ghost use Rattle.spread_routes.specs.Adapters.{adapters_at, adapters_of, has_adapter_at};

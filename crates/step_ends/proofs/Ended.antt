@@ -28,7 +28,7 @@ use Rattle.next_tables.proofs.Plain.{dropped, plain, plain_after, plain_taken}
 use Rattle.next_tables.proofs.StepLaws.{steps_end_in_the_plan}
 use Rattle.next_tables.proofs.Steps.{at_index, next_deliver_or_drop, planned_there}
 use Rattle.next_tables.proofs.Whole.{entry_next, is_next, kept_owners, owners_next, top_next}
-use Rattle.between_orders.proofs.SameTables.{AreAlikeAt, next_same}
+use Rattle.next_run.proofs.SameTables.{AreAlikeAt, next_same}
 use Rattle.step_ends.specs.StepEnds.{DeliversWhatTablesCan, MeetAtMost, StepsEnd}
 
 -- where a LID has a keeper, it is held by that end port alone

@@ -6,8 +6,8 @@ use Rattle.held_tables.specs.Held.{HeldPlan}
 use Rattle.plan_order.specs.PlanOrder.{positions_by}
 use Rattle.next_tables.specs.SwitchPositions.{position_at}
 use Rattle.ordered_steps.specs.Rightness.{are_right}
-use Rattle.between_orders.specs.Between.{Goal}
-use Rattle.between_orders.proofs.OneGoal.{one_goal}
+use Rattle.next_run.specs.Between.{Goal}
+use Rattle.next_run.proofs.OneGoal.{one_goal}
 use Rattle.next_run.specs.NextRun.{IsGoalFrom, next_towards}
 use Rattle.step_ends.specs.StepLaws.{StepsHaveOneResult}
 

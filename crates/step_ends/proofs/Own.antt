@@ -52,7 +52,7 @@ use Rattle.step_ends.proofs.Alone.{each_alone}
 use Rattle.step_ends.proofs.Last.{AreLast, EachAlone, way_or_none}
 use Rattle.step_ends.proofs.Reached.{owner_listed}
 use Rattle.step_ends.proofs.Steps.{in_the_end, steps}
-use Rattle.between_orders.proofs.SameTables.{same_mapped, table_by}
+use Rattle.next_run.proofs.SameTables.{same_mapped, table_by}
 use Rattle.step_ends.proofs.Texts.{printed_is}
 
 -- a way by wires stays in a component

@@ -24,7 +24,7 @@ use Rattle.step_ends.proofs.Ended.{steps_end}
 use Rattle.step_ends.proofs.Last.{AreLast, last_same, settled_last}
 use Rattle.step_ends.proofs.OrderedLast.{after_steps, onward, ordered_last, right_after}
 use Rattle.step_ends.proofs.Reached.{plans_deliver_what_tables_can}
-use Rattle.between_orders.proofs.SameTables.{AreAlikeAt, next_same}
+use Rattle.next_run.proofs.SameTables.{AreAlikeAt, next_same}
 
 once_more : (a b : ℕ) → max (max a b) b ≡ max a b
 once_more a b = omega arith

@@ -35,9 +35,9 @@ use Rattle.next_tables.specs.SwitchPositions.{switch_at}
 use Rattle.next_tables.specs.SettledRule.{step_at}
 use Rattle.next_tables.proofs.Entries.{member}
 use Rattle.next_tables.proofs.Hops.{placed}
-use Rattle.between_orders.specs.GoalLaws.{IsGoalLine}
-use Rattle.between_orders.specs.HandedStages.{IsOwnLid}
-use Rattle.between_orders.proofs.Arrivals.{arrives_at, own_switch}
+use Rattle.next_run.specs.GoalLaws.{IsGoalLine}
+use Rattle.next_run.specs.HandedStages.{IsOwnLid}
+use Rattle.next_run.proofs.Arrivals.{arrives_at, own_switch}
 use Rattle.step_ends.specs.WholePlans.{PlansAreWhole, PlansGiveOwnLids}
 use Rattle.step_ends.proofs.Alone.{each_alone, given as given_line, line_there}
 use Rattle.step_ends.proofs.Reached.{plans_deliver_what_tables_can}

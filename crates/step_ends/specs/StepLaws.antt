@@ -7,7 +7,7 @@ use Rattle.held_tables.specs.Held.{HeldPlan}
 use Rattle.held_tables.specs.PlanTables.{planned}
 use Rattle.ordered_steps.specs.Rightness.{are_right}
 use Rattle.plan_order_laws.specs.PlanLaws.{plan_position}
-use Rattle.between_orders.specs.Between.{Goal}
+use Rattle.next_run.specs.Between.{Goal}
 use Rattle.next_tables.specs.SwitchPositions.{position_at}
 use Rattle.next_run.specs.StepLoops.{IsLoopInStep}
 use Rattle.next_run.specs.NextRun.{IsGoalOf, IsNextStep, next_towards, stepped}

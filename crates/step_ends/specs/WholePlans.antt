@@ -7,7 +7,7 @@ use Rattle.lid_assign.specs.Lids.{IsNoRoom}
 use Rattle.lft_blocks.specs.Plan.{plan_of}
 use Rattle.lft_blocks.specs.Rule.{RuleValue}
 use Rattle.held_tables.specs.PlanTables.{held_plan}
-use Rattle.between_orders.specs.HandedStages.{HaveOwnLids, IsWholePlan}
+use Rattle.next_run.specs.HandedStages.{HaveOwnLids, IsWholePlan}
 
 -- if facts are in range and have room, their plan is whole (`IsWholePlan`)
 abbrev pub PlansAreWhole : Type 0

@@ -12,3 +12,4 @@ pub mod SwitchEdges
 pub mod SwitchGraph
 pub mod WireEnds
 pub mod Wires
+pub use Rattle.fact_store.specs.View

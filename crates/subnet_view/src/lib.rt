@@ -15,6 +15,7 @@ mod wire_table;
 
 pub use end_port::{EndPort, count_end_ports, end_ports, is_end_port};
 pub use end_port_after::next_end_port;
+pub use fact_store::Refused;
 pub use reading::port_count;
 pub use switch::{is_usable, switches, usable_guid};
 pub use switch_graph::SwitchGraph;

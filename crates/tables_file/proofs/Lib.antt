@@ -5,3 +5,4 @@ pub mod Printed
 pub mod ReadRanges
 pub mod TablesText
 pub mod WordsPrinted
+pub use Rattle.held_tables.proofs.PlanRanges

@@ -5,7 +5,7 @@ use Rattle.std.specs.List.{AllByRecursion}
 use Rattle.hex.specs.Hex.{encode_lower}
 use Rattle.smp_bytes.specs.Text.{guid_text, port_text}
 use Rattle.subnet_view.specs.declared.end_port.EndPort.{EndPort}
-use Rattle.lft_blocks.specs.PlanText.{lid_line, switch_line, block_line}
+use Rattle.held_tables.specs.PlanText.{lid_line, switch_line, block_line}
 use Rattle.text_words.specs.Printed.{line_text}
 use Rattle.text_words.proofs.Digits.{is_below}
 use Rattle.text_words.proofs.NumbersPrinted.{count_is_read, guid_is_read}

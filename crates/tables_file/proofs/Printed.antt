@@ -8,10 +8,10 @@ use Rattle.text_words.specs.Text.{lines}
 use Rattle.subnet_view.specs.declared.end_port.EndPort.{EndPort}
 use Rattle.std.proofs.lemmas.Bool.{cond_both}
 use Rattle.std.specs.Prelude.{◌==◌}
-use Rattle.lid_assign.specs.Lids.{Given, owner_of, lmc_of, top_of, rising_lids}
-use Rattle.lid_assign.proofs.RisingLids.{rising_lids_law}
-use Rattle.lft_blocks.specs.Plan.{SwitchTable, PlanValue}
-use Rattle.lft_blocks.specs.PlanText.{lid_line, owner_line, lids_text, switch_line, block_line, blocks_text, table_text, plan_text}
+use Rattle.held_tables.specs.Lids.{Given, owner_of, lmc_of, top_of, rising_lids}
+use Rattle.held_tables.proofs.RisingLids.{rising_lids_law}
+use Rattle.held_tables.specs.Plan.{SwitchTable, PlanValue}
+use Rattle.held_tables.specs.PlanText.{lid_line, owner_line, lids_text, switch_line, block_line, blocks_text, table_text, plan_text}
 use Rattle.held_tables.specs.declared.held.HeldLid.{HeldLid}
 use Rattle.held_tables.specs.declared.held.HeldSwitch.{HeldSwitch}
 use Rattle.held_tables.specs.declared.held.HeldBlock.{HeldBlock}

@@ -4,3 +4,4 @@ pub mod Reads
 pub mod TablesLine
 pub mod PrintedTables
 pub mod TablesTextFault
+pub use Rattle.held_tables.specs.Held

@@ -9,6 +9,7 @@ mod reading;
 mod tables_line;
 mod tables_text_fault;
 
+pub use held_tables::Held;
 pub use printed_tables::{write_next, write_tables};
 pub use reading::parse;
 pub use tables_text_fault::{TablesLineFault, TablesTextError, TablesTextFault};

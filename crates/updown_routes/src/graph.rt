@@ -1,5 +1,5 @@
 ghost use Rattle.std.specs.Prelude.{◌≡◌, ◌<◌, IfOk, length, map, slice_get};
-ghost use Rattle.fact_store.specs.View.{cells_of};
+ghost use Rattle.subnet_view.specs.View.{cells_of};
 ghost use Rattle.subnet_view.specs.Graph.{graph_of, guids_of};
 ghost use Rattle.subnet_view.specs.GraphLaws.{IsGraph};
 ghost use Rattle.subnet_view.specs.Components.{root_of};
@@ -7,12 +7,11 @@ ghost use Rattle.subnet_view.specs.SwitchGraph.{AreEdgesAt, IsIndexIn, LeadBelow
 ghost use Rattle.updown_routes.specs.Ranks.{rank_of};
 
 use crate::rank::ranks;
-use fact_store::Refused;
 use port_graph::Edge;
 use smp_bytes::Guid;
 use std::alloc::{AllocError, Global};
 use std::marker::Model;
-use subnet_view::{SwitchGraph, Wires};
+use subnet_view::{Refused, SwitchGraph, Wires};
 
 /// The usable switches of a subnet, the wires between them, and their ranks.
 #[derive(Drop)]

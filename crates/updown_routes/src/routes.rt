@@ -7,11 +7,11 @@ ghost use Rattle.updown_routes.specs.Ranks.{slopes_of};
 use crate::graph::Graph;
 use crate::positions::{order, positions};
 use crate::up_down_edges::UpDownEdges;
-use fact_store::Refused;
 use port_graph::next_ports_between;
 use smp_bytes::{Guid, PortNum};
 use std::alloc::{AllocError, Global};
 use std::marker::Model;
+use subnet_view::Refused;
 
 /// The next port of each switch of a graph towards each other switch.
 #[derive(Drop)]

@@ -1,6 +1,6 @@
 use Rattle.std.proofs.Common.{◌≡◌, ◌++◌, drop}
 use Rattle.std.specs.List.{filter_map, flat_map}
-use Rattle.lid_assign.specs.Lids.{rising_lids}
+use Rattle.lft_blocks.specs.Lids.{rising_lids}
 use Rattle.held_tables.specs.Held.{lids_of}
 use Rattle.held_tables.specs.PlanTables.{owned_lids, owned_range}
 use Rattle.held_tables.proofs.plan_tables.owned_lids.Given as goal

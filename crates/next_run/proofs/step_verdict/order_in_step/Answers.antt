@@ -1,10 +1,10 @@
 -- There is no loop on one lane, and all packets have lanes.
 use Rattle.std.proofs.Common.{◌≡◌, ℕ, List, [], ◌∷◌, None, subst, sym, arith}
 use Rattle.fact_store.specs.View.{cells_of}
-use Rattle.lane_channels.proofs.LaneLaws.{all_carried}
-use Rattle.lane_channels.proofs.StepLaws.{one_lane_suffices_in_step}
-use Rattle.lane_channels.specs.AnyTables.{IsCycleByAny, IsSomeDropByAny, NoneShorterByAny}
-use Rattle.lane_channels.specs.LaneNetwork.{SeenByLane}
+use Rattle.lane_report.proofs.LaneLaws.{all_carried}
+use Rattle.lane_report.proofs.StepLaws.{one_lane_suffices_in_step}
+use Rattle.lane_report.specs.AnyTables.{IsCycleByAny, IsSomeDropByAny, NoneShorterByAny}
+use Rattle.lane_report.specs.LaneNetwork.{SeenByLane}
 use Rattle.lane_report.specs.LaneRun.{seen_of}
 use Rattle.next_run.specs.StepLoops.{IsCycleInStep}
 use Rattle.next_run.specs.StepVerdict.{IsOrderInStep}

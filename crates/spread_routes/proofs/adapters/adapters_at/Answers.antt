@@ -1,7 +1,7 @@
 use Rattle.std.proofs.Common.{◌≡◌, ◌+◌, Bool, true, false, sym, ap, ◌∙◌, arith, cond, add-one, length}
 use Rattle.std.specs.Prelude.{filter}
 use Rattle.std.specs.List.{range_with_len}
-use Rattle.fact_store.specs.View.{cells_of}
+use Rattle.subnet_view.specs.View.{cells_of}
 use Rattle.spread_routes.specs.Adapters.{has_adapter_at}
 use Rattle.spread_routes.proofs.AdapterCounts.{count_more}
 use Rattle.spread_routes.proofs.adapters.adapters_at.Goals as goal

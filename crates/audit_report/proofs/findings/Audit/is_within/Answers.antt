@@ -1,8 +1,8 @@
 -- The figures of the loads are those of what was audited.
 use Rattle.std.proofs.Common.{◌∙◌, ap}
 use Rattle.fact_store.specs.View.{cells_of}
-use Rattle.audit_ways.specs.Figures.{figures_of}
-use Rattle.audit_ways.specs.Ways.{loads_of}
+use Rattle.audit_counts.specs.Figures.{figures_of}
+use Rattle.audit_counts.specs.Ways.{loads_of}
 use Rattle.audit_report.specs.Passing.{Audited, is_within}
 use Rattle.audit_report.proofs.findings.Audit.is_within.Goals as goal
 

@@ -1,8 +1,8 @@
 -- The plan is that of the store, and by it packets arrive.
 use Rattle.std.proofs.Common.{ap, ◌∙◌, subst}
 use Rattle.fact_store.specs.View.{cells_of}
-use Rattle.lft_blocks.specs.Arrival.{EveryPacketArrives}
-use Rattle.lft_blocks.specs.Plan.{plan_of}
+use Rattle.plan_steps.specs.Arrival.{EveryPacketArrives}
+use Rattle.plan_steps.specs.Plan.{plan_of}
 use Rattle.sm_manager.specs.Manager.{Manager}
 use Rattle.sm_manager.proofs.manager.Manager.plan.Goals as goal
 

@@ -2,7 +2,7 @@
 use Rattle.std.proofs.Common.{◌≡◌, List, Result, Ok, false, sym, ap, ◌∙◌, subst}
 use Rattle.std.proofs.lemmas.Result.{err_from_is_err_and}
 use Rattle.std.specs.Prelude.{IfOk}
-use Rattle.lft_blocks.specs.Plan.{plan_of}
+use Rattle.plan_steps.specs.Plan.{plan_of}
 use Rattle.fact_store.specs.View.{cells_of}
 use Rattle.plan_steps.specs.Phase.{Phase, phases_of}
 use Rattle.sm_manager.specs.Manager.{Manager, Writing}
