@@ -9,8 +9,8 @@ use std::alloc::{AllocError, Global};
 /// Returns numbers of channels that rise along the route of every packet, whether or not an end port holds its LID.
 /// If there are no such numbers, returns a shortest credit loop.
 ///
-/// A channel is a wire between usable switches, taken in one direction. A channel's number is 256 times the index of
-/// the switch that it leaves, plus the port by which it leaves.
+/// A channel is a wire between usable switches, taken in one direction. If it leaves the switch with index `i` by port
+/// `p`, its number is 256 * `i` + `p`.
 ///
 /// Takes the time of `order_channels`, and that of `LidCursor::go_to` for every 64 LIDs up to the greatest top of a
 /// usable switch. Looks at each switch for each of these LIDs. If a switch forwards packets for the LID otherwise than

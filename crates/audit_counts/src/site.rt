@@ -217,8 +217,8 @@ fn root_at(
     roots[index]
 }
 
-/// Returns the node of `port` if it is a usable switch. Otherwise returns the usable switch to which the wire of
-/// `port` leads, or `None` if this wire leads to no usable switch or `port` has no wire.
+/// Returns the node of `port` if it is a usable switch. Otherwise returns the usable switch at the other end of the
+/// wire of `port`, or `None` if `port` has no wire or if there is no usable switch.
 fn switch_of(wires: &Wires, port: &EndPort) -> Option<Guid>
     ensures { result ≡ switch_of (cells_of wires.now) port.now }
 {

@@ -14,7 +14,7 @@ use smp_bytes::{Guid, PortNum};
 /// How the channels of a credit loop are numbered.
 #[derive(Clone, Copy, Debug, PartialEq, Eq)]
 pub enum ChannelKind {
-    /// The number of a channel is 256 times the index of the switch that it leaves, plus the port by which it leaves.
+    /// A channel that leaves the switch with index `i` by port `p` has the number 256 * `i` + `p`.
     OnOneLane,
     /// The number of a channel is 16 times its number on one lane, plus its lane.
     ByLane,

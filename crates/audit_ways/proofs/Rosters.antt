@@ -52,7 +52,8 @@ module _ (roster : List Sender) (e : EndPort) where
       cc in subst (λ (k : ℕ). LeadsTo roster e (get_or roster k d).far) same (found_at j d within (found d))
   one_found (Err j) i d within found is = absurd (cc)
 
-  nowhere : (i : ℕ) → IsPartitionPoint (λ (s : Sender). node_port_cmp (port_of s) sought ≡ Less) (λ (s : Sender). node_port_cmp (port_of s) sought ≡ Greater) roster i
+  nowhere : (i : ℕ)
+      → IsPartitionPoint (λ (s : Sender). node_port_cmp (port_of s) sought ≡ Less) (λ (s : Sender). node_port_cmp (port_of s) sought ≡ Greater) roster i
       → (s : Sender) → Contains roster s → is_same_end e s.port ≡ true → ⊥
   nowhere i parts s h same =
       let at = get_or roster h.0 s in

@@ -35,7 +35,7 @@ pub struct HeldBlock {
     /// The index of the block's switch among the held switches.
     pub switch: usize,
     /// The number of the block, at most 767 in the tables of a text or a plan. The block has the entries for 64
-    /// consecutive LIDs, the first of which is 64 times this number.
+    /// consecutive LIDs, starting with 64 times this number.
     pub number: u16,
     /// For each of the 64 LIDs, in ascending order, the outgoing port, or 255 if there is none.
     pub entries: [u8; 64],
@@ -172,8 +172,8 @@ fn push_range(lids: &mut Vec<HeldLid>, range: HeldRange) -> Result<(), AllocErro
     push_lids(lids, &first, lmc)
 }
 
-/// Appends to `lids` 2^`lmc` consecutive LIDs, the first of which is that of `first`, each with the end port of
-/// `first`. The LID of `first` must be below 49,152.
+/// Appends to `lids` 2^`lmc` consecutive LIDs, starting with that of `first`, each with the end port of `first`.
+/// The LID of `first` must be below 49,152.
 pub(crate) fn push_lids(
     lids: &mut Vec<HeldLid>,
     first: &HeldLid,

@@ -4,8 +4,7 @@ use crate::held::{HeldLid, HeldSwitch};
 use attr_codec::Lmc;
 use std::marker::Model;
 
-/// The 2^`lmc` consecutive LIDs of an end port, the first of which is that of `first`. The last LID is at most
-/// 49,151.
+/// The 2^`lmc` consecutive LIDs of an end port, starting with that of `first`. The last LID is at most 49,151.
 #[derive(Clone, Copy)]
 pub struct HeldRange {
     pub first: HeldLid,

@@ -21,8 +21,8 @@ pub(crate) fn owned_lids(alloc: Global, map: &LidMap) -> Result<Vec<HeldLid>, Al
     Ok(lids)
 }
 
-/// If an end port owns `lid`, appends to `lids` as many consecutive LIDs as this end port has, the first of which is
-/// `lid`, each with this end port. Otherwise appends none.
+/// If an end port owns `lid`, appends to `lids` as many consecutive LIDs, starting with `lid`, as this end port has,
+/// each with this end port. Otherwise appends none.
 fn push_owned(lids: &mut Vec<HeldLid>, map: &LidMap, lid: Lid) -> Result<(), AllocError>
     ensures { OnOk result (lids.new.items
         ≡ lids.old.items ++ option_map_or lids_of (owned_range map.now lid) []) }

@@ -20,7 +20,7 @@ pub(crate) struct RowSender {
 /// The end ports whose packets may lack a service level for one of 64 LIDs in a row.
 #[derive(Drop)]
 pub(crate) struct LevelRow {
-    /// The number of the block of LIDs: 64 consecutive LIDs, the first of which is 64 times this number.
+    /// The number of the block of LIDs: 64 consecutive LIDs, starting with 64 times this number.
     pub number: u16,
     /// The end ports that have no block with a level for each of these LIDs, in the order of the sites.
     pub senders: Vec<RowSender>,

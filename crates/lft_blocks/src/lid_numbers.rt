@@ -1,4 +1,4 @@
-//! A number for each LID, by which the LIDs take turns among the ports of a switch.
+//! A number for each LID. By these numbers, LIDs take turns among the ports of a switch.
 ghost use Rattle.std.specs.Prelude.{◌≡◌, ◌<◌, IfOk, length};
 ghost use Rattle.lft_blocks.specs.Attachment.{AreWithin};
 ghost use Rattle.lft_blocks.specs.LidNumbers.{indexed_number, indexed_numbers, number_at, numbering_by};

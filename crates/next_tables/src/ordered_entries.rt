@@ -109,8 +109,8 @@ fn none_entered(alloc: Global, count: usize) -> Result<Vec<bool>, AllocError>
     vec![in alloc; false; count]
 }
 
-/// Sets the flag in `entered` of the switch to which the switch at `index` sends the packet down according to a held
-/// entry that is not the goal's. Does nothing if there is no such switch or no such flag.
+/// If the switch at `index` sends the packet down to another switch, by a held entry that is not the goal's, sets
+/// the other switch's flag in `entered`. Otherwise, or if there is no such flag, does nothing.
 fn enter(
     entered: &mut [bool],
     positions: &[usize],

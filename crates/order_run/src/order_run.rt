@@ -20,9 +20,9 @@ use std::alloc::{AllocError, Global};
 use told_order::told_order;
 
 /// Reads the tables from the first input, and then the files from the other inputs, one after the other. There must
-/// be at least one input. Returns whether there is an order of the usable switches according to which these tables
-/// send no packet for any LID down and then up. If so, writes such an order, with a line for each switch, `0x` and
-/// its GUID, and flushes. Otherwise writes nothing.
+/// be at least one input. Returns whether, in some order of the usable switches, these tables send no packet for any
+/// LID down and then up. If so, writes such an order, with a line for each switch, `0x` and its GUID, and flushes.
+/// Otherwise writes nothing.
 ///
 /// # Errors
 ///
@@ -86,7 +86,7 @@ fn order_of(alloc: Global, network: &Network) -> Result<Option<Vec<usize>>, Allo
     told_order(alloc, network, &indices)
 }
 
-/// Returns the first `count` numbers, the first of which is 0.
+/// Returns the `count` numbers from 0 on, in ascending order.
 fn indices(alloc: Global, count: usize) -> Result<Vec<usize>, AllocError>
     ensures { IfOk result (λ indices. indices.items ≡ range_with_len 0 count) }
 {

@@ -10,5 +10,5 @@ pub loop-channel-preserved : goal.loop-channel-preserved
 loop-channel-preserved g c =
     let channels = c.args.channels.now in
     let i = c.loop-channel.channel-index in
-    written_next (channel_text (cells_of c.args.network.now.facts) c.args.kind) _ _ _ channels i (get_or channels i 0) c.loop-channel.invariant c.loop-channel-test.true
-    (get_or_default channels i 0 (get_or channels i 0) c.loop-channel-test.true) c.in_ok-write_channel.ensures.ok
+    written_next (channel_text (cells_of c.args.network.now.facts) c.args.kind) _ _ _ channels i (get_or channels i 0)
+    c.loop-channel.invariant c.loop-channel-test.true (get_or_default channels i 0 (get_or channels i 0) c.loop-channel-test.true) c.in_ok-write_channel.ensures.ok

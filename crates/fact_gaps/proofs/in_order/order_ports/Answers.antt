@@ -10,4 +10,5 @@ use Rattle.fact_gaps.proofs.in_order.order_ports.Goals as goal
 pub returns : goal.returns
 returns c =
     dedup_is _ _ _ c.dedup.ensures.filtered
-    ∙ sorted_once node_port_cmp node_port_total node_port_exact _ port_equiv port_same port_ties _ _ c.sort_unstable.ensures.permutation c.sort_unstable.ensures.sorted
+    ∙ sorted_once node_port_cmp node_port_total node_port_exact _ port_equiv port_same port_ties _ _
+    c.sort_unstable.ensures.permutation c.sort_unstable.ensures.sorted

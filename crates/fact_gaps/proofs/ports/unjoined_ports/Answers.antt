@@ -16,8 +16,10 @@ returns c =
     let cells = cells_of c.args.wires.now in
     let test : ℕ × ℕ → Bool = λ e. not (is_known_port cells e) in
     let own = c.in_ok-add_own_ports.ensures ∙ ap (λ (xs : List (ℕ × ℕ)). xs ++ filter_map (kept test own_port) cells) c.new-ports.ensures.items in
-    let both = c.in_ok-add_far_ports.ensures ∙ ap (λ (xs : List (ℕ × ℕ)). xs ++ filter_map (kept test far_port) cells) own ∙ kept_both test own_port far_port cells in
-    IfOk-weaker c.end_ports_at.result _ _ (λ named is. is ∙ ap (map port_at) (c.deref-3.ensures.value ∙ c.order_ports.ensures ∙ ap (each_once node_port_cmp) both))
+    let both = c.in_ok-add_far_ports.ensures ∙ ap (λ (xs : List (ℕ × ℕ)). xs ++ filter_map (kept test far_port) cells) own
+    ∙ kept_both test own_port far_port cells in
+    IfOk-weaker c.end_ports_at.result _ _
+    (λ named is. is ∙ ap (map port_at) (c.deref-3.ensures.value ∙ c.order_ports.ensures ∙ ap (each_once node_port_cmp) both))
     c.end_ports_at.ensures
 
 pub add_own_ports-requires : goal.add_own_ports-requires

@@ -21,7 +21,8 @@ returns g c =
       ok = on_ok_weaker c.write_lids.result
           (λ part. subst (λ (others : List ℕ). Said c.args.self.now.channels.items others) c.deref-2.ensures.value
           (subst (λ (cycle : List ℕ). Said cycle lids) c.deref.ensures.value
-          (appends_then old (written c.write_cycle.new.sink) new (cycle_line cells OnOneLane c.deref.result.now) (lids_line lids) c.in_ok-write_cycle.ensures.ok part)))
+          (appends_then old (written c.write_cycle.new.sink) new (cycle_line cells OnOneLane c.deref.result.now) (lids_line lids)
+          c.in_ok-write_cycle.ensures.ok part)))
           c.write_lids.ensures.ok;
       err = c.write_lids.ensures.err;
     }
