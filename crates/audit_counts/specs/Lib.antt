@@ -8,4 +8,5 @@ pub mod Site
 pub mod Unmatched
 pub use Rattle.audit_ways.specs.Figures
 pub use Rattle.audit_ways.specs.Ways
+pub use Rattle.audit_ways.specs.declared.mean.Figures as FiguresType
 pub use Rattle.audit_ways.specs.declared.way_figures.WayFigures

@@ -14,7 +14,8 @@ use Rattle.packet_walks.specs.declared.cause.Cause.TheVariants.{AboveTop, NoEntr
 use Rattle.packet_walks.specs.declared.packet_end.End.{End}
 use Rattle.packet_walks.specs.declared.packet_end.End.TheVariants.{Taken, Lost}
 use Rattle.packet_walks.specs.HopsByTables.{entry_by}
-use Rattle.audit_counts.specs.Figures.{Figures, figures_of}
+use Rattle.audit_counts.specs.Figures.{figures_of}
+use Rattle.audit_counts.specs.FiguresType.{Figures}
 use Rattle.audit_counts.specs.Ways.{hops_of, loads_of}
 use Rattle.audit_counts.specs.declared.sent_packet.SentPacket.{SentPacket}
 use Rattle.audit_counts.specs.declared.cause_counts.Causes.{Causes}

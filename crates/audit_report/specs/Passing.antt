@@ -19,7 +19,8 @@ use Rattle.packet_walks.specs.Network.{Seen}
 use Rattle.packet_walks.specs.HopsByTables.{IsBrought}
 use Rattle.audit_channels.specs.Waiting.{RiseOnWays, WaitInCycle}
 use Rattle.audit_counts.specs.WayFigures.{WayFigures}
-use Rattle.audit_counts.specs.Figures.{Figures, figures_of}
+use Rattle.audit_counts.specs.Figures.{figures_of}
+use Rattle.audit_counts.specs.FiguresType.{Figures}
 use Rattle.audit_counts.specs.Ways.{AreWayFigures, loads_of}
 use Rattle.audit_counts.specs.declared.packet_tally.PacketTally.{PacketTally}
 use Rattle.audit_counts.specs.declared.unmatched.Unmatched.{Unmatched}

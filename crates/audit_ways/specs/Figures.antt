@@ -1,6 +1,6 @@
 -- The greatest of some numbers, and their mean.
 use Rattle.std.specs.Prelude.{◌≡◌, ◌+◌, ◌*◌, ◌/◌, ◌==◌, ℕ, List, [], ◌∷◌, Option, None, Some, length, max, sum, if◌then◌else◌}
-pub use Rattle.audit_ways.specs.declared.mean.Figures.{Figures}
+use Rattle.audit_ways.specs.declared.mean.Figures.{Figures}
 use Rattle.audit_ways.specs.declared.mean.Total.{Total}
 
 -- the greatest number, 0 if there is none
