@@ -17,8 +17,6 @@ mod priority;
 mod sm_info;
 mod sm_state_number;
 mod switch_info;
-#[cfg(test)]
-mod tests;
 mod vendor_id;
 
 pub use attribute::Attribute;

@@ -9,7 +9,7 @@ use Rattle.std.specs.List.{list_any, position, position_or_len}
 use Rattle.subnet_view.proofs.Apart.{contains-from_map}
 use Rattle.std.specs.Option.{option_map_or}
 use Rattle.subnet_view.proofs.Members.{contains_in, list_any_true}
-use Rattle.packet_walks.proofs.PlanSteps.{contains_at}
+use Rattle.packet_walks.proofs.EntrySteps.{contains_at}
 use Rattle.subnet_view.specs.declared.end_port.EndPort.{EndPort}
 use Rattle.subnet_view.specs.Reading.{Cells}
 use Rattle.held_tables.specs.Tables.{is_owner, is_same_end}

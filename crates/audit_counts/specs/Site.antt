@@ -8,7 +8,7 @@ use Rattle.subnet_view.specs.Reading.{Cells}
 use Rattle.subnet_view.specs.Wires.{across, leads_to}
 use Rattle.subnet_view.specs.Graph.{graph_of}
 use Rattle.subnet_view.specs.Components.{root_of}
-use Rattle.held_tables.specs.Entries.{attachment_of}
+use Rattle.subnet_view.specs.Wires.{attachment_of}
 use Rattle.held_tables.specs.Tables.{is_same_end}
 use Rattle.audit_ways.specs.Ways.{is_adapter}
 use Rattle.audit_counts.specs.declared.site.Census.{Census}

@@ -31,7 +31,7 @@ use Rattle.subnet_view.proofs.Graphs.{graph_law}
 use Rattle.subnet_view.proofs.Joined.{HasAttachment, LiesAt, Meets, apart, by_wire, itself, joined_meet, same, switch_in_graph, wired}
 use Rattle.subnet_view.proofs.PartWires.{IsTold, known_type, switch_at_index, switch_known, switch_port, switch_usable}
 use Rattle.subnet_view.proofs.GraphSwitches.{usable_switch}
-use Rattle.lft_blocks.specs.Entries.{attachment_of}
+use Rattle.subnet_view.specs.Wires.{attachment_of}
 use Rattle.packet_walks.specs.declared.packet_end.End.TheVariants.{Taken}
 use Rattle.packet_walks.specs.Fabrics.{EndsAs, IsSeenIn}
 use Rattle.packet_walks.specs.HopsByTables.{IsBrought, is_at}

@@ -13,14 +13,14 @@ use Rattle.lid_assign.specs.Lids.{IsNoRoom, lids, top_of}
 use Rattle.subnet_view.specs.Graph.{graph_of}
 use Rattle.subnet_view.specs.Components.{root_of}
 use Rattle.lft_blocks.specs.Rule.{RuleValue}
-use Rattle.lft_blocks.specs.Entries.{attachment_of}
+use Rattle.subnet_view.specs.Wires.{attachment_of}
 use Rattle.lft_blocks.specs.Plan.{plan_of}
 use Rattle.held_tables.specs.Held.{HeldPlan, nothing_held}
-use Rattle.held_tables.specs.PlanTables.{held_plan}
+use Rattle.plan_tables.specs.PlanTables.{held_plan}
 use Rattle.held_tables.specs.Tables.{is_same_end}
-use Rattle.held_tables.proofs.HeldPlans.{made}
+use Rattle.plan_tables.proofs.HeldPlans.{made}
 use Rattle.packet_walks.proofs.Judged.{same_ends}
-use Rattle.packet_walks.proofs.PlanPackets.{HasRoot, Meets, itself, of_root, by_wire, brought}
+use Rattle.plan_tables.proofs.PlanPackets.{HasRoot, Meets, itself, of_root, by_wire, brought}
 use Rattle.audit_report.specs.Passing.{EachArrives}
 use Rattle.audit_report.specs.Site.{in_one_component, root_at, is_one_root}
 

@@ -20,23 +20,25 @@ use Rattle.subnet_view.specs.Graph.{graph_of}
 use Rattle.subnet_view.specs.GraphLaws.{IsSwitch}
 use Rattle.subnet_view.proofs.Graphs.{edge_is_wire}
 use Rattle.subnet_view.proofs.GraphSwitches.{graph_guids}
-use Rattle.lft_blocks.specs.Entries.{attachment_of, port_to}
-use Rattle.lft_blocks.proofs.AttachmentSwitches.{attachment_is_switch}
+use Rattle.subnet_view.specs.Wires.{attachment_of}
+use Rattle.lft_blocks.specs.Entries.{port_to}
+use Rattle.subnet_view.proofs.AttachmentSwitches.{attachment_is_switch}
 use Rattle.lft_blocks.specs.Rule.{RuleValue, routing_by}
 use Rattle.lft_blocks.proofs.RulesRoute.{rules_are_routings}
 use Rattle.lft_blocks.specs.Plan.{plan_of, lid_routing}
 use Rattle.held_tables.specs.Held.{HeldPlan, nothing_held}
-use Rattle.held_tables.specs.PlanTables.{held_plan}
-use Rattle.held_tables.proofs.NextPorts.{next_has_cost}
-use Rattle.held_tables.proofs.PlanRanges.{wire_small}
+use Rattle.plan_tables.specs.PlanTables.{held_plan}
+use Rattle.plan_tables.proofs.NextPorts.{next_has_cost}
+use Rattle.plan_tables.proofs.PlanRanges.{wire_small}
 use Rattle.packet_walks.specs.Edges.{edge_by}
 use Rattle.held_tables.specs.Switches.{row_of}
 use Rattle.held_tables.specs.Tables.{counted, entry_for, top_of as top_held}
-use Rattle.held_tables.proofs.HeldPlans.{made, entry_counts, entry_held, top_of_switch}
+use Rattle.plan_tables.proofs.HeldPlans.{made, entry_counts, entry_held, top_of_switch}
 use Rattle.packet_walks.proofs.Tops.{entry_above, no_edge_by, none_above, uncounted}
 use Rattle.audit_channels.specs.Waiting.{WaitsFor}
 use Rattle.audit_report.specs.Passing.{CanRise}
-use Rattle.packet_walks.proofs.PlanSteps.{contains_at, of_column, leaves, on_way}
+use Rattle.packet_walks.proofs.EntrySteps.{contains_at, of_column, leaves}
+use Rattle.plan_tables.proofs.PlanSteps.{on_way}
 use Rattle.lft_blocks.specs.LidNumbers.{lid_numbers}
 
 -- the number of a channel: the rule's, if its wire leads somewhere

@@ -17,7 +17,7 @@ use Rattle.lid_assign.specs.Lids.{IsNoRoom}
 use Rattle.lft_blocks.specs.Rule.{RuleValue}
 use Rattle.lft_blocks.specs.Plan.{plan_of}
 use Rattle.held_tables.specs.Held.{HeldPlan}
-use Rattle.held_tables.specs.PlanTables.{held_plan}
+use Rattle.plan_tables.specs.PlanTables.{held_plan}
 use Rattle.packet_walks.specs.Fabrics.{ArrivesAt, IsSeenIn}
 use Rattle.audit_report.specs.SentPacket.{SentPacket}
 use Rattle.audit_report.specs.Packets.{arrives, packets_of}

@@ -21,10 +21,10 @@ use Rattle.lft_blocks.specs.Plan.{SwitchTable, plan_of, lid_routing}
 use Rattle.held_tables.specs.declared.held.HeldLid.{HeldLid}
 use Rattle.held_tables.specs.declared.held.HeldSwitch.{HeldSwitch}
 use Rattle.held_tables.specs.Held.{HeldPlan, nothing_held}
-use Rattle.held_tables.specs.PlanTables.{held_plan, with_top}
-use Rattle.held_tables.proofs.OwnedLids.{owner_at, owner_listed}
+use Rattle.plan_tables.specs.PlanTables.{held_plan, with_top}
+use Rattle.plan_tables.proofs.OwnedLids.{owner_at, owner_listed}
 use Rattle.held_tables.specs.Tables.{is_same_end}
-use Rattle.held_tables.proofs.HeldPlans.{made}
+use Rattle.plan_tables.proofs.HeldPlans.{made}
 use Rattle.packet_walks.proofs.Judged.{same_ends, same_itself}
 use Rattle.audit_counts.specs.declared.unmatched.Unmatched.{Unmatched}
 use Rattle.audit_report.specs.Passing.{EachHasTables, EachHoldsLid, EachNodeIsKnown, HoldsLid, HoldsTables, IsWholeFor}

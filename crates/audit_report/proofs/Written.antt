@@ -8,7 +8,7 @@ use Rattle.std.proofs.Math.Seq.{drop-cons}
 use Rattle.std.specs.Prelude.{IsErr, OnErr}
 use Rattle.byte_io.specs.Writes.{Writes}
 use Rattle.byte_io.specs.declared.sink.WriteFault.{WriteFault}
-use Rattle.lft_blocks.specs.WritesPart.{WritesPart}
+use Rattle.byte_io.specs.WritesPart.{WritesPart}
 use Rattle.record_file.proofs.Writing.{HasWritten, appends_then, written_more}
 
 pub written_next : {X : Type 0} (text : X → List ℕ) (a b c : Option (List ℕ)) (xs : List X) (i : ℕ) (x : X) → HasWritten text a b (take i xs) (drop i xs) xs

@@ -3,7 +3,7 @@ ghost use Rattle.std.specs.Prelude.{◌-◌, IsTrue, OnOk, codes};
 ghost use Rattle.std.specs.List.{flat_map};
 ghost use Rattle.fact_store.specs.View.{cells_of};
 ghost use Rattle.byte_io.specs.Writes.{Writes};
-ghost use Rattle.lft_blocks.specs.WritesPart.{WritesPart};
+ghost use Rattle.byte_io.specs.WritesPart.{WritesPart};
 ghost use Rattle.audit_report.specs.AuditText.{audit_text, disputed_line};
 ghost use Rattle.audit_report.specs.AuditText.{cause_text, causes_text, count_text, counts_line, findings_text};
 ghost use Rattle.audit_report.specs.AuditText.{listed_text, missed_line};

@@ -4,7 +4,7 @@ ghost use Rattle.std.specs.List.{flat_map};
 ghost use Rattle.fact_store.specs.View.{cells_of};
 ghost use Rattle.subnet_view.specs.Reading.{switches};
 ghost use Rattle.byte_io.specs.Writes.{Writes};
-ghost use Rattle.lft_blocks.specs.WritesPart.{WritesPart};
+ghost use Rattle.byte_io.specs.WritesPart.{WritesPart};
 ghost use Rattle.audit_report.specs.CycleText.{channel_text, channels_text, cycle_line, exit_text, words_of};
 
 use byte_io::{Sink, WriteFault, write_number, write_port};

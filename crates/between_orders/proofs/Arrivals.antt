@@ -25,7 +25,7 @@ use Rattle.held_tables.specs.declared.far_end.Far.{Far}
 use Rattle.held_tables.specs.declared.far_end.Far.TheVariants.{Nothing, Switch, Port}
 use Rattle.held_tables.specs.Switches.{far_at, far_of, far_to, index_in, row_of}
 use Rattle.held_tables.specs.Tables.{entry_for, is_owner, owners_of}
-use Rattle.held_tables.proofs.HeldTables.{within_length}
+use Rattle.plan_tables.proofs.HeldTables.{within_length}
 use Rattle.packet_walks.specs.declared.cause.Cause.{Cause}
 use Rattle.packet_walks.specs.declared.cause.Cause.TheVariants.{Foreign}
 use Rattle.packet_walks.specs.declared.packet_end.End.TheVariants.{Lost, Taken}
@@ -34,7 +34,7 @@ use Rattle.packet_walks.specs.declared.next_hop.NextHop.TheVariants.{To, Ends}
 use Rattle.packet_walks.specs.HopsByTables.{cause_of, next_hops_of, over}
 use Rattle.packet_walks.specs.EndsBySwitch.{after}
 use Rattle.packet_walks.proofs.Ended.{after_ended}
-use Rattle.packet_walks.proofs.PlanSteps.{contains_at, leaves}
+use Rattle.packet_walks.proofs.EntrySteps.{contains_at, leaves}
 use Rattle.next_tables.specs.SwitchPositions.{Leads, switch_at}
 use Rattle.next_tables.specs.SettledRule.{step_at}
 use Rattle.next_tables.proofs.Entries.{at_mapped, member}

@@ -24,7 +24,7 @@ use Rattle.spread_labels.proofs.ByPositions.{position_less}
 use Rattle.spread_routes.proofs.Indices.{wire_at}
 use Rattle.held_tables.specs.declared.held.HeldLid.{HeldLid}
 use Rattle.held_tables.specs.Held.{HeldPlan}
-use Rattle.held_tables.proofs.PlanRanges.{wire_small}
+use Rattle.plan_tables.proofs.PlanRanges.{wire_small}
 use Rattle.held_tables.specs.declared.far_end.Far.TheVariants.{Nothing, Switch}
 use Rattle.held_tables.specs.Switches.{far_at, far_of, far_to, row_of}
 use Rattle.held_tables.specs.Tables.{entry_for, owners_of, top_of}
@@ -36,7 +36,7 @@ use Rattle.packet_walks.specs.declared.next_hop.SwitchStep.{SwitchStep}
 use Rattle.packet_walks.specs.HopsByTables.{by_entry, cause_of, next_hops_of, over, switch_step}
 use Rattle.packet_walks.specs.EndsBySwitch.{after}
 use Rattle.packet_walks.proofs.Judged.{at_is}
-use Rattle.packet_walks.proofs.PlanSteps.{contains_at, no_wire_at_0}
+use Rattle.packet_walks.proofs.EntrySteps.{contains_at, no_wire_at_0}
 use Rattle.next_tables.specs.Assembly.{most_blocks}
 use Rattle.next_tables.specs.SwitchPositions.{IsOrder, position_at, switch_at}
 use Rattle.next_tables.specs.SettledRule.{step_at}

@@ -20,13 +20,13 @@ use Rattle.lft_blocks.proofs.BlockLaws.{made_at}
 use Rattle.held_tables.specs.declared.held.HeldBlock.{HeldBlock}
 use Rattle.held_tables.specs.declared.held.HeldSwitch.{HeldSwitch}
 use Rattle.held_tables.specs.Held.{HeldPlan}
-use Rattle.held_tables.specs.PlanTables.{blocks_of}
+use Rattle.plan_tables.specs.PlanTables.{blocks_of}
 use Rattle.held_tables.specs.Switches.{index_in}
 use Rattle.held_tables.specs.Tables.{counted, entry_at, entry_for, entry_of, index_of, is_block_of, top_at, top_of}
 use Rattle.held_tables.specs.Tables.{entry_in as entry_in_block}
-use Rattle.held_tables.proofs.HeldTables.{block_found, slice_mapped, within_length}
+use Rattle.plan_tables.proofs.HeldTables.{block_found, slice_mapped, within_length}
 use Rattle.packet_walks.proofs.FabricParts.{index_there}
-use Rattle.packet_walks.proofs.PlanSteps.{contains_at}
+use Rattle.packet_walks.proofs.EntrySteps.{contains_at}
 use Rattle.packet_walks.proofs.Tops.{entry_above}
 use Rattle.packet_walks.specs.declared.next_hop.SwitchStep.{SwitchStep}
 use Rattle.packet_walks.specs.HopsByTables.{switch_step}

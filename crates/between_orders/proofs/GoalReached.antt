@@ -15,7 +15,7 @@ use Rattle.packet_walks.specs.declared.cause.Cause.TheVariants.{AboveTop, NoEntr
 use Rattle.packet_walks.specs.declared.packet_end.End.TheVariants.{Taken}
 use Rattle.packet_walks.specs.declared.next_hop.NextHop.TheVariants.{To, Ends}
 use Rattle.packet_walks.specs.HopsByTables.{by_entry, cause_of}
-use Rattle.packet_walks.proofs.PlanSteps.{contains_at}
+use Rattle.packet_walks.proofs.EntrySteps.{contains_at}
 use Rattle.subnet_view.specs.Reading.{port_count_of}
 use Rattle.next_tables.specs.SwitchPositions.{AreRight, IsOrder, Leads, position_at, switch_at}
 use Rattle.next_tables.specs.SettledRule.{step_at}

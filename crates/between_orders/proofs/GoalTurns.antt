@@ -24,9 +24,9 @@ use Rattle.held_tables.specs.Held.{HeldPlan}
 use Rattle.held_tables.specs.Tables.{entry_for, owners_of}
 use Rattle.packet_walks.specs.declared.next_hop.NextHop.{NextHop}
 use Rattle.packet_walks.specs.declared.next_hop.NextHop.TheVariants.{To, Ends}
-use Rattle.packet_walks.proofs.PlanSteps.{leaves}
+use Rattle.packet_walks.proofs.EntrySteps.{leaves}
 use Rattle.packet_walks.specs.HopsByTables.{switch_step}
-use Rattle.held_tables.proofs.HeldTables.{within_length}
+use Rattle.plan_tables.proofs.HeldTables.{within_length}
 use Rattle.next_tables.proofs.Steps.{at_index}
 use Rattle.next_tables.specs.Assembly.{most_blocks, tables_with}
 use Rattle.next_tables.specs.SwitchPositions.{AreRight, Leads, is_bad, is_down, is_up, position_at, switch_at}

@@ -6,7 +6,7 @@ use Rattle.subnet_view.specs.Reading.{Cells, switches}
 use Rattle.lft_blocks.specs.Entries.{block_count}
 use Rattle.lft_blocks.specs.Plan.{SwitchTable}
 use Rattle.held_tables.specs.Held.{HeldPlan}
-use Rattle.held_tables.specs.PlanTables.{blocks_of}
+use Rattle.plan_tables.specs.PlanTables.{blocks_of}
 use Rattle.next_tables.specs.NextTables.{StepRuleValue, next_at, next_switch, next_table, next_tables, next_top}
 
 pub same_mapped : {X : Type 0} (f h : ℕ → X) (xs : List ℕ) → ((i g : ℕ) → slice_get xs i ≡ Some g → f g ≡ h g) → map f xs ≡ map h xs

@@ -7,10 +7,10 @@ use Rattle.subnet_view.specs.Reading.{Cells, switches}
 use Rattle.held_tables.specs.Held.{HeldPlan}
 use Rattle.held_tables.specs.declared.held.HeldLid.{HeldLid}
 use Rattle.held_tables.specs.Tables.{entry_for, owners_of, top_of}
-use Rattle.held_tables.proofs.HeldTables.{within_length}
+use Rattle.plan_tables.proofs.HeldTables.{within_length}
 use Rattle.packet_walks.specs.declared.packet_end.End.TheVariants.{Taken}
 use Rattle.packet_walks.specs.declared.next_hop.NextHop.TheVariants.{To, Ends}
-use Rattle.packet_walks.proofs.PlanSteps.{contains_at}
+use Rattle.packet_walks.proofs.EntrySteps.{contains_at}
 use Rattle.next_tables.specs.SwitchPositions.{AreRight, position_at, switch_at}
 use Rattle.next_tables.specs.SettledRule.{step_at}
 use Rattle.next_tables.specs.NextTables.{IsKept, StepRuleValue, by_order, next_at, next_top}

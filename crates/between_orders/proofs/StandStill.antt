@@ -9,7 +9,7 @@ use Rattle.held_tables.specs.declared.held.HeldLid.{HeldLid}
 use Rattle.held_tables.specs.Held.{HeldPlan}
 use Rattle.std.specs.List.{find}
 use Rattle.held_tables.specs.Tables.{entry_for}
-use Rattle.held_tables.proofs.HeldTables.{within_length}
+use Rattle.plan_tables.proofs.HeldTables.{within_length}
 use Rattle.packet_walks.specs.declared.next_hop.NextHop.TheVariants.{To}
 use Rattle.next_tables.specs.OrderRule.{tried}
 use Rattle.next_tables.specs.SwitchPositions.{position_at, switch_at}

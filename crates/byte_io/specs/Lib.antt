@@ -3,3 +3,4 @@ pub mod Memory
 pub mod Reading
 pub mod Source
 pub mod Writes
+pub mod WritesPart

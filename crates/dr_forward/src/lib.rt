@@ -9,6 +9,3 @@ mod verdict;
 pub use directed_step::step;
 pub use here::Here;
 pub use verdict::{DiscardReason, Verdict};
-
-#[cfg(test)]
-mod tests;

@@ -10,7 +10,7 @@ use Rattle.std.proofs.lemmas.List.{append-nil}
 use Rattle.std.proofs.lemmas.List.Elements.{filter-append}
 use Rattle.subnet_view.specs.declared.end_port.EndPort.{EndPort}
 use Rattle.subnet_view.proofs.Members.{contains_later, contains_cases, contains_none, contains_first, contains_filter, contains-from_filter}
-use Rattle.lft_blocks.proofs.Tables.{eq_then, same_number}
+use Rattle.subnet_view.proofs.NumberTests.{eq_then, same_number}
 use Rattle.held_tables.specs.declared.held.HeldLid.{HeldLid}
 use Rattle.held_tables.specs.Owners.{SoleOwnersAreAlone, is_sole}
 use Rattle.held_tables.specs.Tables.{holders, is_owner, is_same_end, is_same_line, owners_of, without_repetitions}

@@ -5,13 +5,5 @@ pub mod Tables
 pub mod Blocks
 pub mod Held
 pub mod HeldItem
-pub mod PlanTables
-pub mod PlanRanges
 pub mod Switches
 pub mod Subnet
-pub use Rattle.lft_blocks.specs.Entries
-pub use Rattle.lft_blocks.specs.Lids
-pub use Rattle.lft_blocks.specs.Plan
-pub use Rattle.lft_blocks.specs.PlanText
-pub use Rattle.lft_blocks.specs.Rule
-pub use Rattle.lft_blocks.specs.WritesPart

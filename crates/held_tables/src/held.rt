@@ -1,12 +1,9 @@
-ghost use Rattle.std.specs.Prelude.{◌≡◌, ◌<◌, ◌++◌, IfOk, OnOk, map};
+ghost use Rattle.std.specs.Prelude.{◌≡◌, ◌<◌, ◌++◌, IfOk, OnOk};
 ghost use Rattle.held_tables.specs.Held.{lids_of, nothing_held};
-ghost use Rattle.held_tables.specs.PlanTables.{blocks_of, held_plan, owned_lids, with_top};
 ghost use Rattle.held_tables.specs.HeldItem.{held_with};
 
 use crate::held_item::{HeldItem, HeldRange};
-use crate::plan_tables::{blocks_of, owned_lids, with_top};
 use attr_codec::Lmc;
-use lft_blocks::Plan;
 use smp_bytes::{Guid, Lid};
 use std::alloc::{AllocError, Global};
 use std::marker::Model;
@@ -72,32 +69,6 @@ impl Held {
             switches: Vec::new(alloc),
             blocks: Vec::new(alloc),
         }
-    }
-
-    /// Returns the tables of `plan`: its LIDs with their end ports, and its switches with their blocks. The top of
-    /// each switch is the greatest LID of `plan`. If `plan` has no LID, the tables are empty. The plan's text is read
-    /// as these tables.
-    pub fn of_plan(alloc: Global, plan: &Plan) -> Result<Self, AllocError>
-        ensures { IfOk result (λ held. held ≡ held_plan plan.now) }
-    {
-        match plan.top() {
-            Some(top) => Held::under_top(alloc, plan, top),
-            None => Ok(Held::new(alloc)),
-        }
-    }
-
-    /// Returns the tables of `plan`, with `top` as the top of each switch.
-    fn under_top(alloc: Global, plan: &Plan, top: Lid) -> Result<Self, AllocError>
-        ensures { IfOk result (λ held. held ≡ record {
-          lids = owned_lids plan.now.given;
-          switches = map (with_top top) plan.now.tables;
-          blocks = blocks_of 0 plan.now.tables;
-        }) }
-    {
-        let lids = owned_lids(alloc, plan.lids())?;
-        let switches = with_top(alloc, top, plan.tables())?;
-        let blocks = blocks_of(alloc, plan.tables())?;
-        Ok(Held::of(lids, switches, blocks))
     }
 
     /// Builds tables from `lids`, which are LIDs with the end ports that hold them, and from switches and blocks.
@@ -174,7 +145,7 @@ fn push_range(lids: &mut Vec<HeldLid>, range: HeldRange) -> Result<(), AllocErro
 
 /// Appends to `lids` 2^`lmc` consecutive LIDs, starting with that of `first`, each with the end port of `first`.
 /// The LID of `first` must be below 49,152.
-pub(crate) fn push_lids(
+pub fn push_lids(
     lids: &mut Vec<HeldLid>,
     first: &HeldLid,
     lmc: Lmc,

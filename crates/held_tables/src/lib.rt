@@ -11,7 +11,6 @@ mod held;
 mod held_item;
 mod lines;
 mod owners;
-mod plan_tables;
 mod senders;
 mod subnet;
 mod wired_switch;
@@ -21,9 +20,8 @@ pub use blocks::{block_chains, block_rows};
 pub use chains::Chains;
 pub use far_end::Far;
 pub use far_ends::FarEnds;
-pub use held::{Held, HeldBlock, HeldLid, HeldSwitch};
+pub use held::{Held, HeldBlock, HeldLid, HeldSwitch, push_lids};
 pub use held_item::{HeldItem, HeldRange};
-pub use lft_blocks::{LidMap, block_count, write_block, write_lids, write_switch};
 pub use lines::lines_of;
 pub use owners::{
     Owner, has_several_owners, is_same_end, is_sole_owner, lid_owners, owners_of, sole_owner,

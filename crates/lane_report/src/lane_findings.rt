@@ -1,7 +1,7 @@
 //! The findings by lane, and their text.
 ghost use Rattle.std.specs.Prelude.{◌↔◌, IsTrue};
 ghost use Rattle.fact_store.specs.View.{cells_of};
-ghost use Rattle.lft_blocks.specs.WritesPart.{WritesPart};
+ghost use Rattle.byte_io.specs.WritesPart.{WritesPart};
 ghost use Rattle.lane_report.specs.LaneText.{lanes_text};
 ghost use Rattle.lane_report.specs.LaneRun.{IsSoundByLane};
 

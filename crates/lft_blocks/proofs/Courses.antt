@@ -19,7 +19,7 @@ use Rattle.subnet_view.specs.Graph.{graph_of}
 use Rattle.subnet_view.specs.Routing.{Routing, Passes, FollowsRule}
 use Rattle.subnet_view.proofs.Graphs.{edge_is_wire}
 use Rattle.subnet_view.proofs.PartWires.{IsTold, SwitchIn, switch_at_index, switch_in_part, switch_usable, edge_in_fabric}
-use Rattle.lft_blocks.specs.Entries.{attachment_of}
+use Rattle.subnet_view.specs.Wires.{attachment_of}
 use Rattle.lft_blocks.specs.Arrival.{guid_at}
 use Rattle.lft_blocks.proofs.HeldEntries.{entry_of, owned_to_top, owned_from_one, entry_by_attachment, held_entry}
 use Rattle.lft_blocks.proofs.OwnerPorts.{IsPlanned}

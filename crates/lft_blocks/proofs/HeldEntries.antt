@@ -15,7 +15,8 @@ use Rattle.lid_assign.specs.LidLaws.{AreLids}
 use Rattle.lid_assign.proofs.Owners.{given-from_owner}
 use Rattle.lid_assign.proofs.Tops.{at_most_top}
 use Rattle.subnet_view.specs.Routing.{Routing}
-use Rattle.lft_blocks.specs.Entries.{attachment_of, attachment_of_lid, port_to, entry, block_count}
+use Rattle.subnet_view.specs.Wires.{attachment_of}
+use Rattle.lft_blocks.specs.Entries.{attachment_of_lid, port_to, entry, block_count}
 use Rattle.lft_blocks.specs.Plan.{plan_by, block_at}
 use Rattle.lft_blocks.specs.PlanLaws.{HasBlock, block_of}
 use Rattle.lft_blocks.specs.InForce.{HoldsPlan}

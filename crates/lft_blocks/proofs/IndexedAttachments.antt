@@ -9,7 +9,8 @@ use Rattle.lid_assign.specs.Lids.{Given, owner_of, top_of}
 use Rattle.lid_assign.proofs.Owners.{given-from_owner}
 use Rattle.lid_assign.proofs.Tops.{at_most_top}
 use Rattle.lft_blocks.specs.declared.attachment.Attachment.{Attachment}
-use Rattle.lft_blocks.specs.Entries.{attachment_of, attachment_of_lid, block_count}
+use Rattle.subnet_view.specs.Wires.{attachment_of}
+use Rattle.lft_blocks.specs.Entries.{attachment_of_lid, block_count}
 use Rattle.lft_blocks.specs.Attachment.{IsIndexed, AreIndexed}
 
 -- no LID behind the last block has an owner

@@ -1,4 +1,3 @@
-pub mod AttachmentSwitches
 pub mod AttachmentTables
 pub mod BlockLaws
 pub mod BlockOwners

@@ -22,7 +22,7 @@ use Rattle.lid_assign.proofs.Owners.{given-from_owner}
 use Rattle.subnet_view.specs.Routing.{Routing}
 use Rattle.subnet_view.proofs.PartWires.{IsTold, switch_at_index, switch_port, switch_known, switch_usable, known_type}
 use Rattle.subnet_view.proofs.Joined.{LiesAt, HasAttachment, itself, by_wire}
-use Rattle.lft_blocks.specs.Entries.{attachment_of}
+use Rattle.subnet_view.specs.Wires.{attachment_of}
 use Rattle.lft_blocks.specs.Plan.{plan_by}
 use Rattle.lft_blocks.specs.InForce.{HoldsPlan}
 use Rattle.lft_blocks.proofs.HeldEntries.{HasBlocks}

@@ -14,7 +14,8 @@ use Rattle.spread_routes.specs.Adapters.{adapters_at, adapters_of, has_adapter_a
 use Rattle.lft_blocks.specs.LidNumbers.{lid_numbers, number_of, numbered, numbering_by}
 use Rattle.lft_blocks.specs.Rule.{RuleValue}
 use Rattle.lft_blocks.proofs.RulesRoute.{rules_stay}
-use Rattle.lft_blocks.specs.Entries.{attachment_of, block_count}
+use Rattle.subnet_view.specs.Wires.{attachment_of}
+use Rattle.lft_blocks.specs.Entries.{block_count}
 use Rattle.lft_blocks.specs.Plan.{tables_of, plan_of}
 use Rattle.lft_blocks.specs.PlanLaws.{PlansStay}
 

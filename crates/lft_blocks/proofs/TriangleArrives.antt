@@ -20,7 +20,8 @@ use Rattle.lid_assign.specs.Lids.{IsNoRoom, lids, owner_of}
 use Rattle.subnet_view.specs.Graph.{graph_of}
 use Rattle.updown_routes.specs.Updown.{updown}
 use Rattle.lft_blocks.specs.Rule.{up_and_down}
-use Rattle.lft_blocks.specs.Entries.{attachment_of, port_to}
+use Rattle.subnet_view.specs.Wires.{attachment_of}
+use Rattle.lft_blocks.specs.Entries.{port_to}
 use Rattle.lft_blocks.specs.Plan.{plan_of}
 use Rattle.lft_blocks.specs.Arrival.{Arrives}
 use Rattle.lft_blocks.specs.InForce.{IsInForce}

@@ -6,7 +6,7 @@ use Rattle.std.specs.Prelude.{IsErr, IsTrue}
 use Rattle.std.specs.Io.KnownBytes.{Appends}
 use Rattle.byte_io.specs.Writes.{Writes}
 use Rattle.byte_io.specs.declared.sink.WriteFault.{WriteFault}
-use Rattle.lft_blocks.specs.WritesPart.{WritesPart}
+use Rattle.byte_io.specs.WritesPart.{WritesPart}
 use Rattle.record_file.proofs.Writing.{HasWritten, written_more}
 
 module _ {W : Type 0} (written : W → Option (List ℕ)) (has_failed : W → Bool) (r : Result (Unit {0}) WriteFault) (a b : W) (text : List ℕ) where

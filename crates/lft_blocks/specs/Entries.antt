@@ -4,15 +4,9 @@ use Rattle.std.specs.Prelude.{ℕ, suc, ◌+◌, ◌*◌, ◌/◌, List, map, Op
 use Rattle.std.specs.Option.{option_map_or}
 use Rattle.std.specs.List.{range_with_len}
 use Rattle.subnet_view.specs.declared.end_port.EndPort.{EndPort}
-use Rattle.subnet_view.specs.Reading.{Cells, is_usable}
-use Rattle.subnet_view.specs.Wires.{attached}
+use Rattle.subnet_view.specs.Reading.{Cells}
+use Rattle.subnet_view.specs.Wires.{attachment_of}
 use Rattle.lid_assign.specs.Lids.{Given, owner_of}
-
--- the switch, and the port of it, at which the end port `e` is attached. A port of a usable switch is attached at port
--- 0 of that switch. An adapter port is attached at the port that it is wired to; None if it is not wired to a usable
--- switch
-abbrev pub attachment_of : Cells → EndPort → Option (ℕ × ℕ)
-attachment_of cells e = if is_usable cells e.node then Some (e.node, 0) else attached cells e.node e.port
 
 -- the attachment of the end port that owns `lid`; None if no end port owns `lid`, or if the owner has no attachment
 abbrev pub attachment_of_lid : Cells → Given → ℕ → Option (ℕ × ℕ)

@@ -9,7 +9,6 @@ pub mod PlanText
 pub mod Planning
 pub mod Rule
 pub mod TableRow
-pub mod WritesPart
 pub use Rattle.lid_assign.specs.Claims
 pub use Rattle.lid_assign.specs.LidLaws
 pub use Rattle.lid_assign.specs.Lids

@@ -4,7 +4,8 @@ ghost use Rattle.std.specs.List.Sorted.{IsStrictlyIncreasing};
 ghost use Rattle.subnet_view.specs.Reading.{switches};
 ghost use Rattle.lid_assign.specs.Lids.{top_of};
 ghost use Rattle.subnet_view.specs.SwitchGraph.{IsIndexIn};
-ghost use Rattle.lft_blocks.specs.Entries.{attachment_of, attachment_of_lid, block_count};
+ghost use Rattle.subnet_view.specs.Wires.{attachment_of};
+ghost use Rattle.lft_blocks.specs.Entries.{attachment_of_lid, block_count};
 ghost use Rattle.lft_blocks.specs.Attachment.{IsIndexed, AreIndexed};
 
 use lid_assign::LidMap;

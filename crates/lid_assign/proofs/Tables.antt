@@ -16,6 +16,7 @@ use Rattle.reply_facts.proofs.Keys.{equal_from_test}
 use Rattle.std.specs.BTreeMap.{BTreeMap, Updates}
 use Rattle.std.proofs.lemmas.List.Elements.{Contains-append_left}
 use Rattle.subnet_view.proofs.Apart.{contains_at}
+use Rattle.subnet_view.proofs.NumberTests.{eq_then, same_number}
 use Rattle.subnet_view.proofs.Members.{contains_in}
 use Rattle.subnet_view.specs.declared.end_port.EndPort.{EndPort}
 use Rattle.lid_assign.specs.Ranges.{width_of, range_at, is_in}
@@ -57,17 +58,6 @@ marks_more given marks p lid k e h are n =
       | true ↦ λ q. ap (λ m. slice_index_or (slice_set marks k true) m false) (sym (e ∙ eqb-true lid n q)) ∙ get_or-set_same marks k true false h
       | false ↦ λ q. get_or-set_other marks k n true false (λ same. true≢false (sym (eq-eqb lid n (sym (same ∙ e))) ∙ q)) ∙ are n
     ] refl
-
--- tests of numbers in order
-pub same_number : (a b : ℕ) → is_eq (nat_cmp a b) ≡ (b == a)
-same_number a b =
-    both_ways (is_eq (nat_cmp a b)) (b == a) (λ h. eq-eqb b a (sym (nat_cmp-IsAntisymmetric a b (equal_from_test (nat_cmp a b) h))))
-    (λ h. ap (λ n. is_eq (nat_cmp a n)) (eqb-true b a h) ∙ ap is_eq (tied_itself nat_cmp_total a))
-
-pub eq_then : (x y : Ordering) → is_eq (ordering_then x y) ≡ (is_eq x && is_eq y)
-eq_then Less y = refl
-eq_then Equal y = refl
-eq_then Greater y = refl
 
 -- an entry more
 either : (b : Bool) (x : EndPort × ℕ) (o : Option (EndPort × ℕ)) → cond b (Some x.1) (option_map (λ y. y.1) o) ≡ option_map (λ y. y.1) (cond b (Some x) o)

@@ -12,7 +12,7 @@ use Rattle.lid_assign.specs.LidFault.{lid_fault, no_room}
 use Rattle.lft_blocks.specs.Plan.{PlanValue, plan_of}
 use Rattle.lft_blocks.specs.Rule.{RuleValue}
 use Rattle.held_tables.specs.Held.{HeldPlan}
-use Rattle.held_tables.specs.PlanTables.{held_plan, planned}
+use Rattle.plan_tables.specs.PlanTables.{held_plan, planned}
 use Rattle.tables_file.specs.PrintedTables.{next_text}
 use Rattle.next_tables.specs.NextTables.{first_moved}
 use Rattle.sm_cli.specs.declared.fault.Fault.{Fault}

@@ -10,7 +10,7 @@ use Rattle.lid_assign.specs.LidFault.{no_room}
 use Rattle.lft_blocks.specs.Plan.{plan_of}
 use Rattle.lft_blocks.specs.Rule.{RuleValue}
 use Rattle.held_tables.specs.Held.{HeldPlan}
-use Rattle.held_tables.specs.PlanTables.{planned}
+use Rattle.plan_tables.specs.PlanTables.{planned}
 use Rattle.tables_file.specs.PrintedTables.{next_text}
 use Rattle.next_tables.specs.SwitchPositions.{position_at}
 use Rattle.between_orders.specs.Between.{Goal, IsGoal}

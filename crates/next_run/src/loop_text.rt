@@ -2,7 +2,7 @@
 ghost use Rattle.std.specs.Prelude.{◌≡◌, ◌↔◌, [], IfOk, IsTrue};
 ghost use Rattle.std.specs.List.{flat_map};
 ghost use Rattle.fact_store.specs.View.{cells_of};
-ghost use Rattle.lft_blocks.specs.WritesPart.{WritesPart};
+ghost use Rattle.byte_io.specs.WritesPart.{WritesPart};
 ghost use Rattle.next_run.specs.LoopText.{lid_word, lids_line, loop_text};
 ghost use Rattle.next_run.specs.StepLoops.{IsLoopInStep};
 

@@ -5,7 +5,7 @@ ghost use Rattle.std.specs.Io.KnownBytes.{Appends};
 ghost use Rattle.std.specs.Option.{option_map};
 ghost use Rattle.fact_store.specs.View.{cells_of};
 ghost use Rattle.lft_blocks.specs.Rule.{RuleValue, value_of};
-ghost use Rattle.lft_blocks.specs.WritesPart.{WritesPart};
+ghost use Rattle.byte_io.specs.WritesPart.{WritesPart};
 ghost use Rattle.next_run.specs.Asked.{preferred_rule, rule_or};
 ghost use Rattle.next_run.specs.NextRun.{HasStepped, IsMade, IsSaid, IsStepFault, IsStepOf, StopsNext};
 ghost use Rattle.next_run.specs.NextRun.{StopsStep, choice_of, fault_of_step, goal_or, next_by_choice, texts_before};
@@ -13,7 +13,7 @@ ghost use Rattle.next_run.specs.StepVerdict.{verdict_of, verdict_text};
 ghost use Rattle.next_run.specs.StepOrderText.{items_of, step_order_text};
 ghost use Rattle.next_tables.specs.NextTables.{first_moved, next_tables};
 ghost use Rattle.next_tables.specs.NextTables.{value_of as chosen_of};
-ghost use Rattle.held_tables.specs.PlanTables.{held_plan};
+ghost use Rattle.plan_tables.specs.PlanTables.{held_plan};
 
 use crate::asked::{HeldOrder, StepAsked};
 use crate::step_choice::{StepChoice, step_choice};
@@ -24,6 +24,7 @@ use held_tables::{Held, Subnet};
 use lft_blocks::{Plan, Rule, SwitchOrder};
 use next_tables::{StepFault, StepRule, next_tables};
 use packet_walks::Network;
+use plan_tables::held_plan;
 use sm_cli::{Fault, StepInputs, StepReader, TextFault, read_inputs, texts_if};
 use smp_bytes::Guid;
 use std::alloc::{AllocError, Global};
@@ -195,7 +196,7 @@ fn made_step(
     ensures still { OnOk result (first_moved from.now.held (held_plan plan.now) ≡ None) }
     ensures refused { IfErr result (StopsNext input from.now.held (held_plan plan.now)) }
 {
-    let Ok(planned) = Held::of_plan(alloc, plan) else {
+    let Ok(planned) = held_plan(alloc, plan) else {
         return Err(Fault::Memory);
     };
     let Ok(to) = Network::of(alloc, from.subnet(), &planned) else {

@@ -2,7 +2,7 @@
 ghost use Rattle.std.specs.Prelude.{◌≡◌, IfOk, Some};
 ghost use Rattle.std.specs.List.{flat_map};
 ghost use Rattle.fact_store.specs.View.{cells_of};
-ghost use Rattle.lft_blocks.specs.WritesPart.{WritesPart};
+ghost use Rattle.byte_io.specs.WritesPart.{WritesPart};
 ghost use Rattle.byte_io.specs.Writes.{Writes};
 ghost use Rattle.next_tables.specs.SwitchPositions.{switch_at};
 ghost use Rattle.next_run.specs.StepOrderText.{items_of, step_order_text, switch_word, switches_by};

@@ -1,7 +1,7 @@
 //! What can happen while a step is written, and its text.
 ghost use Rattle.std.specs.Prelude.{◌≡◌, ◌↔◌, IfOk, IsTrue};
 ghost use Rattle.fact_store.specs.View.{cells_of};
-ghost use Rattle.lft_blocks.specs.WritesPart.{WritesPart};
+ghost use Rattle.byte_io.specs.WritesPart.{WritesPart};
 ghost use Rattle.next_run.specs.StepVerdict.{IsFoundInStep, IsOrderInStep, IsSound, IsVerdict, verdict_of};
 ghost use Rattle.next_run.specs.StepVerdict.{verdict_text};
 

@@ -8,15 +8,15 @@ use Rattle.std.proofs.lemmas.List.FromFn.{get_or-map-range_with_len, length-map-
 use Rattle.std.specs.Option.{option_map_or}
 use Rattle.std.proofs.lemmas.Option.{get_or_from_slice_get, same_Some, slice_get-get_or}
 use Rattle.subnet_view.specs.Reading.{Cells, switches}
-use Rattle.held_tables.specs.Lids.{greatest}
-use Rattle.held_tables.specs.Entries.{block_count}
+use Rattle.lid_assign.specs.Lids.{greatest}
+use Rattle.plan_tables.specs.Entries.{block_count}
 use Rattle.held_tables.specs.declared.held.HeldBlock.{HeldBlock}
 use Rattle.held_tables.specs.declared.held.HeldSwitch.{HeldSwitch}
 use Rattle.held_tables.specs.Held.{HeldPlan}
-use Rattle.held_tables.specs.PlanTables.{blocks_from, blocks_of}
+use Rattle.plan_tables.specs.PlanTables.{blocks_from, blocks_of}
 use Rattle.packet_walks.specs.Edges.{greatest_top}
 use Rattle.held_tables.specs.Tables.{top_of}
-use Rattle.held_tables.proofs.HeldTables.{get_mapped, within_length}
+use Rattle.plan_tables.proofs.HeldTables.{get_mapped, within_length}
 use Rattle.held_tables.proofs.Mapped.{mapped_more}
 use Rattle.next_tables.specs.Assembly.{all_blocks, block_in, entry_in, some_blocks}
 use Rattle.next_tables.specs.NextTables.{StepRuleValue, column_of, next_at, next_block, next_switch, next_table, next_top}

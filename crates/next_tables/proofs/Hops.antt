@@ -22,7 +22,7 @@ use Rattle.held_tables.specs.Tables.{owners_of, entry_for}
 use Rattle.packet_walks.specs.HopsByTables.{by_entry, over, cause_of}
 use Rattle.packet_walks.specs.Edges.{edge_by, edge_to, edges_of}
 use Rattle.audit_channels.specs.Column.{number_of}
-use Rattle.held_tables.proofs.HeldTables.{within_length}
+use Rattle.plan_tables.proofs.HeldTables.{within_length}
 use Rattle.next_tables.specs.SettledRule.{step_at}
 use Rattle.next_tables.proofs.Entries.{at_mapped, past_mapped}
 use Rattle.next_tables.proofs.Steps.{at_index}

@@ -34,7 +34,7 @@ use Rattle.packet_walks.specs.EndsBySwitch.{after}
 use Rattle.packet_walks.proofs.Ended.{after_ended}
 use Rattle.packet_walks.proofs.FabricParts.{as_part, vertex_part, switch_end, listed, indexed, wire_told, told_wire}
 use Rattle.packet_walks.proofs.FarRows.{has, lacks, no_far, no_port, row_at}
-use Rattle.held_tables.proofs.HeldTables.{within_length}
+use Rattle.plan_tables.proofs.HeldTables.{within_length}
 use Rattle.packet_walks.proofs.Told.{IsClosed}
 use Rattle.next_tables.specs.SettledRule.{step_at}
 use Rattle.next_tables.specs.ChangingFabric.{entry_now, IsLooseEntry, IsInChange, ChangesMeanwhile, GoesMeanwhile, ArrivesMeanwhile}

@@ -12,18 +12,18 @@ use Rattle.fact_store.specs.View.{Facts, cells_of, AreInRange}
 use Rattle.subnet_view.specs.declared.end_port.EndPort.{EndPort}
 use Rattle.subnet_view.specs.Reading.{Cells, switches}
 use Rattle.subnet_view.proofs.Members.{contains_here, contains_later}
-use Rattle.held_tables.specs.Entries.{block_count}
-use Rattle.held_tables.specs.Plan.{PlanValue, SwitchTable}
-use Rattle.held_tables.proofs.AttachmentTables.{switches_rise}
+use Rattle.plan_tables.specs.Entries.{block_count}
+use Rattle.plan_tables.specs.Plan.{PlanValue, SwitchTable}
+use Rattle.plan_tables.proofs.AttachmentTables.{switches_rise}
 use Rattle.held_tables.specs.declared.held.HeldBlock.{HeldBlock}
 use Rattle.held_tables.specs.declared.held.HeldLid.{HeldLid}
 use Rattle.held_tables.specs.declared.held.HeldSwitch.{HeldSwitch}
 use Rattle.held_tables.specs.Held.{HeldPlan}
-use Rattle.held_tables.specs.PlanRanges.{IsBlock, IsPlanInRange, IsTableInRange}
-use Rattle.held_tables.specs.PlanTables.{blocks_from, blocks_of, held_plan, owned_lids, with_top}
+use Rattle.plan_tables.specs.PlanRanges.{IsBlock, IsPlanInRange, IsTableInRange}
+use Rattle.plan_tables.specs.PlanTables.{blocks_from, blocks_of, held_plan, owned_lids, with_top}
 use Rattle.tables_file.specs.PrintedTextIsRead.{AreTops, IsHeldInRange, Says, held_under, with_own_top}
 use Rattle.tables_file.specs.PrintedTables.{next_text}
-use Rattle.held_tables.proofs.PlanRanges.{plans_in_range, switch_small}
+use Rattle.plan_tables.proofs.PlanRanges.{plans_in_range, switch_small}
 use Rattle.tables_file.proofs.Printed.{tables_are_read}
 use Rattle.tables_file.proofs.ReadRanges.{texts_are_in_range}
 use Rattle.held_tables.specs.Tables.{block_at, entry_at, entry_for, entry_in, entry_of, index_of, is_block_of, top_at, top_of}

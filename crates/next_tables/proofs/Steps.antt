@@ -17,7 +17,7 @@ use Rattle.held_tables.specs.Tables.{owners_of, entry_for}
 use Rattle.packet_walks.specs.EndsBySwitch.{after, is_to}
 use Rattle.packet_walks.specs.HopsByTables.{first_hop, next_hops_of}
 use Rattle.packet_walks.proofs.Ended.{after_ended}
-use Rattle.held_tables.proofs.HeldTables.{within_length}
+use Rattle.plan_tables.proofs.HeldTables.{within_length}
 use Rattle.next_tables.specs.SettledRule.{step_at, agreed_at, agreed, mending, IsNext}
 use Rattle.next_tables.specs.Mixtures.{after_by, IsMixed, IsLoose, NoneIsLost, NoneGoesRound, AreSteps, EndInThePlan, StillIsThePlan, HealInTwo, NextDeliverOrDrop}
 use Rattle.next_tables.proofs.Mixtures.{at, Comes, ComesBy, EndsBy, held_comes, held_ends, mending_next, agreed_stays, delivers_or_drops, plan_mended, led, in_range, clean}

@@ -8,19 +8,19 @@ use Rattle.std.proofs.lemmas.List.{length-map}
 use Rattle.std.proofs.lemmas.List.FromFn.{get_or-map-range_with_len}
 use Rattle.subnet_view.specs.declared.end_port.EndPort.{EndPort}
 use Rattle.subnet_view.specs.Reading.{Cells, switches}
-use Rattle.held_tables.specs.Entries.{block_count}
-use Rattle.held_tables.specs.Plan.{SwitchTable}
-use Rattle.held_tables.proofs.BlockLaws.{made_at}
+use Rattle.plan_tables.specs.Entries.{block_count}
+use Rattle.plan_tables.specs.Plan.{SwitchTable}
+use Rattle.plan_tables.proofs.BlockLaws.{made_at}
 use Rattle.held_tables.specs.declared.held.HeldLid.{HeldLid}
 use Rattle.held_tables.specs.declared.held.HeldSwitch.{HeldSwitch}
 use Rattle.held_tables.specs.Held.{HeldPlan}
-use Rattle.held_tables.specs.PlanTables.{blocks_of}
+use Rattle.plan_tables.specs.PlanTables.{blocks_of}
 use Rattle.held_tables.specs.Switches.{index_in}
 use Rattle.held_tables.specs.Tables.{counted, entry_at, entry_for, entry_in, entry_of, index_of, owners_of, top_at, top_of}
 use Rattle.packet_walks.proofs.FabricParts.{index_there}
-use Rattle.held_tables.proofs.HeldTables.{block_found, slice_mapped}
+use Rattle.plan_tables.proofs.HeldTables.{block_found, slice_mapped}
 use Rattle.packet_walks.proofs.Judged.{same_itself}
-use Rattle.packet_walks.proofs.PlanSteps.{index_is}
+use Rattle.packet_walks.proofs.EntrySteps.{index_is}
 use Rattle.packet_walks.proofs.Tops.{entry_above}
 use Rattle.packet_walks.specs.declared.next_hop.NextHop.TheVariants.{To}
 use Rattle.next_tables.specs.OrderRule.{may_change, tried}

@@ -2,11 +2,11 @@
 use Rattle.std.specs.Prelude.{ℕ, suc, ◌+◌, ◌*◌, List, [], ◌∷◌, ◌++◌, Some, map, max, slice_index_or}
 use Rattle.std.specs.List.{range_with_len}
 use Rattle.subnet_view.specs.Reading.{Cells, switches}
-use Rattle.held_tables.specs.Entries.{block_count}
+use Rattle.plan_tables.specs.Entries.{block_count}
 use Rattle.held_tables.specs.declared.held.HeldBlock.{HeldBlock}
 use Rattle.held_tables.specs.declared.held.HeldSwitch.{HeldSwitch}
 use Rattle.held_tables.specs.Held.{HeldPlan}
-use Rattle.held_tables.specs.PlanTables.{blocks_from}
+use Rattle.plan_tables.specs.PlanTables.{blocks_from}
 use Rattle.packet_walks.specs.Edges.{greatest_top}
 use Rattle.next_tables.specs.NextTables.{next_switch}
 

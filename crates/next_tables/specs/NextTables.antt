@@ -3,12 +3,12 @@ use Rattle.std.specs.Prelude.{◌≡◌, ℕ, ◌+◌, ◌*◌, Bool, true, fals
 use Rattle.std.specs.List.{find, range_with_len}
 use Rattle.subnet_view.specs.declared.end_port.EndPort.{EndPort}
 use Rattle.subnet_view.specs.Reading.{Cells, switches}
-use Rattle.held_tables.specs.Entries.{block_count}
-use Rattle.held_tables.specs.Plan.{SwitchTable}
+use Rattle.plan_tables.specs.Entries.{block_count}
+use Rattle.plan_tables.specs.Plan.{SwitchTable}
 use Rattle.held_tables.specs.declared.held.HeldLid.{HeldLid}
 use Rattle.held_tables.specs.declared.held.HeldSwitch.{HeldSwitch}
 use Rattle.held_tables.specs.Held.{HeldPlan}
-use Rattle.held_tables.specs.PlanTables.{blocks_of}
+use Rattle.plan_tables.specs.PlanTables.{blocks_of}
 use Rattle.held_tables.specs.Owners.{is_sole}
 use Rattle.held_tables.specs.Switches.{index_in}
 use Rattle.held_tables.specs.Tables.{owners_of, is_same_end, entry_for, top_of}

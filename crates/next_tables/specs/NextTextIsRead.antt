@@ -1,12 +1,12 @@
 -- The text of a step is read back as the step's tables.
 use Rattle.std.specs.Prelude.{◌≤◌, ℕ, List}
 use Rattle.fact_store.specs.View.{Facts, cells_of, AreInRange}
-use Rattle.held_tables.specs.Lids.{IsNoRoom}
-use Rattle.held_tables.specs.Plan.{PlanValue, plan_of}
-use Rattle.held_tables.specs.Rule.{RuleValue}
+use Rattle.plan_tables.specs.Lids.{IsNoRoom}
+use Rattle.plan_tables.specs.Plan.{PlanValue, plan_of}
+use Rattle.plan_tables.specs.Rule.{RuleValue}
 use Rattle.held_tables.specs.Held.{HeldPlan}
-use Rattle.held_tables.specs.PlanRanges.{IsPlanInRange}
-use Rattle.held_tables.specs.PlanTables.{held_plan}
+use Rattle.plan_tables.specs.PlanRanges.{IsPlanInRange}
+use Rattle.plan_tables.specs.PlanTables.{held_plan}
 use Rattle.tables_file.specs.PrintedTextIsRead.{IsHeldInRange, Says}
 use Rattle.tables_file.specs.Reading.{held_of}
 use Rattle.tables_file.specs.PrintedTables.{next_text}

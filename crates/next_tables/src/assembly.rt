@@ -5,7 +5,8 @@ ghost use Rattle.subnet_view.specs.Reading.{switches};
 ghost use Rattle.next_tables.specs.Assembly.{all_blocks, block_in, entry_in, most_blocks, some_blocks, tables_with};
 ghost use Rattle.next_tables.specs.NextTables.{next_switch};
 
-use held_tables::{Held, HeldBlock, HeldSwitch, block_count};
+use held_tables::{Held, HeldBlock, HeldSwitch};
+use plan_tables::block_count;
 use packet_walks::Network;
 use smp_bytes::{Lid, NO_ENTRY};
 use std::alloc::{AllocError, Global};

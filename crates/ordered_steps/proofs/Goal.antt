@@ -20,7 +20,7 @@ use Rattle.next_tables.specs.SettledRule.{step_at, comes_to, delivers}
 use Rattle.next_tables.proofs.Entries.{at_mapped}
 use Rattle.next_tables.proofs.Mixtures.{at, Comes}
 use Rattle.next_tables.proofs.Steps.{at_index}
-use Rattle.held_tables.proofs.HeldTables.{within_length}
+use Rattle.plan_tables.proofs.HeldTables.{within_length}
 use Rattle.next_tables.specs.OrderRule.{is_same, comes_down, none_comes_down, goes_up, none_goes_up, turns_well, leads_in, may_change, tried_entry, tried}
 use Rattle.next_tables.specs.SwitchPositions.{is_up, is_down, Leads, AreRight, switch_at}
 use Rattle.ordered_steps.specs.OrderedStepLaws.{IsLineStep, DeliverFrom, AreStepsByOrder, IsDepth, EndInTheGoal, EndInTwiceAsMany}

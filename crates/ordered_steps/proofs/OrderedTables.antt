@@ -3,12 +3,12 @@ use Rattle.std.proofs.Common.{◌≡◌, ℕ, List, Some, refl, sym, ap, ◌∙�
 use Rattle.std.specs.Prelude.{slice_get, unwrap_or}
 use Rattle.fact_store.specs.View.{Facts, cells_of}
 use Rattle.subnet_view.specs.Reading.{switches}
-use Rattle.held_tables.proofs.AttachmentTables.{switches_rise}
+use Rattle.plan_tables.proofs.AttachmentTables.{switches_rise}
 use Rattle.held_tables.specs.Held.{HeldPlan}
 use Rattle.held_tables.specs.Switches.{index_in}
 use Rattle.held_tables.specs.Tables.{owners_of}
-use Rattle.held_tables.proofs.HeldTables.{within_length}
-use Rattle.packet_walks.proofs.PlanSteps.{contains_at}
+use Rattle.plan_tables.proofs.HeldTables.{within_length}
+use Rattle.packet_walks.proofs.EntrySteps.{contains_at}
 use Rattle.next_tables.specs.SwitchPositions.{position_at}
 use Rattle.next_tables.specs.NextTables.{by_order, index_at, next_at, ordered_for}
 use Rattle.next_tables.proofs.Ordered.{index_own}

@@ -2,6 +2,7 @@ pub mod Arrivals
 pub mod Brought
 pub mod Elsewhere
 pub mod Ended
+pub mod EntrySteps
 pub mod FabricParts
 pub mod FarRows
 pub mod Further
@@ -10,8 +11,6 @@ pub mod InTime
 pub mod Judged
 pub mod LidBits
 pub mod OwnerLines
-pub mod PlanPackets
-pub mod PlanSteps
 pub mod ToOwners
 pub mod ToSwitches
 pub mod Told

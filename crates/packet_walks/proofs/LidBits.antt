@@ -2,7 +2,7 @@
 use Rattle.std.proofs.Common.{◌≡◌, ◌<◌, ◌==◌, ◌||◌, ◌⊎◌, ℕ, Bool, true, false, inl, inr, refl, sym, ◌∙◌}
 use Rattle.std.specs.Int.{bit_at}
 use Rattle.std.proofs.lemmas.Bool.{and_parts, eqb-true}
-use Rattle.held_tables.proofs.TargetBits.{and_bit, no_bit, or_bit, with_bit}
+use Rattle.spread_labels.proofs.TargetBits.{and_bit, no_bit, or_bit, with_bit}
 use Rattle.packet_walks.specs.declared.lid_set.LidSet.{LidSet}
 use Rattle.packet_walks.specs.LidSet.{both, either, has, no_lids, with_lid}
 

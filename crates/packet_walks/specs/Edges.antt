@@ -2,7 +2,7 @@
 use Rattle.std.specs.Prelude.{ℕ, ◌==◌, List, Option, None, Some, map, slice_index_or, if◌then◌else◌}
 use Rattle.port_graph.specs.declared.edge.Edge.{Edge}
 use Rattle.subnet_view.specs.Reading.{Cells, switches}
-use Rattle.held_tables.specs.Lids.{greatest}
+use Rattle.lid_assign.specs.Lids.{greatest}
 use Rattle.held_tables.specs.Held.{HeldPlan}
 use Rattle.held_tables.specs.declared.far_end.Far.{Far}
 use Rattle.held_tables.specs.declared.far_end.Far.TheVariants.{Nothing, Switch, Port}

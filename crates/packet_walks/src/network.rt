@@ -2,7 +2,7 @@ ghost use Rattle.std.specs.Prelude.{◌≡◌, ◌<◌, ◌/◌, IfOk, length, m
 ghost use Rattle.std.specs.Option.{option_map_or};
 ghost use Rattle.fact_store.specs.View.{cells_of};
 ghost use Rattle.subnet_view.specs.EndPort.{end_ports};
-ghost use Rattle.held_tables.specs.Lids.{greatest};
+ghost use Rattle.lid_assign.specs.Lids.{greatest};
 ghost use Rattle.subnet_view.specs.Reading.{switches};
 ghost use Rattle.packet_walks.specs.Deliveries.{AreDeliveries};
 ghost use Rattle.packet_walks.specs.Edges.{edges_of, greatest_top};

@@ -30,7 +30,7 @@ use Rattle.updown_routes.proofs.Ranks.{before_total}
 use Rattle.held_tables.specs.declared.far_end.Far.TheVariants.{Nothing, Switch}
 use Rattle.held_tables.specs.declared.far_end.Far.{Far}
 use Rattle.held_tables.specs.Switches.{far_at, far_of, far_to, index_in, row_of}
-use Rattle.packet_walks.proofs.PlanSteps.{index_is}
+use Rattle.packet_walks.proofs.EntrySteps.{index_is}
 use Rattle.next_tables.proofs.Entries.{member}
 use Rattle.next_tables.proofs.Steps.{at_index}
 use Rattle.next_tables.specs.SwitchPositions.{AreApart, IsOrder, IsWired, switch_at}

@@ -12,7 +12,7 @@ use Rattle.subnet_view.specs.Routing.{Routing}
 use Rattle.lid_assign.specs.Lids.{greatest, lids, top_of, IsNoRoom}
 use Rattle.lft_blocks.specs.Rule.{routing_by, spread_in}
 use Rattle.lft_blocks.specs.Plan.{plan_of, lid_routing}
-use Rattle.held_tables.specs.PlanTables.{held_plan}
+use Rattle.plan_tables.specs.PlanTables.{held_plan}
 use Rattle.spread_labels.specs.declared.key_order.VertexKey.{VertexKey}
 use Rattle.spread_routes.specs.SwitchOrder.{OrderValue}
 use Rattle.held_tables.specs.Held.{HeldPlan, nothing_held}
@@ -21,8 +21,8 @@ use Rattle.spread_routes.specs.Rule.{position, by_positions}
 use Rattle.spread_routes.specs.Spread.{keys_by, spread_by}
 use Rattle.spread_labels.specs.Ways.{channel_number}
 use Rattle.held_tables.specs.Tables.{entry_for, top_of as top_held}
-use Rattle.held_tables.proofs.HeldPlans.{made}
-use Rattle.packet_walks.proofs.PlanSteps.{leaves}
+use Rattle.plan_tables.proofs.HeldPlans.{made}
+use Rattle.packet_walks.proofs.EntrySteps.{leaves}
 use Rattle.packet_walks.proofs.Tops.{none_above}
 use Rattle.audit_channels.specs.Waiting.{WaitsFor}
 use Rattle.audit_laws.proofs.PlansRise.{rise_in_turn}

@@ -13,7 +13,7 @@ use Rattle.lft_blocks.specs.Plan.{plan_of}
 use Rattle.lft_blocks.specs.Rule.{order_of, spread_in, up_and_down}
 use Rattle.plan_order.specs.PlanOrder.{rank_position}
 use Rattle.held_tables.specs.Held.{HeldPlan}
-use Rattle.held_tables.specs.PlanTables.{held_plan}
+use Rattle.plan_tables.specs.PlanTables.{held_plan}
 use Rattle.next_tables.specs.SwitchPositions.{AreApart, AreRight, IsOrder, switch_at}
 use Rattle.next_tables.proofs.Entries.{at_mapped, member}
 use Rattle.next_tables.proofs.Hops.{leads_at, leads_within, to_within, to_wired}

@@ -17,13 +17,14 @@ use Rattle.subnet_view.proofs.EdgeLists.{has_end}
 use Rattle.subnet_view.proofs.Graphs.{graph_law}
 use Rattle.subnet_view.proofs.Members.{contains_none}
 use Rattle.lid_assign.specs.Lids.{IsNoRoom, lids, owner_of, top_of}
-use Rattle.lft_blocks.specs.Entries.{attachment_of, port_to}
+use Rattle.subnet_view.specs.Wires.{attachment_of}
+use Rattle.lft_blocks.specs.Entries.{port_to}
 use Rattle.lft_blocks.specs.Rule.{RuleValue}
 use Rattle.lft_blocks.proofs.RulesRoute.{lids_are_routed}
 use Rattle.held_tables.specs.declared.held.HeldLid.{HeldLid}
 use Rattle.held_tables.specs.Held.{HeldPlan, nothing_held}
-use Rattle.held_tables.proofs.NextPorts.{lid_has_cost}
-use Rattle.held_tables.proofs.HeldPlans.{made, entry_counts}
+use Rattle.plan_tables.proofs.NextPorts.{lid_has_cost}
+use Rattle.plan_tables.proofs.HeldPlans.{made, entry_counts}
 use Rattle.held_tables.specs.Tables.{entry_for}
 use Rattle.packet_walks.specs.declared.packet_end.End.TheVariants.{Taken}
 use Rattle.packet_walks.specs.declared.next_hop.NextHop.{NextHop}
@@ -40,7 +41,7 @@ use Rattle.ordered_steps.specs.OrderedStepLaws.{DeliverFrom}
 use Rattle.plan_order_laws.specs.PlanLaws.{PlansCover}
 use Rattle.next_tables.proofs.Hops.{none_taken, none_to, placed}
 use Rattle.plan_order_laws.proofs.PlanOrders.{in_one, is_switch}
-use Rattle.packet_walks.proofs.PlanPackets.{attachment_there, from_switch, owned}
+use Rattle.plan_tables.proofs.PlanPackets.{attachment_there, from_switch, owned}
 use Rattle.plan_order_laws.proofs.UpdownRight.{same_component}
 use Rattle.lft_blocks.specs.Plan.{lid_routing}
 

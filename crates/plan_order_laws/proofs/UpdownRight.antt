@@ -18,14 +18,14 @@ use Rattle.subnet_view.proofs.GraphSwitches.{graph_guids, switch_usable}
 use Rattle.lft_blocks.specs.Rule.{up_and_down}
 use Rattle.lft_blocks.specs.Plan.{plan_of}
 use Rattle.held_tables.specs.Held.{HeldPlan}
-use Rattle.held_tables.specs.PlanTables.{held_plan}
+use Rattle.plan_tables.specs.PlanTables.{held_plan}
 use Rattle.updown_routes.specs.Ranks.{is_before}
 use Rattle.updown_routes.specs.Channels.{component_size, position_of, channel_number}
 use Rattle.updown_routes.proofs.Before.{before_trans, not_before_itself}
 use Rattle.updown_routes.proofs.Ranks.{before_total}
 use Rattle.plan_order.specs.PlanOrder.{rank_position}
 use Rattle.lid_assign.specs.Lids.{IsNoRoom}
-use Rattle.packet_walks.proofs.PlanSteps.{leaves}
+use Rattle.packet_walks.proofs.EntrySteps.{leaves}
 use Rattle.held_tables.specs.Tables.{entry_for}
 use Rattle.next_tables.proofs.Entries.{member}
 use Rattle.next_tables.proofs.Steps.{at_index}

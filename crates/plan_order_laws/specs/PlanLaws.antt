@@ -10,7 +10,7 @@ use Rattle.lft_blocks.specs.Rule.{RuleValue, routing_by}
 use Rattle.plan_order.specs.PlanOrder.{positions_by}
 use Rattle.held_tables.specs.declared.held.HeldLid.{HeldLid}
 use Rattle.held_tables.specs.Held.{HeldPlan}
-use Rattle.held_tables.specs.PlanTables.{held_plan}
+use Rattle.plan_tables.specs.PlanTables.{held_plan}
 use Rattle.held_tables.specs.Tables.{entry_for, owners_of}
 use Rattle.next_tables.specs.OrderRule.{IsNextByOrder, numbers_by}
 use Rattle.next_tables.specs.SwitchPositions.{AreApart, AreRight, IsOrder, IsWired, Leads, position_at, switch_at}

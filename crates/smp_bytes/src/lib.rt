@@ -13,8 +13,6 @@ mod path;
 mod port_num;
 mod smp;
 mod smp_fault;
-#[cfg(test)]
-mod tests;
 pub mod wire;
 
 pub use generation::Generation;

@@ -13,11 +13,11 @@ use Rattle.lft_blocks.specs.Plan.{plan_of}
 use Rattle.lft_blocks.specs.Rule.{RuleValue}
 use Rattle.held_tables.specs.declared.held.HeldLid.{HeldLid}
 use Rattle.held_tables.specs.Held.{HeldPlan, nothing_held}
-use Rattle.held_tables.specs.PlanTables.{held_plan}
-use Rattle.held_tables.proofs.OwnedLids.{line_owned}
+use Rattle.plan_tables.specs.PlanTables.{held_plan}
+use Rattle.plan_tables.proofs.OwnedLids.{line_owned}
 use Rattle.held_tables.specs.Owners.{is_sole}
 use Rattle.held_tables.specs.Tables.{is_owner, is_same_end, owners_of}
-use Rattle.held_tables.proofs.HeldPlans.{made}
+use Rattle.plan_tables.proofs.HeldPlans.{made}
 use Rattle.held_tables.proofs.Once.{sole_owners_are_alone}
 use Rattle.packet_walks.proofs.Judged.{same_itself}
 use Rattle.packet_walks.proofs.OwnerLines.{owner_line}

@@ -9,7 +9,7 @@ use Rattle.packet_walks.specs.declared.packet_end.End.TheVariants.{Taken}
 use Rattle.packet_walks.specs.declared.next_hop.NextHop.TheVariants.{To, Ends}
 use Rattle.packet_walks.specs.HopsByTables.{next_hops_of}
 use Rattle.packet_walks.specs.EndsBySwitch.{after}
-use Rattle.packet_walks.proofs.PlanSteps.{contains_at}
+use Rattle.packet_walks.proofs.EntrySteps.{contains_at}
 use Rattle.next_tables.specs.SettledRule.{comes_to}
 use Rattle.next_tables.specs.NextTables.{keeper, next_at, next_for, settled_first}
 use Rattle.next_tables.specs.SettledStepLaws.{stepped}

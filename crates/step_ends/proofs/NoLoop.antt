@@ -20,7 +20,7 @@ use Rattle.next_run.specs.GoalLaws.{next_towards as next_to}
 use Rattle.next_run.proofs.Safe.{goals_are_safe}
 use Rattle.ordered_steps.proofs.Waits.{numbers_rise_by_order}
 use Rattle.next_run.specs.NextRun.{IsGoalFrom, stepped}
-use Rattle.held_tables.specs.PlanTables.{planned}
+use Rattle.plan_tables.specs.PlanTables.{planned}
 use Rattle.next_run.specs.StepLoops.{IsCycleInStep}
 use Rattle.step_ends.specs.StepLaws.{IsFreeByTold, RightTablesMakeNoLoop, ToldStepsMakeNoLoop}
 

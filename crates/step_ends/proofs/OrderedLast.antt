@@ -10,9 +10,9 @@ use Rattle.lft_blocks.specs.Rule.{RuleValue}
 use Rattle.plan_order.specs.PlanOrder.{positions_by}
 use Rattle.held_tables.specs.declared.held.HeldLid.{HeldLid}
 use Rattle.held_tables.specs.Held.{HeldPlan}
-use Rattle.held_tables.specs.PlanTables.{held_plan}
+use Rattle.plan_tables.specs.PlanTables.{held_plan}
 use Rattle.held_tables.specs.Tables.{entry_for, owners_of}
-use Rattle.packet_walks.proofs.PlanSteps.{contains_at}
+use Rattle.packet_walks.proofs.EntrySteps.{contains_at}
 use Rattle.next_tables.specs.OrderRule.{IsNextByOrder}
 use Rattle.next_tables.specs.SwitchPositions.{AreRight, position_at}
 use Rattle.next_tables.specs.NextTables.{IsKept, by_order, index_at, next_at, next_tables, ordered_for}

@@ -20,7 +20,8 @@ use Rattle.subnet_view.proofs.EdgeLists.{has_end}
 use Rattle.subnet_view.proofs.Graphs.{graph_law}
 use Rattle.subnet_view.proofs.GraphSwitches.{graph_guids}
 use Rattle.lid_assign.specs.Lids.{IsNoRoom, lids, owner_of, top_of as greatest_of}
-use Rattle.lft_blocks.specs.Entries.{attachment_of, block_count, port_to}
+use Rattle.subnet_view.specs.Wires.{attachment_of}
+use Rattle.lft_blocks.specs.Entries.{block_count, port_to}
 use Rattle.lft_blocks.specs.Plan.{PlanValue, SwitchTable, plan_of, lid_routing}
 use Rattle.lft_blocks.specs.PlanText.{lids_text, table_text}
 use Rattle.lft_blocks.specs.Rule.{RuleValue}
@@ -28,22 +29,22 @@ use Rattle.lft_blocks.proofs.HeldEntries.{entry_by_attachment, entry_of as plann
 use Rattle.lft_blocks.proofs.RulesRoute.{lids_are_routed}
 use Rattle.held_tables.specs.declared.held.HeldLid.{HeldLid}
 use Rattle.held_tables.specs.Held.{HeldPlan, nothing_held}
-use Rattle.held_tables.specs.PlanTables.{blocks_of, held_plan, with_top}
+use Rattle.plan_tables.specs.PlanTables.{blocks_of, held_plan, with_top}
 use Rattle.tables_file.specs.Reading.{held_of}
 use Rattle.tables_file.specs.PrintedTables.{next_text}
-use Rattle.held_tables.proofs.NextPorts.{lid_has_cost}
-use Rattle.held_tables.proofs.OwnedLids.{line_owned, owner_listed as owner_has_line}
+use Rattle.plan_tables.proofs.NextPorts.{lid_has_cost}
+use Rattle.plan_tables.proofs.OwnedLids.{line_owned, owner_listed as owner_has_line}
 use Rattle.tables_file.proofs.TablesText.{tables_are_text}
 use Rattle.held_tables.specs.Tables.{entry_for, is_owner, owners_of, top_of}
-use Rattle.held_tables.proofs.HeldPlans.{entry_counts, made, top_of_switch}
+use Rattle.plan_tables.proofs.HeldPlans.{entry_counts, made, top_of_switch}
 use Rattle.packet_walks.specs.declared.packet_end.End.TheVariants.{Taken}
 use Rattle.packet_walks.specs.declared.next_hop.NextHop.TheVariants.{To, Ends}
 use Rattle.packet_walks.specs.HopsByTables.{next_hops_of}
 use Rattle.packet_walks.specs.EndsBySwitch.{after}
 use Rattle.packet_walks.proofs.Judged.{same_itself}
 use Rattle.packet_walks.proofs.OwnerLines.{line_owner, owner_line}
-use Rattle.packet_walks.proofs.PlanPackets.{attachment_there, from_switch}
-use Rattle.packet_walks.proofs.PlanSteps.{contains_at}
+use Rattle.plan_tables.proofs.PlanPackets.{attachment_there, from_switch}
+use Rattle.packet_walks.proofs.EntrySteps.{contains_at}
 use Rattle.next_tables.specs.NextTables.{StepRuleValue, next_at, next_switch, next_table, next_tables, next_top}
 use Rattle.next_run.specs.NextRun.{step_rule}
 use Rattle.next_tables.proofs.Whole.{entry_next, top_next}

@@ -31,7 +31,7 @@ use Rattle.subnet_view.proofs.WireEnds.{across_back, linked}
 use Rattle.subnet_view.proofs.WireLaws.{wire_law}
 use Rattle.lid_assign.specs.Lids.{IsNoRoom, Given, has_number, lids, owner_of, top_of}
 use Rattle.lid_assign.proofs.LidLaws.{lids_law}
-use Rattle.lft_blocks.specs.Entries.{attachment_of}
+use Rattle.subnet_view.specs.Wires.{attachment_of}
 use Rattle.lft_blocks.specs.Rule.{RuleValue}
 use Rattle.held_tables.specs.declared.held.HeldLid.{HeldLid}
 use Rattle.held_tables.specs.Held.{HeldPlan, nothing_held}
@@ -39,7 +39,7 @@ use Rattle.held_tables.specs.declared.far_end.Far.{Far}
 use Rattle.held_tables.specs.declared.far_end.Far.TheVariants.{Nothing, Port, Switch}
 use Rattle.held_tables.specs.Switches.{far_at, far_of, far_to, index_in, row_of}
 use Rattle.held_tables.specs.Tables.{entry_for, is_owner, owners_of}
-use Rattle.held_tables.proofs.HeldPlans.{made}
+use Rattle.plan_tables.proofs.HeldPlans.{made}
 use Rattle.packet_walks.specs.declared.cause.Cause.{Cause}
 use Rattle.packet_walks.specs.declared.cause.Cause.TheVariants.{Foreign}
 use Rattle.packet_walks.specs.declared.packet_end.End.TheVariants.{Lost, Taken}
@@ -51,9 +51,9 @@ use Rattle.packet_walks.proofs.Ended.{after_ended}
 use Rattle.packet_walks.proofs.FabricParts.{index_there}
 use Rattle.packet_walks.proofs.Judged.{same_itself}
 use Rattle.packet_walks.proofs.OwnerLines.{owner_line}
-use Rattle.packet_walks.proofs.PlanPackets.{from_switch}
-use Rattle.held_tables.proofs.OwnedLids.{line_owned}
-use Rattle.packet_walks.proofs.PlanSteps.{contains_at, index_is}
+use Rattle.plan_tables.proofs.PlanPackets.{from_switch}
+use Rattle.plan_tables.proofs.OwnedLids.{line_owned}
+use Rattle.packet_walks.proofs.EntrySteps.{contains_at, index_is}
 use Rattle.next_tables.specs.SettledRule.{step_at}
 use Rattle.next_tables.proofs.Entries.{at_mapped, member}
 use Rattle.next_tables.proofs.Mixtures.{in_range}

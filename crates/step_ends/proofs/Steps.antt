@@ -9,7 +9,7 @@ use Rattle.lft_blocks.specs.Rule.{RuleValue}
 use Rattle.plan_order.specs.PlanOrder.{positions_by}
 use Rattle.held_tables.specs.Held.{HeldPlan}
 use Rattle.held_tables.specs.Tables.{top_of}
-use Rattle.packet_walks.proofs.PlanSteps.{contains_at}
+use Rattle.packet_walks.proofs.EntrySteps.{contains_at}
 use Rattle.next_tables.specs.NextTables.{by_order, next_tables, settled_first}
 use Rattle.next_tables.specs.SettledStepLaws.{stepped as settled}
 use Rattle.next_tables.proofs.Whole.{entry_next, top_next}
@@ -17,7 +17,7 @@ use Rattle.ordered_steps.specs.Rightness.{are_right}
 use Rattle.ordered_steps.proofs.ToldRight.{rightness_is_told}
 use Rattle.plan_order_laws.specs.PlanLaws.{plan_position}
 use Rattle.next_run.specs.NextRun.{step_rule, stepped}
-use Rattle.held_tables.specs.PlanTables.{planned}
+use Rattle.plan_tables.specs.PlanTables.{planned}
 use Rattle.step_ends.specs.StepEnds.{AreEnough}
 use Rattle.step_ends.proofs.Alone.{each_alone}
 use Rattle.step_ends.proofs.Ended.{steps_end}

@@ -17,20 +17,20 @@ use Rattle.subnet_view.proofs.Graphs.{graph_law}
 use Rattle.subnet_view.proofs.GraphSwitches.{graph_guids, switch_usable}
 use Rattle.lid_assign.specs.Lids.{Given, IsNoRoom, lids, lmc_of, owner_of, top_of as greatest_of}
 use Rattle.lid_assign.proofs.LidLaws.{lids_law}
-use Rattle.lft_blocks.specs.Entries.{attachment_of}
+use Rattle.subnet_view.specs.Wires.{attachment_of}
 use Rattle.lft_blocks.specs.Plan.{plan_of}
 use Rattle.lft_blocks.specs.Rule.{RuleValue}
 use Rattle.lft_blocks.proofs.HeldEntries.{owned_from_one, owned_to_top}
 use Rattle.held_tables.specs.declared.held.HeldLid.{HeldLid}
 use Rattle.held_tables.specs.Held.{HeldPlan, nothing_held}
-use Rattle.held_tables.specs.PlanTables.{held_plan}
+use Rattle.plan_tables.specs.PlanTables.{held_plan}
 use Rattle.held_tables.specs.Tables.{is_owner, owners_of, top_of}
-use Rattle.held_tables.proofs.HeldPlans.{made, top_of_switch}
-use Rattle.held_tables.proofs.OwnedLids.{owner_at, owner_listed as owner_has_line}
+use Rattle.plan_tables.proofs.HeldPlans.{made, top_of_switch}
+use Rattle.plan_tables.proofs.OwnedLids.{owner_at, owner_listed as owner_has_line}
 use Rattle.packet_walks.specs.declared.packet_end.End.TheVariants.{Taken}
 use Rattle.packet_walks.specs.declared.next_hop.NextHop.TheVariants.{Ends}
 use Rattle.packet_walks.proofs.OwnerLines.{line_owner}
-use Rattle.packet_walks.proofs.PlanPackets.{from_switch}
+use Rattle.plan_tables.proofs.PlanPackets.{from_switch}
 use Rattle.next_tables.specs.SwitchPositions.{switch_at}
 use Rattle.next_tables.specs.SettledRule.{step_at}
 use Rattle.next_tables.proofs.Entries.{member}

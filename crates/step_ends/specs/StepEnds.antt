@@ -8,7 +8,7 @@ use Rattle.lft_blocks.specs.PlanText.{plan_text}
 use Rattle.lft_blocks.specs.Rule.{RuleValue}
 use Rattle.held_tables.specs.declared.held.HeldLid.{HeldLid}
 use Rattle.held_tables.specs.Held.{HeldPlan}
-use Rattle.held_tables.specs.PlanTables.{held_plan, planned}
+use Rattle.plan_tables.specs.PlanTables.{held_plan, planned}
 use Rattle.tables_file.specs.Reading.{held_of}
 use Rattle.held_tables.specs.Tables.{owners_of, top_of}
 use Rattle.packet_walks.specs.declared.packet_end.End.TheVariants.{Taken}

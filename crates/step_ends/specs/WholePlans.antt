@@ -6,7 +6,7 @@ use Rattle.subnet_view.specs.EndPort.{end_ports}
 use Rattle.lid_assign.specs.Lids.{IsNoRoom}
 use Rattle.lft_blocks.specs.Plan.{plan_of}
 use Rattle.lft_blocks.specs.Rule.{RuleValue}
-use Rattle.held_tables.specs.PlanTables.{held_plan}
+use Rattle.plan_tables.specs.PlanTables.{held_plan}
 use Rattle.next_run.specs.HandedStages.{HaveOwnLids, IsWholePlan}
 
 -- if facts are in range and have room, their plan is whole (`IsWholePlan`)

@@ -9,6 +9,7 @@ pub mod Walks
 pub mod WireEnds
 pub mod WireLaws
 pub mod Attachments
+pub mod AttachmentSwitches
 pub mod BesideClaims
 pub mod Counting
 pub mod Covered
@@ -17,6 +18,7 @@ pub mod EndsInStep
 pub mod EndSearch
 pub mod EndPairs
 pub mod NextEndPort
+pub mod NumberTests
 pub mod Walked
 pub mod Rising
 pub mod PortsRise

@@ -74,3 +74,9 @@ AttachedLaw = (cells : Cells) (g p h q : ℕ) → (attached cells g p ≡ Some (
 -- the wire to the port `far` leads to `e`; false if there is no wire
 abbrev pub leads_to : Option (ℕ × ℕ) → EndPort → Bool
 leads_to far e = option_map_or (is_at e.node e.port) far false
+
+-- the switch, and the port of it, at which the end port `e` is attached. A port of a usable switch is attached at port
+-- 0 of that switch. An adapter port is attached at the port that it is wired to; None if it is not wired to a usable
+-- switch
+abbrev pub attachment_of : Cells → EndPort → Option (ℕ × ℕ)
+attachment_of cells e = if is_usable cells e.node then Some (e.node, 0) else attached cells e.node e.port

@@ -5,4 +5,4 @@ pub mod Printed
 pub mod ReadRanges
 pub mod TablesText
 pub mod WordsPrinted
-pub use Rattle.held_tables.proofs.PlanRanges
+pub use Rattle.plan_tables.proofs.PlanRanges

@@ -5,7 +5,7 @@ use Rattle.std.specs.List.{AllByRecursion}
 use Rattle.hex.specs.Hex.{encode_lower}
 use Rattle.smp_bytes.specs.Text.{guid_text, port_text}
 use Rattle.subnet_view.specs.declared.end_port.EndPort.{EndPort}
-use Rattle.held_tables.specs.PlanText.{lid_line, switch_line, block_line}
+use Rattle.plan_tables.specs.PlanText.{lid_line, switch_line, block_line}
 use Rattle.text_words.specs.Printed.{line_text}
 use Rattle.text_words.proofs.Digits.{is_below}
 use Rattle.text_words.proofs.NumbersPrinted.{count_is_read, guid_is_read}
@@ -17,7 +17,7 @@ use Rattle.held_tables.specs.declared.held.HeldLid.{HeldLid}
 use Rattle.held_tables.specs.declared.held.HeldSwitch.{HeldSwitch}
 use Rattle.held_tables.specs.Held.{LidRange}
 use Rattle.tables_file.specs.TablesLine.{line_in, lmc_line}
-use Rattle.held_tables.specs.PlanRanges.{IsBlock}
+use Rattle.plan_tables.specs.PlanRanges.{IsBlock}
 use Rattle.tables_file.specs.Reading.{last_lines_after, item_of, lid_after, switch_after, block_with}
 use Rattle.tables_file.proofs.Passes.{Passes, passes_line}
 use Rattle.tables_file.proofs.WordsPrinted.{guid_is_word, port_is_word, small_is_read, port_is_read, entries_are_word, entries_are_read}

@@ -8,10 +8,10 @@ use Rattle.text_words.specs.Text.{lines}
 use Rattle.subnet_view.specs.declared.end_port.EndPort.{EndPort}
 use Rattle.std.proofs.lemmas.Bool.{cond_both}
 use Rattle.std.specs.Prelude.{◌==◌}
-use Rattle.held_tables.specs.Lids.{Given, owner_of, lmc_of, top_of, rising_lids}
-use Rattle.held_tables.proofs.RisingLids.{rising_lids_law}
-use Rattle.held_tables.specs.Plan.{SwitchTable, PlanValue}
-use Rattle.held_tables.specs.PlanText.{lid_line, owner_line, lids_text, switch_line, block_line, blocks_text, table_text, plan_text}
+use Rattle.plan_tables.specs.Lids.{Given, owner_of, lmc_of, top_of, rising_lids}
+use Rattle.plan_tables.proofs.RisingLids.{rising_lids_law}
+use Rattle.plan_tables.specs.Plan.{SwitchTable, PlanValue}
+use Rattle.plan_tables.specs.PlanText.{lid_line, owner_line, lids_text, switch_line, block_line, blocks_text, table_text, plan_text}
 use Rattle.held_tables.specs.declared.held.HeldLid.{HeldLid}
 use Rattle.held_tables.specs.declared.held.HeldSwitch.{HeldSwitch}
 use Rattle.held_tables.specs.declared.held.HeldBlock.{HeldBlock}
@@ -19,8 +19,8 @@ use Rattle.held_tables.specs.declared.held_item.HeldItem.{HeldItem}
 use Rattle.held_tables.specs.declared.held_item.HeldItem.TheVariants.{Lid, Switch, Block}
 use Rattle.tables_file.specs.declared.last_lines.LastLines.{LastLines}
 use Rattle.held_tables.specs.Held.{HeldPlan, LidRange, lids_of, nothing_held}
-use Rattle.held_tables.specs.PlanTables.{range_from, owned_range, owned_lids, blocks_from, blocks_of, held_plan}
-use Rattle.held_tables.specs.PlanRanges.{IsLidInRange, IsBlock, IsTableInRange, IsPlanInRange}
+use Rattle.plan_tables.specs.PlanTables.{range_from, owned_range, owned_lids, blocks_from, blocks_of, held_plan}
+use Rattle.plan_tables.specs.PlanRanges.{IsLidInRange, IsBlock, IsTableInRange, IsPlanInRange}
 use Rattle.tables_file.specs.PrintedTextIsRead.{PrintedPlansAreRead, AreTops, PrintedTablesAreRead, Says, held_under}
 use Rattle.tables_file.specs.PrintedTextIsRead.{with_own_top}
 use Rattle.tables_file.specs.PrintedTables.{next_text}

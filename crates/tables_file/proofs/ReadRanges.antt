@@ -22,7 +22,7 @@ use Rattle.tables_file.specs.declared.tables_line.LidLine.{LidLine}
 use Rattle.tables_file.specs.declared.tables_line.TextLine.{TextLine}
 use Rattle.tables_file.specs.declared.tables_line.TextLine.TheVariants as line
 use Rattle.held_tables.specs.Held.{HeldPlan, LidRange, nothing_held}
-use Rattle.held_tables.specs.PlanRanges.{IsBlock}
+use Rattle.plan_tables.specs.PlanRanges.{IsBlock}
 use Rattle.tables_file.specs.PrintedTextIsRead.{IsHeldInRange, TextsAreInRange}
 use Rattle.tables_file.specs.Reading.{start, is_behind, lid_after, lid_with, switch_after, switch_with, block_below, item_of, last_lines_after, then_or, items_from, held_by, held_of}
 use Rattle.held_tables.specs.HeldItem.{held_with}

@@ -8,11 +8,11 @@ use Rattle.std.proofs.lemmas.Bool.{eq-eqb, ne_eqb}
 use Rattle.std.proofs.lemmas.List.{drop_more}
 use Rattle.std.proofs.lemmas.List.Folds.{flat_map-map}
 use Rattle.record_file.proofs.Writing.{appends_then}
-use Rattle.held_tables.specs.Plan.{SwitchTable}
-use Rattle.held_tables.specs.PlanText.{blocks_text, switch_line, table_text}
+use Rattle.plan_tables.specs.Plan.{SwitchTable}
+use Rattle.plan_tables.specs.PlanText.{blocks_text, switch_line, table_text}
 use Rattle.held_tables.specs.declared.held.HeldBlock.{HeldBlock}
 use Rattle.held_tables.specs.declared.held.HeldSwitch.{HeldSwitch}
-use Rattle.held_tables.specs.PlanTables.{blocks_from, blocks_of}
+use Rattle.plan_tables.specs.PlanTables.{blocks_from, blocks_of}
 use Rattle.tables_file.specs.PrintedTextIsRead.{with_own_top}
 use Rattle.tables_file.specs.PrintedTables.{block_text, first_blocks, is_of, later_blocks, switches_text}
 

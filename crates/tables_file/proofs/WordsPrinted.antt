@@ -13,7 +13,7 @@ use Rattle.text_words.proofs.Digits.{is_within}
 use Rattle.text_words.proofs.Splits.{differs}
 use Rattle.text_words.proofs.NumbersPrinted.{decimal_digits, decimal_is_read, hex_digits, guid_is_read}
 use Rattle.text_words.proofs.Printed.{IsWord, is_bare, is_plain, all_append, bare_on, digit_apart, digits_all, digit_bare, digit_plain, until_then}
-use Rattle.held_tables.specs.PlanRanges.{IsBlock}
+use Rattle.plan_tables.specs.PlanRanges.{IsBlock}
 use Rattle.text_words.specs.NodePorts.{port_of}
 use Rattle.text_words.specs.Numbers.{bytes_of, small_of}
 

@@ -1,8 +1,8 @@
 -- The text of tables in which each switch has its own top.
 use Rattle.std.specs.Prelude.{ℕ, suc, ◌==◌, Bool, List, [], ◌∷◌, ◌++◌, drop}
 use Rattle.std.specs.List.{flat_map, prefix_len, take_while}
-use Rattle.held_tables.specs.Lids.{Given}
-use Rattle.held_tables.specs.PlanText.{block_line, lids_text, switch_line}
+use Rattle.plan_tables.specs.Lids.{Given}
+use Rattle.plan_tables.specs.PlanText.{block_line, lids_text, switch_line}
 use Rattle.held_tables.specs.declared.held.HeldBlock.{HeldBlock}
 use Rattle.held_tables.specs.declared.held.HeldSwitch.{HeldSwitch}
 use Rattle.held_tables.specs.Held.{HeldPlan}

@@ -1,17 +1,17 @@
 -- The text of tables is read back as these tables, even if each switch has its own top.
 use Rattle.std.specs.Prelude.{◌≡◌, ◌≤◌, ℕ, List, map, None}
 use Rattle.std.specs.List.{AllByRecursion}
-use Rattle.held_tables.specs.Plan.{PlanValue, SwitchTable, plan_of}
+use Rattle.plan_tables.specs.Plan.{PlanValue, SwitchTable, plan_of}
 use Rattle.held_tables.specs.declared.held.HeldSwitch.{HeldSwitch}
 use Rattle.held_tables.specs.Held.{HeldPlan}
-use Rattle.held_tables.specs.PlanRanges.{IsBlock, IsPlanInRange}
-use Rattle.held_tables.specs.PlanTables.{blocks_of, owned_lids, with_top, held_plan}
+use Rattle.plan_tables.specs.PlanRanges.{IsBlock, IsPlanInRange}
+use Rattle.plan_tables.specs.PlanTables.{blocks_of, owned_lids, with_top, held_plan}
 use Rattle.tables_file.specs.Reading.{first_fault, held_of}
 use Rattle.tables_file.specs.PrintedTables.{next_text}
 use Rattle.fact_store.specs.View.{Facts, cells_of, AreInRange}
-use Rattle.held_tables.specs.Lids.{IsNoRoom}
-use Rattle.held_tables.specs.Rule.{RuleValue}
-use Rattle.held_tables.specs.PlanText.{plan_text}
+use Rattle.plan_tables.specs.Lids.{IsNoRoom}
+use Rattle.plan_tables.specs.Rule.{RuleValue}
+use Rattle.plan_tables.specs.PlanText.{plan_text}
 
 -- the text has no fault, and what it says is `held`
 abbrev pub Says : List ℕ → HeldPlan → Type 0

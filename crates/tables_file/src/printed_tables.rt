@@ -2,13 +2,14 @@
 ghost use Rattle.std.specs.Prelude.{◌≡◌, ◌≤◌, ◌++◌, IsTrue, OnOk, length};
 ghost use Rattle.std.specs.List.{flat_map, prefix_len};
 ghost use Rattle.byte_io.specs.Writes.{Writes};
-ghost use Rattle.held_tables.specs.PlanText.{switch_line};
-ghost use Rattle.held_tables.specs.WritesPart.{WritesPart};
+ghost use Rattle.plan_tables.specs.PlanText.{switch_line};
+ghost use Rattle.byte_io.specs.WritesPart.{WritesPart};
 ghost use Rattle.tables_file.specs.PrintedTables.{block_text, first_blocks, is_of, later_blocks, next_text};
 ghost use Rattle.tables_file.specs.PrintedTables.{switches_text, tables_text_of};
 
 use byte_io::{Sink, WriteFault};
-use held_tables::{Held, HeldBlock, HeldSwitch, LidMap, write_block, write_lids, write_switch};
+use held_tables::{Held, HeldBlock, HeldSwitch};
+use plan_tables::{LidMap, write_block, write_lids, write_switch};
 
 /// Writes a line for each end port of `lids`, in ascending order of LID, then writes the tables `next` as
 /// `write_tables` does, and flushes. Does not allocate.

@@ -25,7 +25,8 @@ use Rattle.lid_assign.specs.Ranges.{range_at, meets}
 use Rattle.lid_assign.specs.Lids.{IsNoRoom, hand_out, handed_out, lids, owner_of, top_of}
 use Rattle.lid_assign.specs.Claims.{if_fits, fitting_claim, claims, with_kept, kept, kept_range}
 use Rattle.lid_assign.proofs.Staying.{still_room, lids_same}
-use Rattle.lft_blocks.specs.Entries.{attachment_of, block_count}
+use Rattle.subnet_view.specs.Wires.{attachment_of}
+use Rattle.lft_blocks.specs.Entries.{block_count}
 use Rattle.lft_blocks.specs.Plan.{tables_of, plan_of}
 use Rattle.takeover_laws.specs.OnePlan.{IsAlike, ClaimAlike, AlikeViewsPlanAlike, ClaimedPlansStay}
 use Rattle.takeover_laws.proofs.Alike.{end_ports_same, switches_same, usable_same, across_same, room_same}

@@ -8,8 +8,8 @@ use Rattle.subnet_view.specs.Reading.{Cells, switches}
 use Rattle.subnet_view.specs.SwitchEdges.{SwitchEdges}
 use Rattle.subnet_view.specs.Components.{root_of}
 use Rattle.subnet_view.specs.Graph.{edges_of, guids_of}
-use Rattle.held_tables.specs.Entries.{attachment_of}
-use Rattle.held_tables.proofs.AttachmentSwitches.{attachment_is_switch}
+use Rattle.subnet_view.specs.Wires.{attachment_of}
+use Rattle.subnet_view.proofs.AttachmentSwitches.{attachment_is_switch}
 use Rattle.audit_counts.proofs.site.root_at.Goals as goal
 
 listed : (cells : Cells) (guids : List ℕ) → map (λ (c : SwitchEdges). c.guid) (map (λ g. record { guid = g; edges = edges_of cells g }) guids) ≡ guids

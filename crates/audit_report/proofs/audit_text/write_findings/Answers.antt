@@ -3,7 +3,7 @@ use Rattle.std.proofs.Common.{◌≡◌, ◌∙◌, ◌++◌, ap, subst}
 use Rattle.std.specs.Prelude.{codes}
 use Rattle.fact_store.specs.View.{cells_of}
 use Rattle.record_file.proofs.Writing.{appends_then}
-use Rattle.lft_blocks.specs.WritesPart.{WritesPart}
+use Rattle.byte_io.specs.WritesPart.{WritesPart}
 use Rattle.audit_report.specs.AuditText.{disputed_line, findings_text, lid_line, kind_text, port_line, switch_line, tally_text, unmatched_text, unmatched_told}
 use Rattle.audit_report.specs.AuditText.{ways_text}
 use Rattle.audit_report.specs.Passing.{Audited}

@@ -2,7 +2,7 @@
 use Rattle.std.proofs.Common.{ap, subst}
 use Rattle.std.specs.Prelude.{codes}
 use Rattle.std.specs.List.{flat_map}
-use Rattle.lft_blocks.specs.WritesPart.{WritesPart}
+use Rattle.byte_io.specs.WritesPart.{WritesPart}
 use Rattle.audit_report.specs.AuditText.{more_line}
 use Rattle.audit_report.proofs.Written.{part_then, spelled}
 use Rattle.lane_report.specs.LaneText.{pair_line}

@@ -1,7 +1,7 @@
 use Rattle.std.proofs.Common.{List, ℕ, sym, ◌∙◌, subst}
 use Rattle.std.specs.Prelude.{Contains}
 use Rattle.lft_blocks.proofs.AttachmentTables.{switches_rise}
-use Rattle.lft_blocks.proofs.AttachmentSwitches.{attachment_is_switch}
+use Rattle.subnet_view.proofs.AttachmentSwitches.{attachment_is_switch}
 use Rattle.lft_blocks.proofs.attachment.attachment_of_lid.Goals as goal
 
 pub index_of-requires : goal.index_of-requires

@@ -2,7 +2,7 @@
 use Rattle.std.proofs.Common.{◌≡◌, ◌∙◌, ℕ, Option, ap, subst, sym}
 use Rattle.std.specs.Option.{option_map}
 use Rattle.held_tables.specs.Held.{HeldPlan}
-use Rattle.held_tables.specs.PlanTables.{held_plan}
+use Rattle.plan_tables.specs.PlanTables.{held_plan}
 use Rattle.lft_blocks.specs.Rule.{value_of}
 use Rattle.next_tables.specs.NextTables.{first_moved}
 use Rattle.next_run.specs.Asked.{rule_or}

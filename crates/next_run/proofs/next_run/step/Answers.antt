@@ -4,7 +4,7 @@ use Rattle.std.specs.Io.KnownBytes.{Appends}
 use Rattle.fact_store.specs.View.{Facts}
 use Rattle.lid_assign.specs.Lids.{Given}
 use Rattle.lft_blocks.specs.Rule.{RuleValue, value_of}
-use Rattle.held_tables.specs.PlanTables.{held_plan, planned}
+use Rattle.plan_tables.specs.PlanTables.{held_plan, planned}
 use Rattle.sm_cli.specs.declared.fault.Fault.{Fault}
 use Rattle.tables_file.specs.PrintedTables.{next_text}
 use Rattle.next_tables.specs.NextTables.{first_moved}

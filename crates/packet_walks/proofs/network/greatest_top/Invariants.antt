@@ -1,5 +1,5 @@
 use Rattle.std.proofs.Common.{◌≡◌, map, take}
-use Rattle.held_tables.specs.Lids.{greatest}
+use Rattle.lid_assign.specs.Lids.{greatest}
 use Rattle.packet_walks.proofs.network.greatest_top.Given as goal
 
 -- that of the switches so far

@@ -1,6 +1,6 @@
 use Rattle.fact_store.specs.View.{cells_of}
-use Rattle.held_tables.specs.Plan.{plan_of}
-use Rattle.held_tables.proofs.PlanRanges.{plans_in_range}
+use Rattle.plan_tables.specs.Plan.{plan_of}
+use Rattle.plan_tables.proofs.PlanRanges.{plans_in_range}
 use Rattle.tables_file.proofs.Printed.{printed_is_read}
 use Rattle.tables_file.proofs.laws.plans_are_read.Goals as goal
 

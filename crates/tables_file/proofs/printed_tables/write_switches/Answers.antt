@@ -1,7 +1,7 @@
 -- A switch more.
 use Rattle.std.proofs.Common.{◌+◌, ◌++◌, drop}
 use Rattle.std.specs.List.{flat_map}
-use Rattle.held_tables.specs.PlanText.{switch_line}
+use Rattle.plan_tables.specs.PlanText.{switch_line}
 use Rattle.tables_file.specs.PrintedTables.{block_text, switches_text}
 use Rattle.tables_file.proofs.TablesText.{part_more, switch_more}
 use Rattle.tables_file.proofs.printed_tables.write_switches.Goals as goal

@@ -1,7 +1,7 @@
 -- That of the network's switches.
 use Rattle.std.proofs.Common.{◌≡◌, ◌∙◌, List, ap, map, subst}
 use Rattle.fact_store.specs.View.{cells_of}
-use Rattle.held_tables.specs.Lids.{greatest}
+use Rattle.lid_assign.specs.Lids.{greatest}
 use Rattle.packet_walks.specs.Edges.{greatest_top}
 use Rattle.packet_walks.specs.Network.{Seen}
 use Rattle.held_tables.specs.declared.audited_switch.AuditedSwitch.{AuditedSwitch}

@@ -1,0 +1,12 @@
+pub mod HeldPlans
+pub mod HeldTables
+pub mod NextPorts
+pub mod OwnedLids
+pub mod PlanPackets
+pub mod PlanRanges
+pub mod PlanSteps
+pub use Rattle.lft_blocks.proofs.AttachmentTables
+pub use Rattle.lft_blocks.proofs.BlockLaws
+pub use Rattle.lft_blocks.proofs.HeldEntries
+pub use Rattle.lft_blocks.proofs.RisingLids
+pub use Rattle.lft_blocks.proofs.RulesRoute

@@ -1,0 +1,3 @@
+mod attributes;
+mod directed_steps;
+mod packets;
