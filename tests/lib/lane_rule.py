@@ -136,18 +136,17 @@ class Judged(NamedTuple):
 
 
 class Rule:
-    """Facts, tables and lanes, and what packets do by them. In a step each switch holds `tables` or `following`."""
+    """Facts, tables and lanes, and what packets do by them."""
 
-    def __init__(self, facts: Facts, tables: Tables, lanes: Lanes, following: Tables | None = None) -> None:
-        self.subnet, self.tables, self.lanes, self.following = Subnet(facts), tables, lanes, following
+    def __init__(self, facts: Facts, tables: Tables, lanes: Lanes) -> None:
+        self.subnet, self.tables, self.lanes = Subnet(facts), tables, lanes
         # Known GUIDs make end ports only of port 0 of a switch and of the ports of other nodes.
         self.ends = [
             (guid, port)
             for guid, port in self.subnet.ends
             if (port == 0 if facts.is_switch(guid) else 1 <= port <= facts.nodes.get(guid, ("", 0))[1])
         ]
-        either = [tables] if following is None else [tables, following]
-        self.top = max((them.tops.get(guid, 0) for guid in self.subnet.switches for them in either), default=0)
+        self.top = max((tables.tops.get(guid, 0) for guid in self.subnet.switches), default=0)
         self.ends.sort(key=lambda end: (facts.port_guids[end], end))
         # Each LID with each end that holds it, in the order of the lines.
         self.lines = list(dict.fromkeys(
@@ -180,34 +179,6 @@ class Rule:
             met.add(at)
             at = far
         return taken, None
-
-    def onward(self, guid: int, lid: int) -> set[tuple[int, End]]:
-        """Returns the ports by which a switch forwards packets for a LID to a switch, by the tables of a step, each
-        with the port there."""
-        ports = {them.entry(guid, lid) for them in (self.tables, self.following)} - {0}
-        wires = {(port, self.subnet.wires.get((guid, port))) for port in ports}
-        return {(port, far) for port, far in wires if far and far[0] in self.subnet.switches}
-
-    def ways(self, end: End, lid: int, level: int) -> tuple[set[tuple[Channel, Channel]], set[Drop]]:
-        """Returns the channels that a packet can take one after the other in a step, and where it can be dropped."""
-        todo, met, pairs, drops = [self.start(end)], set(), set(), set()
-        while todo:
-            at = todo.pop()
-            if at is None or at in met:
-                continue
-            met.add(at)
-            guid, into = at
-            for out, (other, there) in self.onward(guid, lid):
-                lane = self.lanes.lane(guid, into, out, level)
-                if lane == DROPS:
-                    drops.add(Drop(lid, guid, into, out, level))
-                    continue
-                todo.append((other, there))
-                for further, _ in self.onward(other, lid):
-                    beyond = self.lanes.lane(other, there, further, level)
-                    if beyond != DROPS:
-                        pairs.add(((guid, out, lane), (other, further, beyond)))
-        return pairs, drops
 
     def own_levels(self, end: End, lid: int) -> set[int]:
         """Returns the level that a text gives to packets from an end to a LID, if it gives one."""
@@ -258,26 +229,13 @@ class Rule:
         for end in self.ends:
             for lid in range(1, self.top + 1):
                 for level in self.levels(end, lid, with_answers):
-                    if self.following is not None:
-                        pairs, more = self.ways(end, lid, level)
-                    else:
-                        taken, drop = self.walk(end, lid, level)
-                        pairs, more = zip(taken, taken[1:]), [drop] if drop else []
-                    for channel, following in pairs:
+                    taken, drop = self.walk(end, lid, level)
+                    for channel, following in zip(taken, taken[1:]):
                         after[channel].add(following)
-                    drops.update(more)
+                    drops.update([drop] if drop else [])
         after = dict(after)
         loop = min(filter(None, (credit_loops.count_round(after, first) for first in list(after))), default=0)
         return Judged(after, loop, self.without(), drops)
-
-
-def judged_step(facts: str, tables: str, following: str, lanes: str, with_answers: bool) -> Judged:
-    """Returns what can happen in a step from `tables` to `following`, texts without faults. Pairs without a level are
-    those of the next tables."""
-    told, said = Facts("", lines=facts.splitlines()), Lanes(lanes)
-    held, after = Tables(tables), Tables(following)
-    found = Rule(told, held, said, after).judge(with_answers)
-    return found._replace(without=Rule(told, after, said).without())
 
 
 def judged(facts: str, tables: str, lanes: str, with_answers: bool = False) -> Judged:

@@ -12,7 +12,7 @@ COMMANDS = {
     "order": f"{FLOOR} {ORDERS}",
     "audit": f"{FLOOR} --all --max-load --lanes --answers-as-asked",
     "order-of": FLOOR,
-    "next": f"{FLOOR} {PLANS} --told-order --last-order --lanes --answers-as-asked",
+    "next": f"{FLOOR} {PLANS} --told-order --last-order",
     "run": PLANS,
     "serve": f"--sm-key {PLANS}",
     "help": "",

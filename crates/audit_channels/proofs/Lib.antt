@@ -9,4 +9,5 @@ pub mod Passing
 pub mod Rising
 pub mod Searches
 pub mod Waiting
+pub mod Written
 pub mod ChannelWays

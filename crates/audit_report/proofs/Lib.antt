@@ -1,4 +1,3 @@
 pub mod Judged
 pub mod Missing
 pub mod TallyText
-pub mod Written

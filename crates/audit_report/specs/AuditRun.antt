@@ -7,9 +7,9 @@ use Rattle.held_tables.specs.Held.{HeldPlan}
 use Rattle.audit_channels.specs.Waiting.{NoneShorter}
 use Rattle.audit_report.specs.AuditText.{audit_text}
 use Rattle.audit_report.specs.Passing.{IsCycle, PassesWithin}
-use Rattle.audit_report.specs.declared.audit_run.AuditAsked.{AuditAsked}
+use Rattle.sm_cli.specs.declared.audit_asked.AuditAsked.{AuditAsked}
 use Rattle.sm_cli.specs.declared.fault.Fault.{Fault}
-use Rattle.sm_cli.specs.declared.fault.Fault.TheVariants.{Write, Memory}
+use Rattle.sm_cli.specs.Fault.{IsOutputFault}
 use Rattle.sm_cli.specs.InputTables.{AreNoTablesAndFiles, AreTablesAndFiles}
 use Rattle.sm_cli.specs.declared.input_tables.TablesAndFacts.{TablesAndFacts}
 
@@ -36,18 +36,12 @@ pub record HasAudited {S : Type 0} (state : S → SourceState) (asked : AuditAsk
   pub read : AreTablesAndFiles state asked.floor olds news told
   pub audited : IsAudited asked told.store told.held prints passed
 
--- the audit of inputs that were read ended with `fault`: a write failed, or memory ran out
-abbrev pub IsAnswerFault : Bool → Fault → Type 0
-IsAnswerFault sink_failed Write = IsTrue sink_failed
-IsAnswerFault sink_failed Memory = Unit {0}
-IsAnswerFault sink_failed fault = ⊥
-
 -- the inputs were read as tables and files, and their audit ended with `fault`
 pub record FailsToAudit {S : Type 0} (state : S → SourceState) (floor : ℕ) (olds news : List S)
     (sink_failed : Bool) (fault : Fault) : Type 0 where
   pub told : TablesAndFacts
   pub read : AreTablesAndFiles state floor olds news told
-  pub why : IsAnswerFault sink_failed fault
+  pub why : IsOutputFault sink_failed fault
 
 -- an audit of open inputs ends with `fault`: the inputs are not read, or their audit fails
 abbrev pub IsAuditFault : {S : Type 0} → (S → SourceState) → ℕ → List S → List S → Bool

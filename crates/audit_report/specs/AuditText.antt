@@ -25,8 +25,8 @@ use Rattle.audit_counts.specs.declared.unmatched.Unmatched.{Unmatched}
 use Rattle.audit_counts.specs.CauseCounts.{causes_of}
 use Rattle.audit_counts.specs.DisputedFacts.{disputed}
 use Rattle.audit_counts.specs.Packets.{arrives, goes_round, is_between, is_lost, is_misdelivered, packets_of}
-use Rattle.audit_report.specs.declared.cycle_text.ChannelKind.TheVariants.{OnOneLane}
-use Rattle.audit_report.specs.CycleText.{cycle_line}
+use Rattle.audit_channels.specs.declared.cycle_text.ChannelKind.TheVariants.{OnOneLane}
+use Rattle.audit_channels.specs.CycleText.{cycle_line}
 use Rattle.audit_report.specs.Passing.{Audited}
 use Rattle.audit_counts.specs.FirstFew.{Listed, listed_of, more_of}
 use Rattle.audit_counts.specs.Unmatched.{lidless, tableless, twice, unjoined, unknown, unowned, unusable}

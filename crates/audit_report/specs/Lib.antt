@@ -1,5 +1,4 @@
 pub mod AuditText
-pub mod CycleText
 pub mod Passing
 pub mod AuditRun
 pub use Rattle.audit_counts.specs.Packets

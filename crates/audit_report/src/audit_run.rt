@@ -4,30 +4,18 @@ ghost use Rattle.std.specs.Io.KnownBytes.{Appends};
 ghost use Rattle.fact_store.specs.View.{cells_of};
 ghost use Rattle.audit_report.specs.AuditText.{audit_text};
 ghost use Rattle.audit_report.specs.Passing.{PassesWithin};
-ghost use Rattle.audit_report.specs.AuditRun.{HasAudited, IsAnswerFault, IsAuditFault, IsAudited, most_lines};
+ghost use Rattle.audit_report.specs.AuditRun.{HasAudited, IsAuditFault, IsAudited, most_lines};
+ghost use Rattle.sm_cli.specs.Fault.{IsOutputFault};
 
 use crate::{Audit, write_audit};
 use byte_io::{Sink, Source};
 use fact_store::Store;
 use held_tables::{Held, Subnet};
-use sm_cli::{Fault, read_tables_and_files};
-use smp_bytes::Generation;
+use sm_cli::{AuditAsked, Fault, read_tables_and_files};
 use std::alloc::Global;
 
 /// The maximum number of lines of each kind if not all lines are asked for.
 const MOST_TOLD: usize = 20;
-
-/// The options of an audit.
-#[derive(Clone, Copy, Debug, PartialEq, Eq)]
-pub struct AuditAsked {
-    /// The least floor at which the files are read. Facts below the floor are ignored.
-    pub floor: Generation,
-    /// Whether to write all lines of each kind, or only the first 20.
-    pub all: bool,
-    /// The maximum load of a channel, or `None` if there is no bound. The load counts one packet from each adapter port
-    /// to each LID of another adapter port, if the packet is delivered and takes the channel.
-    pub max_load: Option<u64>,
-}
 
 /// Reads the tables from the first input, and then the files from the other inputs, one after the other. There must
 /// be at least one input. Writes what these tables do with the packets of the subnet that the files describe
@@ -72,7 +60,7 @@ fn answer<W: Sink>(
         (Appends (W.written sink.old) (W.written sink.new))) }
     ensures flushed { OnOk result (IsTrue (W.is_flushed sink.new)) }
     ensures sink_works { OnOk result (W.has_failed sink.new ≡ false) }
-    ensures refused { IfErr result (IsAnswerFault (W.has_failed sink.new)) }
+    ensures refused { IfErr result (IsOutputFault (W.has_failed sink.new)) }
     ensures nothing_written { OnErr result ((result ≡ Err Fault.Write) ⊎ (sink.new ≡ sink.old)) }
 {
     let Ok(subnet) = Subnet::of(alloc, store) else {
@@ -99,7 +87,7 @@ fn tell<W: Sink>(sink: &mut W, max_load: Option<u64>, audit: &Audit) -> Result<b
         × (IsTrue passed ↔ PassesWithin max_load (cells_of audit.now.facts) audit.now.held)) }
     ensures flushed { OnOk result (IsTrue (W.is_flushed sink.new)) }
     ensures sink_works { OnOk result (W.has_failed sink.new ≡ false) }
-    ensures refused { IfErr result (IsAnswerFault (W.has_failed sink.new)) }
+    ensures refused { IfErr result (IsOutputFault (W.has_failed sink.new)) }
     ensures nothing_written { OnErr result ((result ≡ Err Fault.Write) ⊎ (sink.new ≡ sink.old)) }
 {
     let passed = audit.passes_within(max_load);

@@ -14,8 +14,8 @@ ghost use Rattle.audit_report.specs.AuditText.{port_line, kind_text};
 ghost use Rattle.audit_report.specs.AuditText.{lost_text, missed_text, sent_text, switch_line, taken_text};
 ghost use Rattle.audit_report.specs.AuditText.{unmatched_text};
 
-use crate::cycle_text::{ChannelKind, write_cycle};
 use crate::findings::Audit;
+use audit_channels::{ChannelKind, write_cycle};
 use audit_counts::{
     Causes, Figures, FirstFew, PacketTally, Pairs, SentPacket, Unmatched, WayFigures,
 };

@@ -4,10 +4,8 @@
 
 mod audit_run;
 mod audit_text;
-mod cycle_text;
 mod findings;
 
-pub use audit_run::{AuditAsked, most_lines, run_audit};
+pub use audit_run::{most_lines, run_audit};
 pub use audit_text::{write_audit, write_findings, write_more};
-pub use cycle_text::{ChannelKind, write_cycle};
 pub use findings::Audit;

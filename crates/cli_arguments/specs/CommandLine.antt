@@ -136,7 +136,7 @@ order_of_shape = subcommand_shape (codes "order-of") (text_rule (codes "TABLES")
 -- the subcommand that prints the tables to write next
 abbrev pub next_shape : Bor (List (Bor Text)) → Shape
 next_shape words =
-    subcommand_shape (codes "next") (text_rule (codes "TABLES") ∷ of_files ++ of_planning words ++ of_step ++ of_lanes)
+    subcommand_shape (codes "next") (text_rule (codes "TABLES") ∷ of_files ++ of_planning words ++ of_step)
 
 -- the subcommand that runs a schedule
 abbrev pub run_shape : Bor (List (Bor Text)) → Shape

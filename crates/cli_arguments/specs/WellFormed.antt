@@ -62,7 +62,7 @@ pub data HasItsWords (word : Text → Option Text) (files : Option (List Text)) 
   order_of : name ≡ codes "order-of" → IsGiven (word (codes "TABLES")) → NamesFiles word files
       → HasItsWords word files name
   next : name ≡ codes "next" → IsGiven (word (codes "TABLES")) → NamesFiles word files → NamesPlanning word
-      → lacks_lanes word ≡ false → HasItsWords word files name
+      → HasItsWords word files name
   run : name ≡ codes "run" → IsGiven (word (codes "TOPOLOGY")) → IsGiven (word (codes "SCHEDULE")) → NamesPlanning word
       → HasItsWords word files name
   serve : name ≡ codes "serve" → NamesSeat word → NamesPlanning word → HasItsWords word files name

@@ -82,9 +82,7 @@ lacks_lanes word = is_set (word (codes "answers-as-asked")) && not (is_some (wor
 abbrev pub has_conflict : List ℕ → (List ℕ → Option (List ℕ)) → Bool
 has_conflict name word =
     if bytes_eq name (codes "serve") then planning_conflict name word || is_wrong_seat word
-    else (if bytes_eq name (codes "audit") then lacks_lanes word
-    else (if bytes_eq name (codes "next") then planning_conflict name word || lacks_lanes word
-    else planning_conflict name word))
+    else (if bytes_eq name (codes "audit") then lacks_lanes word else planning_conflict name word)
 
 -- the subcommand has options that contradict each other, or is `serve` with a GUID or an SM_Key that is not 1 to 16 hex
 -- digits; false if no subcommand was named

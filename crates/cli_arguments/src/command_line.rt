@@ -219,7 +219,7 @@ fn next<'a>(alloc: Global, routings: &'a [&'a str]) -> Result<Command<'a>, Alloc
         )
         .after_help(NEXT_END);
     let command = with_planning(alloc, routings, of_tables(alloc, command)?)?;
-    with_lanes(alloc, with_step(alloc, command)?)
+    with_step(alloc, command)
 }
 
 fn run<'a>(alloc: Global, routings: &'a [&'a str]) -> Result<Command<'a>, AllocError>

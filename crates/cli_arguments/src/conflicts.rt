@@ -41,7 +41,6 @@ fn has_conflict_in(name: &str, words: &ArgMatches<'_>) -> bool
     match name {
         SERVE => planning_conflict(name, words) || has_wrong_seat(words),
         AUDIT => lacks_lanes(words),
-        NEXT => planning_conflict(name, words) || lacks_lanes(words),
         _ => planning_conflict(name, words),
     }
 }

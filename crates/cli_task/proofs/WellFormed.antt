@@ -6,13 +6,11 @@ use Rattle.clap.specs.declared.parser.matches.ArgMatches.{ArgMatches}
 use Rattle.cli_arguments.specs.WellFormed.{HasItsWords, IsGiven, IsNumberWithin, IsRouting, IsWellFormed, NamesFiles, NamesOrder, NamesPlanning, NamesSeat}
 use Rattle.cli_arguments.specs.WellFormed.{facts, join, plan, order, audit, order_of, next, run, serve}
 use Rattle.cli_arguments.specs.Words.{files_named, has_conflict_of, is_guid, is_key, is_set, lacks_lanes, order_rule, word_named}
-use Rattle.next_run.specs.AuditAsked.{AuditAsked}
+use Rattle.sm_cli.specs.declared.audit_asked.AuditAsked.{AuditAsked}
 use Rattle.sm_cli.specs.declared.asked.RuleAsked.{RuleAsked}
 use Rattle.sm_cli.specs.declared.asked.RuleAsked.TheVariants.{UpDown, Spread, SpreadFromRoots, SpreadInOrder, Balance, BalanceInOrder}
-use Rattle.next_run.specs.Asked.{has_lanes, is_named}
-use Rattle.next_run.specs.declared.asked.StepLanes.{StepLanes}
-use Rattle.next_run.specs.declared.asked.StepLanes.TheVariants.{ByText, One}
-use Rattle.cli_task.specs.Task.{audit_by, held_order_asked, lanes_asked}
+use Rattle.sm_cli.specs.StepAsked.{is_named}
+use Rattle.cli_task.specs.Task.{audit_by, held_order_asked}
 use Rattle.cli_task.specs.InputNames.{followed_by, names_in, text_if, texts_of_rule}
 use Rattle.cli_task.specs.OptionValues.{floor_asked, guid_asked, lmc_asked, max_load_asked, number_in, port_asked}
 use Rattle.cli_task.specs.OptionValues.{priority_asked, sm_key_asked, within, planning_asked, rule_asked}
@@ -199,21 +197,13 @@ module _ (word : List ℕ → Option (List ℕ)) (files : Option (List (List ℕ
   order_there false None = refl
   order_there told (Some name) = refl
 
-  -- so are the lanes
-  lanes_there : (lanes : Option (List ℕ)) (answers : Bool) → (answers && not (is_some lanes)) ≡ false
-      → (asked : StepLanes) × (lanes_asked (is_some lanes) answers ≡ Some asked) × (is_some (text_if (has_lanes asked) lanes) ≡ true)
-  lanes_there (Some name) answers apart = (ByText answers, refl, refl)
-  lanes_there None false apart = (One, refl, refl)
-  lanes_there None true apart = absurd (cc)
-
-  next_asks : IsGiven (word (codes "TABLES")) → NamesFiles word files → NamesPlanning word → lacks_lanes word ≡ false → Asks (codes "next")
-  next_asks t h p apart =
+  next_asks : IsGiven (word (codes "TABLES")) → NamesFiles word files → NamesPlanning word → Asks (codes "next")
+  next_asks t h p =
       let floor = known (floor_asked (word (codes "floor"))) (floor_there (word (codes "floor")) h.floor) in
       let by = planning_there p in
-      let lanes = lanes_there (word (codes "lanes")) (is_set (word (codes "answers-as-asked"))) apart in
       let last = order_there (is_set (word (codes "told-order"))) (word (codes "last-order")) in
-      let texts = both_there _ _ lanes.2 (both_there _ _ last (one_there (word (codes "TABLES")) t)) in
-      rw (by.1, lanes.1, floor.1) (both_there (texts_of_rule word by.0.1) _ by.2 (both_there _ files texts h.named))
+      let texts = both_there _ _ last (one_there (word (codes "TABLES")) t) in
+      rw (by.1, floor.1) (both_there (texts_of_rule word by.0.1) _ by.2 (both_there _ files texts h.named))
 
   run_asks : IsGiven (word (codes "TOPOLOGY")) → IsGiven (word (codes "SCHEDULE")) → NamesPlanning word → Asks (codes "run")
   run_asks t s p =
@@ -237,7 +227,7 @@ module _ (word : List ℕ → Option (List ℕ)) (files : Option (List (List ℕ
   words_ask name (order is h p) = subst Asks (sym is) (order_asks h p)
   words_ask name (audit is t h m apart) = subst Asks (sym is) (audit_asks t h m apart)
   words_ask name (order_of is t h) = subst Asks (sym is) (order_of_asks t h)
-  words_ask name (next is t h p apart) = subst Asks (sym is) (next_asks t h p apart)
+  words_ask name (next is t h p) = subst Asks (sym is) (next_asks t h p)
   words_ask name (run is t s p) = subst Asks (sym is) (run_asks t s p)
   words_ask name (serve is s p) = subst Asks (sym is) (serve_asks s p)
 

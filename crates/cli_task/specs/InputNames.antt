@@ -7,7 +7,7 @@ use Rattle.sm_cli.specs.Asked.{rule_for}
 use Rattle.sm_cli.specs.declared.asked.RuleAsked.{RuleAsked}
 use Rattle.sm_cli.specs.declared.asked.RuleAsked.TheVariants.{UpDown, Spread, SpreadFromRoots, SpreadInOrder, Balance}
 use Rattle.sm_cli.specs.declared.asked.RuleAsked.TheVariants.{BalanceInOrder}
-use Rattle.next_run.specs.Asked.{has_lanes, is_named}
+use Rattle.sm_cli.specs.StepAsked.{is_named}
 use Rattle.cli_task.specs.declared.task.Task.{Task}
 use Rattle.cli_task.specs.declared.task.Task.TheVariants.{Answer, Audit, AuditByLane, OrderOf, Next, Run, Serve}
 use Rattle.cli_task.specs.Task.{task_asked}
@@ -41,12 +41,11 @@ abbrev pub text_if : Bool → Option (List ℕ) → Option (List (List ℕ))
 text_if false name = Some []
 text_if true name = option_map (λ text. text ∷ []) name
 
--- the names of the texts of a step: the text of lanes and that of the last step's order, each only if it is asked for,
--- and the tables; None if one is missing
-abbrev pub step_texts : (List ℕ → Option (List ℕ)) → Bool → Bool → Option (List (List ℕ))
-step_texts word by_lane ordered =
-    followed_by (text_if by_lane (word (codes "lanes"))) (followed_by (text_if ordered (word (codes "last-order")))
-    (option_map (λ tables. tables ∷ []) (word (codes "TABLES"))))
+-- the names of the texts of a step: the text of the last step's order, if it is asked for, and the tables; None if one
+-- is missing
+abbrev pub step_texts : (List ℕ → Option (List ℕ)) → Bool → Option (List (List ℕ))
+step_texts word ordered =
+    followed_by (text_if ordered (word (codes "last-order"))) (option_map (λ tables. tables ∷ []) (word (codes "TABLES")))
 
 -- the names of the texts that a task takes after the text of its rule; for `serve`, standard input. None if a name is
 -- missing, or if `serve` has no word for the GUID
@@ -56,7 +55,7 @@ texts_asked word (Audit asked) = option_map (λ tables. tables ∷ []) (word (co
 texts_asked word (AuditByLane asked) =
     option_and_then (λ lanes. option_map (λ tables. lanes ∷ tables ∷ []) (word (codes "TABLES"))) (word (codes "lanes"))
 texts_asked word (OrderOf floor) = option_map (λ tables. tables ∷ []) (word (codes "TABLES"))
-texts_asked word (Next asked) = step_texts word (has_lanes asked.lanes) (is_named asked.held_order)
+texts_asked word (Next asked) = step_texts word (is_named asked.held_order)
 texts_asked word (Run lmc rule) =
     option_and_then (λ topology. option_map (λ schedule. topology ∷ schedule ∷ []) (word (codes "SCHEDULE")))
     (word (codes "TOPOLOGY"))

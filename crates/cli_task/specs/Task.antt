@@ -5,16 +5,14 @@ use Rattle.std.specs.Str.{bytes_eq}
 use Rattle.clap.specs.Matches.{subcommand_name_of}
 use Rattle.clap.specs.declared.parser.matches.ArgMatches.{ArgMatches}
 use Rattle.cli_arguments.specs.Words.{is_set, word_named}
-use Rattle.next_run.specs.AuditAsked.{AuditAsked}
 use Rattle.sm_cli.specs.declared.asked.Output.{Output}
 use Rattle.sm_cli.specs.declared.asked.Output.TheVariants.{Facts, Join, Plan, Order}
 use Rattle.sm_cli.specs.declared.asked.RuleAsked.{RuleAsked}
-use Rattle.next_run.specs.declared.asked.StepLanes.{StepLanes}
-use Rattle.next_run.specs.declared.asked.StepLanes.TheVariants.{ByText, One}
-use Rattle.next_run.specs.declared.asked.HeldOrder.{HeldOrder}
-use Rattle.next_run.specs.declared.asked.HeldOrder.TheVariants.{Ignored, NearNamed, NearPlan}
-use Rattle.next_run.specs.declared.asked.StepAsked.{StepAsked}
-use Rattle.serve_task.specs.declared.serving.Serving.{Serving}
+use Rattle.sm_cli.specs.declared.audit_asked.AuditAsked.{AuditAsked}
+use Rattle.sm_cli.specs.declared.serving.Serving.{Serving}
+use Rattle.sm_cli.specs.declared.step_asked.HeldOrder.{HeldOrder}
+use Rattle.sm_cli.specs.declared.step_asked.HeldOrder.TheVariants.{Ignored, NearNamed, NearPlan}
+use Rattle.sm_cli.specs.declared.step_asked.StepAsked.{StepAsked}
 use Rattle.cli_task.specs.declared.task.Task.{Task}
 use Rattle.cli_task.specs.declared.task.Task.TheVariants.{Answer, Audit, AuditByLane, OrderOf, Next, Run, Serve}
 use Rattle.cli_task.specs.OptionValues.{floor_asked, planning_asked, order_asked, max_load_asked, guid_asked}
@@ -50,23 +48,11 @@ held_order_asked false false = Ignored
 abbrev pub held_order_of : (List ℕ → Option (List ℕ)) → HeldOrder
 held_order_of word = held_order_asked (is_set (word (codes "told-order"))) (is_some (word (codes "last-order")))
 
--- the choice of how credit loops in a step are judged: by lane if a file of lanes is named, otherwise on one lane; None
--- if `answers`, which is about lanes, is set without a file of lanes
-abbrev pub lanes_asked : Bool → Bool → Option StepLanes
-lanes_asked true answers = Some (ByText answers)
-lanes_asked false false = Some One
-lanes_asked false true = None
-
--- the choice of how credit loops in a step are judged, as the words ask; None if a flag about lanes is set without a
--- file of lanes
-abbrev pub lanes_of : (List ℕ → Option (List ℕ)) → Option StepLanes
-lanes_of word = lanes_asked (is_some (word (codes "lanes"))) (is_set (word (codes "answers-as-asked")))
-
 -- the step that the words ask for; None if one of them is wrong
 abbrev pub step_asked : (List ℕ → Option (List ℕ)) → Option StepAsked
-step_asked word = option_and_then (λ by. option_and_then (λ lanes. option_map
-    (λ floor. record { lmc = by.0; rule = by.1; floor = floor; held_order = held_order_of word; lanes = lanes })
-    (floor_asked (word (codes "floor")))) (lanes_of word)) (planning_asked word)
+step_asked word = option_and_then (λ by. option_map
+    (λ floor. record { lmc = by.0; rule = by.1; floor = floor; held_order = held_order_of word })
+    (floor_asked (word (codes "floor")))) (planning_asked word)
 
 -- the manager with this GUID, port, priority and SM_Key, which plans by the LMC and the rule of `by`; None if one of
 -- the four is None

@@ -1,7 +1,7 @@
 //! The task that the words of the command line ask for.
 ghost use Rattle.std.specs.Prelude.{◌≡◌, IfOk, codes, map, option_map};
 ghost use Rattle.clap.specs.Matches.{first_value, found_of, matched_of, raw_values};
-ghost use Rattle.cli_task.specs.Task.{audit_asked, audit_task, held_order_of, lanes_of, output_asked, step_asked};
+ghost use Rattle.cli_task.specs.Task.{audit_asked, audit_task, held_order_of, output_asked, step_asked};
 ghost use Rattle.cli_task.specs.Task.{task_asked, task_behind};
 ghost use Rattle.cli_task.specs.InputNames.{step_texts, names_asked, names_in, rule_of_task};
 ghost use Rattle.cli_task.specs.Task.{serving_asked};
@@ -18,9 +18,9 @@ use cli_arguments::argument_names::{
     ORDER_OF, PLAN, ROOTS, RUN, SCHEDULE, SERVE, TABLES, TOLD_ORDER, TOPOLOGY,
 };
 use cli_arguments::is_set;
-use next_run::{AuditAsked, HeldOrder, LaneAuditAsked, StepAsked, StepLanes};
-use serve_task::Serving;
-use sm_cli::{Invocation, Output, RuleAsked};
+use sm_cli::{
+    AuditAsked, HeldOrder, Invocation, LaneAuditAsked, Output, RuleAsked, Serving, StepAsked,
+};
 use smp_bytes::Generation;
 use std::alloc::{AllocError, Global};
 
@@ -143,28 +143,13 @@ fn step_of(words: &ArgMatches<'_>) -> Option<StepAsked>
     ensures { result ≡ step_asked (first_value (found_of words.now)) }
 {
     let (lmc, rule) = planning_of(words)?;
-    let lanes = lanes_of(words)?;
     let floor = floor_of(words)?;
     Some(StepAsked {
         lmc,
         rule,
         floor,
         held_order: held_order_of(words),
-        lanes,
     })
-}
-
-/// Returns how `words` ask to judge credit loops in a step: lane by lane if they name a file of lanes, otherwise on one
-/// lane. `words` are those after a subcommand. Returns `None` if `--answers-as-asked` is set without a file of lanes.
-fn lanes_of(words: &ArgMatches<'_>) -> Option<StepLanes>
-    ensures { result ≡ lanes_of (first_value (found_of words.now)) }
-{
-    let answers = is_set(words, ANSWERS_AS_ASKED);
-    match words.get_str(LANES) {
-        Some(_) => Some(StepLanes::ByText { answers }),
-        None if !answers => Some(StepLanes::One),
-        None => None,
-    }
 }
 
 /// Returns which order a step may go by, as asked by `words`, which are those after a subcommand.
@@ -274,20 +259,13 @@ fn texts_of_rule<'a>(words: &ArgMatches<'a>, rule: RuleAsked) -> Option<ArrayVec
     Some(texts)
 }
 
-/// Returns the names of a step's texts: the text of lanes if `has_lanes` is true, the text of the last step's order if
-/// `has_order` is true, and the tables. Returns `None` if one of these texts is not named.
-fn texts_of_step<'a>(
-    words: &ArgMatches<'a>,
-    has_lanes: bool,
-    has_order: bool,
-) -> Option<ArrayVec<&'a str, 3>>
+/// Returns the names of a step's texts: the text of the last step's order if `has_order` is true, and the tables.
+/// Returns `None` if one of these texts is not named.
+fn texts_of_step<'a>(words: &ArgMatches<'a>, has_order: bool) -> Option<ArrayVec<&'a str, 2>>
     ensures { option_map (λ found. map (λ name. name.now) found.items) result
-        ≡ step_texts (first_value (found_of words.now)) has_lanes has_order }
+        ≡ step_texts (first_value (found_of words.now)) has_order }
 {
     let mut texts = ArrayVec::new();
-    if has_lanes {
-        texts.push(words.get_str(LANES)?);
-    }
     if has_order {
         texts.push(words.get_str(LAST_ORDER)?);
     }
@@ -297,7 +275,7 @@ fn texts_of_step<'a>(
 
 /// Returns the names of the texts that `task` takes besides the text of its rule; to serve a manager, that is the file
 /// of lines. Returns `None` if one of these texts is not named, or if `task` serves a manager and no GUID is named.
-fn texts_of<'a>(words: &ArgMatches<'a>, task: &Task) -> Option<ArrayVec<&'a str, 3>>
+fn texts_of<'a>(words: &ArgMatches<'a>, task: &Task) -> Option<ArrayVec<&'a str, 2>>
     ensures { option_map (λ found. map (λ name. name.now) found.items) result
         ≡ texts_asked (first_value (found_of words.now)) task.now }
 {
@@ -305,9 +283,7 @@ fn texts_of<'a>(words: &ArgMatches<'a>, task: &Task) -> Option<ArrayVec<&'a str,
     match task {
         Task::Answer(_) => {}
         Task::Audit(_) | Task::OrderOf(_) => texts.push(words.get_str(TABLES)?),
-        Task::Next(asked) => {
-            return texts_of_step(words, asked.lanes.has_lanes(), asked.held_order.is_named());
-        }
+        Task::Next(asked) => return texts_of_step(words, asked.held_order.is_named()),
         Task::AuditByLane(_) => {
             texts.push(words.get_str(LANES)?);
             texts.push(words.get_str(TABLES)?);

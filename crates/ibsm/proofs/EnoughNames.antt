@@ -6,7 +6,7 @@ use Rattle.std.specs.Borrow.{Bor}
 use Rattle.std.proofs.lemmas.List.{length-map}
 use Rattle.clap.specs.declared.parser.matches.ArgMatches.{ArgMatches}
 use Rattle.sm_cli.specs.Asked.{rule_for, texts_if}
-use Rattle.next_run.specs.Asked.{has_lanes, is_named}
+use Rattle.sm_cli.specs.StepAsked.{is_named}
 use Rattle.cli_arguments.specs.Words.{files_named, word_named}
 use Rattle.cli_task.specs.InputNames.{followed_by, names_asked, names_in, step_texts, text_if, texts_asked}
 use Rattle.cli_task.specs.InputNames.{texts_of_rule}
@@ -33,17 +33,14 @@ text_counted : (has_text : Bool) (name : Option (List ℕ)) (xs : List (List ℕ
 text_counted false name xs e = ap length (sym (same_Some _ _ e))
 text_counted true name xs e = one_word name xs e
 
--- the texts of a step are those of lanes and of an order, if there are such, and the tables
-step_counted : (word : List ℕ → Option (List ℕ)) (by_lane ordered : Bool) (xs : List (List ℕ)) → step_texts word by_lane ordered ≡ Some xs
-    → length xs ≡ texts_if by_lane + texts_if ordered + 1
-step_counted word by_lane ordered xs e =
-    let all = both_named (text_if by_lane (word (codes "lanes"))) _ xs e in
-    let rest = both_named (text_if ordered (word (codes "last-order"))) _ all.1 all.3 in
-    let lanes = text_counted by_lane (word (codes "lanes")) all.0 all.2 in
-    let order = text_counted ordered (word (codes "last-order")) rest.0 rest.2 in
-    let tables = one_word (word (codes "TABLES")) rest.1 rest.3 in
-    let count = all.4 in
-    let others = rest.4 in omega arith
+-- the texts of a step are that of an order, if there is one, and the tables
+step_counted : (word : List ℕ → Option (List ℕ)) (ordered : Bool) (xs : List (List ℕ)) → step_texts word ordered ≡ Some xs
+    → length xs ≡ texts_if ordered + 1
+step_counted word ordered xs e =
+    let all = both_named (text_if ordered (word (codes "last-order"))) _ xs e in
+    let order = text_counted ordered (word (codes "last-order")) all.0 all.2 in
+    let tables = one_word (word (codes "TABLES")) all.1 all.3 in
+    let count = all.4 in omega arith
 
 lines_counted : (guid : Option (List ℕ)) (xs : List (List ℕ)) → option_map (λ g. codes "/dev/stdin" ∷ []) guid ≡ Some xs → length xs ≡ 1
 lines_counted None xs e = absurd (cc)
@@ -78,7 +75,7 @@ names_suffice word files (Next step) names e =
     let all = both_named (texts_of_rule word step.rule) (followed_by (texts_asked word (Next step)) files) names e in
     let texts = texts_counted word step.rule all.0 all.2 in
     let rest = both_named (texts_asked word (Next step)) files all.1 all.3 in
-    let own = step_counted word (has_lanes step.lanes) (is_named step.held_order) rest.0 rest.2 in
+    let own = step_counted word (is_named step.held_order) rest.0 rest.2 in
     let count = all.4 in
     let others = rest.4 in omega arith
 names_suffice word files (Run lmc rule) names e =

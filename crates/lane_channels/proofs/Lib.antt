@@ -4,6 +4,5 @@ pub mod LaneLaws
 pub mod LidWaits
 pub mod Orders
 pub mod Senders
-pub mod StepLaws
 pub mod Visits
 pub mod Walks

@@ -3,7 +3,6 @@ pub mod Fabrics
 pub mod FarPorts
 pub mod LaneLaws
 pub mod LaneNetwork
-pub mod LaneStepLaws
 pub mod LaneTurns
 pub mod Levels
 pub mod Senders

@@ -7,13 +7,13 @@ use Rattle.held_tables.specs.Held.{HeldPlan}
 use Rattle.audit_counts.specs.FirstFew.{Listed, all_listed}
 use Rattle.audit_report.specs.AuditText.{findings_text}
 use Rattle.audit_report.specs.Passing.{DeliversWithin}
-use Rattle.audit_report.specs.AuditRun.{IsAnswerFault, most_lines}
+use Rattle.audit_report.specs.AuditRun.{most_lines}
 use Rattle.lanes_file.specs.Lanes.{LanesSaid}
 use Rattle.lane_channels.specs.declared.dropped.Dropped.{Dropped}
 use Rattle.lane_channels.specs.LaneNetwork.{SeenByLane}
 use Rattle.lane_channels.specs.Waiting.{IsDroppedByLane, IsLaneCycle, IsSomeDrop, NoneShorter, RiseByLane}
 use Rattle.lane_report.specs.declared.levels_missing.PacketPair.{PacketPair}
-use Rattle.lane_report.specs.declared.lane_run.LaneAuditAsked.{LaneAuditAsked}
+use Rattle.sm_cli.specs.declared.audit_asked.LaneAuditAsked.{LaneAuditAsked}
 use Rattle.lane_report.specs.LaneText.{lanes_text}
 use Rattle.lane_report.specs.LevelsMissing.{missing_levels}
 use Rattle.sm_cli.specs.declared.fault.Fault.{Fault}
@@ -81,7 +81,7 @@ pub record FailsToAuditByLane {S : Type 0} (state : S → SourceState) (floor : 
     (sink_failed : Bool) (fault : Fault) : Type 0 where
   pub told : LanesAndFiles
   pub read : AreLanesAndFiles state floor olds news told
-  pub why : IsAnswerFault sink_failed fault
+  pub why : IsOutputFault sink_failed fault
 
 -- an audit by lane of open inputs ends with `fault`: the inputs are not read, or their audit fails
 abbrev pub IsLaneAuditFault : {S : Type 0} → (S → SourceState) → ℕ → List S → List S → Bool → Fault → Type 0

@@ -4,9 +4,9 @@ use Rattle.std.specs.List.{flat_map}
 use Rattle.smp_bytes.specs.Text.{guid_text, port_text}
 use Rattle.subnet_view.specs.Reading.{Cells}
 use Rattle.audit_counts.specs.FirstFew.{Listed, more_of}
-use Rattle.audit_report.specs.declared.cycle_text.ChannelKind.TheVariants.{ByLane}
+use Rattle.audit_channels.specs.declared.cycle_text.ChannelKind.TheVariants.{ByLane}
 use Rattle.audit_report.specs.AuditText.{more_line}
-use Rattle.audit_report.specs.CycleText.{cycle_line}
+use Rattle.audit_channels.specs.CycleText.{cycle_line}
 use Rattle.lane_channels.specs.declared.dropped.Dropped.{Dropped}
 use Rattle.lane_channels.specs.Stops.{guid_at}
 use Rattle.lane_report.specs.declared.levels_missing.PacketPair.{PacketPair}

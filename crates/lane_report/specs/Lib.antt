@@ -2,11 +2,3 @@ pub mod LaneText
 pub mod LevelRow
 pub mod LevelsMissing
 pub mod LaneRun
-pub use Rattle.audit_counts.specs.FirstFew
-pub use Rattle.audit_report.specs.AuditRun
-pub use Rattle.audit_report.specs.CycleText
-pub use Rattle.audit_report.specs.declared.audit_run.AuditAsked
-pub use Rattle.audit_report.specs.declared.cycle_text.ChannelKind
-pub use Rattle.lane_channels.specs.AnyTables
-pub use Rattle.lane_channels.specs.LaneNetwork
-pub use Rattle.lane_channels.specs.declared.dropped.Dropped

@@ -7,15 +7,15 @@ ghost use Rattle.lane_report.specs.LaneRun.{IsSoundByLane};
 
 use crate::lane_text::{write_dropped, write_missing};
 use crate::levels_missing::PacketPair;
+use audit_channels::{ChannelKind, write_cycle};
 use audit_counts::FirstFew;
-use audit_report::{ChannelKind, write_cycle};
 use byte_io::{Sink, WriteFault};
 use lane_channels::LaneOrder;
 use packet_walks::Network;
 
-/// The findings by lane of an audit or of a step.
+/// The findings by lane of an audit.
 #[derive(Drop)]
-pub struct LaneFindings {
+pub(crate) struct LaneFindings {
     /// The packets between adapter ports of the same component that have no service level.
     pub missing: FirstFew<PacketPair>,
     /// A credit loop by lane, and a packet that is dropped for want of a lane, each if one was found.

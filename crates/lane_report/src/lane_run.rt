@@ -3,7 +3,7 @@ ghost use Rattle.std.specs.Prelude.{◌≡◌, ◌≤◌, ◌⊎◌, ◌++◌, E
 ghost use Rattle.std.specs.Io.KnownBytes.{Appends};
 ghost use Rattle.fact_store.specs.View.{cells_of};
 ghost use Rattle.audit_report.specs.AuditText.{findings_text};
-ghost use Rattle.audit_report.specs.AuditRun.{IsAnswerFault};
+ghost use Rattle.sm_cli.specs.Fault.{IsOutputFault};
 ghost use Rattle.lane_report.specs.LaneText.{lanes_text};
 ghost use Rattle.lane_report.specs.LaneRun.{HasAuditedByLane, IsAuditedByLane, IsFoundByLane, IsLaneAuditFault};
 ghost use Rattle.lane_report.specs.LaneRun.{IsLaneAnswer, seen_of};
@@ -13,23 +13,14 @@ ghost use Rattle.sm_cli.specs.InputLanes.{AreLanesAndFiles, AreNoLanesAndFiles};
 
 use crate::lane_findings::LaneFindings;
 use crate::levels_missing::pairs_without_level;
-use audit_report::{Audit, AuditAsked, most_lines, write_findings};
+use audit_report::{Audit, most_lines, write_findings};
 use byte_io::{Sink, Source, WriteFault};
 use fact_store::Refused;
 use held_tables::Subnet;
 use lane_channels::{LaneNetwork, LaneOrder, lane_order};
 use lanes_file::Lanes;
-use sm_cli::{Fault, LanesAndFiles, TablesAndFacts, read_lanes_and_files};
+use sm_cli::{Fault, LaneAuditAsked, LanesAndFiles, TablesAndFacts, read_lanes_and_files};
 use std::alloc::Global;
-
-/// The options of an audit by lane.
-#[derive(Clone, Copy, Debug, PartialEq, Eq)]
-pub struct LaneAuditAsked {
-    /// The options that an audit on one lane has too.
-    pub audit: AuditAsked,
-    /// Whether packets that answer others also have the service level of the packets that they answer.
-    pub answers: bool,
-}
 
 /// Reads the lanes from the first input, the tables from the second, and then the files from the other inputs, one
 /// after the other. Writes what these tables do with the packets of the subnet that the files describe together, with
@@ -100,7 +91,7 @@ fn answer<W: Sink>(
         (Appends (W.written sink.old) (W.written sink.new))) }
     ensures flushed { OnOk result (IsTrue (W.is_flushed sink.new)) }
     ensures sink_works { OnOk result (W.has_failed sink.new ≡ false) }
-    ensures refused { IfErr result (IsAnswerFault (W.has_failed sink.new)) }
+    ensures refused { IfErr result (IsOutputFault (W.has_failed sink.new)) }
     ensures nothing_written { OnErr result ((result ≡ Err Fault.Write) ⊎ (sink.new ≡ sink.old)) }
 {
     let most = most_lines(asked.audit.all);
@@ -179,7 +170,7 @@ fn tell<W: Sink>(
         (Appends (W.written sink.old) (W.written sink.new)) passed) }
     ensures flushed { OnOk result (IsTrue (W.is_flushed sink.new)) }
     ensures sink_works { OnOk result (W.has_failed sink.new ≡ false) }
-    ensures refused { IfErr result (IsAnswerFault (W.has_failed sink.new)) }
+    ensures refused { IfErr result (IsOutputFault (W.has_failed sink.new)) }
     ensures nothing_written { OnErr result ((result ≡ Err Fault.Write) ⊎ (sink.new ≡ sink.old)) }
 {
     let passed = audit.delivers_within(asked.audit.max_load) && found.is_sound();

@@ -20,10 +20,9 @@ use Rattle.sm_cli.specs.declared.fault.Fault.TheVariants.{Memory, Text, Write}
 use Rattle.sm_cli.specs.declared.text_fault.TextFault.TheVariants.{Moves}
 use Rattle.sm_cli.proofs.Plans.{has_room}
 use Rattle.step_loops.specs.StepOrder.{NoneShorter, WaitInCycle}
-use Rattle.lanes_file.specs.Lanes.{LanesSaid}
-use Rattle.next_run.specs.StepVerdict.{IsSound, IsVerdict, Verdict, verdict_text}
+use Rattle.next_run.specs.LoopText.{loop_text}
 use Rattle.next_run.specs.NextRun.{IsMade, IsSaid, IsStep, StopsBy, StopsStep}
-use Rattle.next_run.specs.StepLoops.{IsCycleInStep}
+use Rattle.next_run.specs.StepLoops.{IsCycleInStep, IsLoopInStep}
 use Rattle.next_run.specs.StepOrderText.{step_order_text}
 
 pub is_empty : (xs : List ℕ) → IsTrue (length xs == 0) ↔ (xs ≡ [])
@@ -51,30 +50,31 @@ pub stops : {A : Type 0} (result : Result A Fault) (Stops : Fault → Type 0) �
 stops (Ok a) Stops gives so = tt
 stops (Err fault) Stops gives so = subst Stops (sym gives) so
 
-module _ (lmc : ℕ) (told : Bool) (rule preferred : RuleValue) (lanes : Option LanesSaid) (answers : Bool) (facts : Facts) (held : HeldPlan) (plan : PlanValue)
+module _ (lmc : ℕ) (told : Bool) (rule preferred : RuleValue) (facts : Facts) (held : HeldPlan) (plan : PlanValue)
     (is_plan : plan ≡ plan_of rule lmc (cells_of facts)) (from next : HeldPlan) (order : Option (List ℕ)) (is_from : from ≡ held)
     (made : IsMade told rule preferred facts from (held_plan plan) next order) where
   made_is : IsMade told rule preferred facts held (planned lmc rule facts) next order
   made_is =
       subst (λ (x : HeldPlan × PlanValue). IsMade told rule preferred facts x.0 (held_plan x.1) next order) (λ i. (is_from i, is_plan i)) made
 
-  pub step_is : (prints says : List ℕ → Type 0) (passed : Bool) (known : Facts) (verdict : Verdict) → known ≡ facts
+  pub step_is : (prints says : List ℕ → Type 0) (passed : Bool) (known : Facts) (cycle lids : List ℕ) → known ≡ facts
       → lid_fault (no_room lmc (cells_of facts)) ≡ None → first_moved from (held_plan plan) ≡ None
-      → IsVerdict lanes answers facts from next verdict → prints (next_text plan.given next)
-      → says (verdict_text (cells_of known) verdict ++ step_order_text order) → IsTrue passed ↔ IsSound verdict
-      → IsStep lmc told rule preferred lanes answers facts held prints says passed
-  step_is prints says passed known verdict is_known room still found printed said judged = record {
+      → IsLoopInStep (cells_of facts) from next cycle lids → prints (next_text plan.given next)
+      → says (loop_text (cells_of known) cycle lids ++ step_order_text order) → IsTrue passed ↔ (cycle ≡ [])
+      → IsStep lmc told rule preferred facts held prints says passed
+  step_is prints says passed known cycle lids is_known room still found printed said judged = record {
     has_room = has_room lmc facts room;
     no_move = sym (λ i. first_moved (is_from i) (held_plan (is_plan i))) ∙ still;
     goal = made_is.goal;
     next = next;
     is_next = made_is.is_next;
     written = subst prints (λ i. next_text (is_plan i).given next) printed;
-    verdict = verdict;
-    found = subst (λ (h : HeldPlan). IsVerdict lanes answers facts h next verdict) is_from found;
+    cycle = cycle;
+    lids = lids;
+    found = subst (λ (h : HeldPlan). IsLoopInStep (cells_of facts) h next cycle lids) is_from found;
     said =
-        let Said : Option (List ℕ) → Type 0 = λ o. says (verdict_text (cells_of facts) verdict ++ step_order_text o) in
-        subst Said made_is.order_is (subst (λ (f : Facts). says (verdict_text (cells_of f) verdict ++ step_order_text order)) is_known said);
+        let Said : Option (List ℕ) → Type 0 = λ o. says (loop_text (cells_of facts) cycle lids ++ step_order_text o) in
+        subst Said made_is.order_is (subst (λ (f : Facts). says (loop_text (cells_of f) cycle lids ++ step_order_text order)) is_known said);
     judged = judged;
   }
 

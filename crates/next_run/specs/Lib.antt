@@ -1,11 +1,9 @@
-pub mod Asked
 pub mod LoopText
 pub mod NextRun
+pub mod PreferredRule
 pub mod StepLoops
 pub mod StepOrderText
-pub mod StepVerdict
 pub use Rattle.between_orders.specs.Between
 pub use Rattle.between_orders.specs.GoalLaws
 pub use Rattle.between_orders.specs.HandedStages
 pub use Rattle.step_loops.specs.StepOrder
-pub use Rattle.lane_report.specs.AuditAsked

@@ -2,8 +2,8 @@
 use Rattle.std.specs.Prelude.{ℕ, List, [], ◌∷◌, ◌++◌, codes, decimal}
 use Rattle.std.specs.List.{flat_map}
 use Rattle.subnet_view.specs.Reading.{Cells}
-use Rattle.lane_report.specs.ChannelKind.TheVariants.{OnOneLane}
-use Rattle.lane_report.specs.CycleText.{cycle_line}
+use Rattle.audit_channels.specs.declared.cycle_text.ChannelKind.TheVariants.{OnOneLane}
+use Rattle.audit_channels.specs.CycleText.{cycle_line}
 
 -- a space and the number `lid`
 abbrev pub lid_word : ℕ → List ℕ

@@ -1,6 +1,6 @@
 -- What a step from held tables towards a plan does: it reads its inputs, one after the other, and writes the tables
 -- to write next, or returns a fault.
-use Rattle.std.specs.Prelude.{◌≡◌, ◌⊎◌, ◌↔◌, ◌+◌, ◌++◌, ℕ, Bool, true, false, List, Option, None, Some, IsTrue}
+use Rattle.std.specs.Prelude.{◌≡◌, ◌⊎◌, ◌↔◌, ◌+◌, ◌++◌, ℕ, Bool, true, false, List, [], Option, None, Some, IsTrue}
 use Rattle.std.specs.Prelude.{if◌then◌else◌}
 use Rattle.std.specs.Io.KnownBytes.{Appends}
 use Rattle.byte_io.specs.Source.{SourceState}
@@ -19,17 +19,18 @@ use Rattle.between_orders.specs.Rightness.{are_right}
 use Rattle.plan_order.specs.PlanOrder.{positions_by}
 use Rattle.next_tables.specs.declared.step_fault.StepFault.{StepFault}
 use Rattle.next_tables.specs.declared.step_fault.StepFault.TheVariants as steps
-use Rattle.lanes_file.specs.Lanes.{LanesSaid}
-use Rattle.next_run.specs.StepVerdict.{IsSound, IsVerdict, Verdict, verdict_text}
+use Rattle.next_run.specs.LoopText.{loop_text}
+use Rattle.next_run.specs.StepLoops.{IsLoopInStep}
 use Rattle.sm_cli.specs.Asked.{texts_for, texts_if}
 use Rattle.sm_cli.specs.InputReaders.{step_reader}
 use Rattle.sm_cli.specs.Inputs.{IsInputFault, Reader, WithInputs}
-use Rattle.sm_cli.specs.declared.input_steps.StepInputs.{StepInputs}
+use Rattle.sm_cli.specs.declared.input_orders.OrderAndTables.{OrderAndTables}
 use Rattle.sm_cli.specs.declared.fault.Fault.{Fault}
 use Rattle.sm_cli.specs.declared.fault.Fault.TheVariants.{NoRoom, Text, Write, Memory}
 use Rattle.sm_cli.specs.declared.text_fault.TextFault.TheVariants.{Moves}
-use Rattle.next_run.specs.declared.asked.StepAsked.{StepAsked}
-use Rattle.next_run.specs.Asked.{has_answers, has_lanes, is_named, is_told, preferred_rule}
+use Rattle.sm_cli.specs.StepAsked.{is_named, is_told}
+use Rattle.sm_cli.specs.declared.step_asked.StepAsked.{StepAsked}
+use Rattle.next_run.specs.PreferredRule.{preferred_rule}
 use Rattle.next_run.specs.StepOrderText.{items_of, order_of_step, step_order_text, switches_by}
 use Rattle.next_run.specs.declared.step_choice.StepChoice.{StepChoice}
 
@@ -135,23 +136,23 @@ pub record IsMade (told : Bool) (rule preferred : RuleValue) (facts : Facts) (he
 abbrev pub IsSaid : {W : Type 0} → (W → Option (List ℕ)) → (W → Bool) → W → W → List ℕ → Type 0
 IsSaid written has_failed old new text = IsTrue (has_failed new) ⊎ Appends (written old) (written new) text
 
--- the plan has room, and no LID moves. The step's text is printed, as `prints` says. What can happen while the step
--- is written is printed, as `says` says, and so is the order that the step goes by, if the held tables imply this
--- order. `passed` says whether nothing bad can happen: on one lane, or by lane if a text gives `lanes`. `told` says
--- whether the step may go by an order that the held tables imply; of several, the step goes by the one nearest to the
--- order of the rule `preferred`
-pub record IsStep (lmc : ℕ) (told : Bool) (rule preferred : RuleValue) (lanes : Option LanesSaid) (answers : Bool)
-    (facts : Facts) (held : HeldPlan) (prints says : List ℕ → Type 0) (passed : Bool) : Type 0 where
+-- the plan has room, and no LID moves. The step's text is printed, as `prints` says. A shortest credit loop that the
+-- step can make and its LIDs are printed, as `says` says, and so is the order that the step goes by, if the held tables
+-- imply this order. `passed` says whether there is no such loop. `told` says whether the step may go by an order that
+-- the held tables imply; of several, the step goes by the one nearest to the order of the rule `preferred`
+pub record IsStep (lmc : ℕ) (told : Bool) (rule preferred : RuleValue) (facts : Facts) (held : HeldPlan)
+    (prints says : List ℕ → Type 0) (passed : Bool) : Type 0 where
   pub has_room : no_room lmc (cells_of facts) ≡ None
   pub no_move : first_moved held (planned lmc rule facts) ≡ None
   pub goal : Option Goal
   pub next : HeldPlan
   pub is_next : IsNextStep told rule preferred facts held (planned lmc rule facts) goal next
   pub written : prints (text_of_step lmc rule facts next)
-  pub verdict : Verdict
-  pub found : IsVerdict lanes answers facts held next verdict
-  pub said : says (verdict_text (cells_of facts) verdict ++ step_order_text (order_of_step (cells_of facts) goal))
-  pub judged : IsTrue passed ↔ IsSound verdict
+  pub cycle : List ℕ
+  pub lids : List ℕ
+  pub found : IsLoopInStep (cells_of facts) held next cycle lids
+  pub said : says (loop_text (cells_of facts) cycle lids ++ step_order_text (order_of_step (cells_of facts) goal))
+  pub judged : IsTrue passed ↔ (cycle ≡ [])
 
 -- the fault of a step as a fault of the run; `at` is the input of the held tables
 abbrev pub fault_of_step : ℕ → StepFault → Fault
@@ -181,24 +182,24 @@ StopsStep at lmc rule facts held sink_failed fault = ⊥
 
 -- runs ------------------------------------------------------------------------------------------
 
--- the reader of the inputs after the text that the rule takes: the text of lanes and the text of an order, each only if
--- it is asked for, the tables and the files
-abbrev pub reader_of : {S : Type 0} → (S → SourceState) → StepAsked → Reader S StepInputs
-reader_of state asked = step_reader state asked.floor (has_lanes asked.lanes) (is_named asked.held_order)
+-- the reader of the inputs after the text that the rule takes: the text of an order, if it is asked for, the tables and
+-- the files
+abbrev pub reader_of : {S : Type 0} → (S → SourceState) → StepAsked → Reader S OrderAndTables
+reader_of state asked = step_reader state asked.floor (is_named asked.held_order)
 
 -- the number of texts that a step reads before the tables
 abbrev pub texts_before : StepAsked → ℕ
-texts_before asked = texts_for asked.rule + texts_if (has_lanes asked.lanes) + texts_if (is_named asked.held_order)
+texts_before asked = texts_for asked.rule + texts_if (is_named asked.held_order)
 
 -- the step that is asked for, made from what the inputs say, is printed as `prints` and `says` say (`IsStep`).
--- `passed` says whether nothing bad can happen while the step is written
-abbrev pub IsStepOf : StepAsked → RuleValue → StepInputs → (List ℕ → Type 0) → (List ℕ → Type 0) → Bool → Type 0
+-- `passed` says whether the step can make no credit loop
+abbrev pub IsStepOf : StepAsked → RuleValue → OrderAndTables → (List ℕ → Type 0) → (List ℕ → Type 0) → Bool → Type 0
 IsStepOf asked rule told prints says passed =
-    IsStep asked.lmc (is_told asked.held_order) rule (preferred_rule asked.held_order rule told.others.order.items)
-    told.lanes (has_answers asked.lanes) told.others.read.store told.others.read.held prints says passed
+    IsStep asked.lmc (is_told asked.held_order) rule (preferred_rule asked.held_order rule told.order.items)
+    told.read.store told.read.held prints says passed
 
 -- the inputs were read, and the step that is asked for was made and written. The inputs are the text that the rule
--- takes, the text of lanes and that of an order, each only if it is asked for, the tables and the files
+-- takes, the text of an order, if it is asked for, the tables and the files
 abbrev pub HasStepped : {S : Type 0} → (S → SourceState) → StepAsked → List S → List S
     → (List ℕ → Type 0) → (List ℕ → Type 0) → Bool → Type 0
 HasStepped state asked olds news prints says passed =
@@ -211,5 +212,4 @@ abbrev pub IsStepFault : {S : Type 0} → (S → SourceState) → StepAsked → 
 IsStepFault state asked olds news sink_failed fault =
     IsInputFault state (reader_of state asked) asked.rule olds news fault
     ⊎ WithInputs state (reader_of state asked) asked.rule olds news
-    (λ rule told. StopsStep (texts_before asked) asked.lmc rule told.others.read.store told.others.read.held sink_failed
-    fault)
+    (λ rule told. StopsStep (texts_before asked) asked.lmc rule told.read.store told.read.held sink_failed fault)

@@ -2,13 +2,9 @@
 //! writes the step from these tables towards the plan, and says whether channels can wait for each other in the step.
 #![tactic(auto)]
 
-mod asked;
 mod loop_text;
 mod next_run;
 mod step_choice;
 mod step_order_text;
-mod step_verdict;
 
-pub use asked::{HeldOrder, StepAsked, StepLanes};
-pub use lane_report::{AuditAsked, LaneAuditAsked};
 pub use next_run::run_next;

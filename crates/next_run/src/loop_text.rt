@@ -6,9 +6,8 @@ ghost use Rattle.byte_io.specs.WritesPart.{WritesPart};
 ghost use Rattle.next_run.specs.LoopText.{lid_word, lids_line, loop_text};
 ghost use Rattle.next_run.specs.StepLoops.{IsLoopInStep};
 
-use audit_channels::ChannelOrder;
+use audit_channels::{ChannelKind, ChannelOrder, write_cycle};
 use byte_io::{Sink, WriteFault, write_number};
-use lane_report::{ChannelKind, write_cycle};
 use packet_walks::Network;
 use smp_bytes::Lid;
 use std::alloc::{AllocError, Global};

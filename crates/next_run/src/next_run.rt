@@ -6,26 +6,28 @@ ghost use Rattle.std.specs.Option.{option_map};
 ghost use Rattle.fact_store.specs.View.{cells_of};
 ghost use Rattle.lft_blocks.specs.Rule.{RuleValue, value_of};
 ghost use Rattle.byte_io.specs.WritesPart.{WritesPart};
-ghost use Rattle.next_run.specs.Asked.{preferred_rule, rule_or};
+ghost use Rattle.next_run.specs.PreferredRule.{preferred_rule, rule_or};
 ghost use Rattle.next_run.specs.NextRun.{HasStepped, IsMade, IsSaid, IsStepFault, IsStepOf, StopsNext};
 ghost use Rattle.next_run.specs.NextRun.{StopsStep, choice_of, fault_of_step, goal_or, next_by_choice, texts_before};
-ghost use Rattle.next_run.specs.StepVerdict.{verdict_of, verdict_text};
+ghost use Rattle.next_run.specs.LoopText.{loop_text};
+ghost use Rattle.next_run.specs.StepLoops.{IsLoopInStep};
 ghost use Rattle.next_run.specs.StepOrderText.{items_of, step_order_text};
 ghost use Rattle.next_tables.specs.NextTables.{first_moved, next_tables};
 ghost use Rattle.next_tables.specs.NextTables.{value_of as chosen_of};
 ghost use Rattle.plan_tables.specs.PlanTables.{held_plan};
 
-use crate::asked::{HeldOrder, StepAsked};
+use crate::loop_text::StepLoop;
 use crate::step_choice::{StepChoice, step_choice};
 use crate::step_order_text::write_step_order;
-use crate::step_verdict::StepVerdict;
 use byte_io::{Sink, Source, WriteFault};
 use held_tables::{Held, Subnet};
 use lft_blocks::{Plan, Rule, SwitchOrder};
 use next_tables::{StepFault, StepRule, next_tables};
 use packet_walks::Network;
 use plan_tables::held_plan;
-use sm_cli::{Fault, StepInputs, StepReader, TextFault, read_inputs, texts_if};
+use sm_cli::{
+    Fault, HeldOrder, OrderAndTables, StepAsked, StepReader, TextFault, read_inputs, texts_if,
+};
 use smp_bytes::Guid;
 use std::alloc::{AllocError, Global};
 use tables_file::write_next;
@@ -40,16 +42,14 @@ struct MadeStep {
     order: Option<Vec<Guid>>,
 }
 
-/// Reads the inputs in order (`read_inputs`): the text that the rule takes, the text of lanes and the text of an order,
-/// each if it is asked for, then the text of the held tables and the files. There must be an input for each text.
-/// Writes to `sink` the tables to write next, towards the plan of the subnet that the files describe together.
+/// Reads the inputs in order (`read_inputs`): the text that the rule takes, the text of an order, if it is asked for,
+/// then the text of the held tables and the files. There must be an input for each text. Writes to `sink` the tables to
+/// write next, towards the plan of the subnet that the files describe together.
 ///
 /// Writes to `told` what can happen while these tables are written, under any mixtures of the held and the next
-/// tables. On one lane, writes a shortest credit loop and its LIDs, or that there is no credit loop. Lane by lane,
-/// writes what an audit by lane finds by lane. If the step goes towards a goal in between, a last line has the
-/// switches in the order that the step goes by. Returns whether there is no credit loop and, lane by lane, each
-/// packet between adapter ports of the same component has a service level and no packet is dropped for want of a
-/// lane. A failed write to `told` is not an error.
+/// tables: a shortest credit loop and its LIDs, or that there is no credit loop. If the step goes towards a goal in
+/// between, a last line has the switches in the order that the step goes by. Returns whether there is no credit loop. A
+/// failed write to `told` is not an error.
 ///
 /// # Errors
 ///
@@ -78,7 +78,6 @@ pub fn run_next<S: Source, W: Sink, E: Sink>(
 {
     let reader = StepReader {
         floor: asked.floor,
-        has_lanes: asked.lanes.has_lanes(),
         has_order: asked.held_order.is_named(),
     };
     match read_inputs(alloc, asked.rule, &reader, inputs) {
@@ -91,7 +90,7 @@ pub fn run_next<S: Source, W: Sink, E: Sink>(
 fn texts_before(asked: StepAsked) -> usize
     ensures { result ≡ texts_before asked }
 {
-    asked.rule.texts() + texts_if(asked.lanes.has_lanes()) + texts_if(asked.held_order.is_named())
+    asked.rule.texts() + texts_if(asked.held_order.is_named())
 }
 
 /// Writes to `sink` the step that `asked` asks for, from `found`, what the inputs say, towards the plan by `rule`.
@@ -100,7 +99,7 @@ fn step<W: Sink, E: Sink>(
     alloc: Global,
     asked: StepAsked,
     rule: &Rule,
-    found: &StepInputs,
+    found: &OrderAndTables,
     sink: &mut W,
     told: &mut E,
 ) -> Result<bool, Fault>
@@ -110,14 +109,13 @@ fn step<W: Sink, E: Sink>(
     ensures flushed { OnOk result (IsTrue (W.is_flushed sink.new)) }
     ensures sink_works { OnOk result (W.has_failed sink.new ≡ false) }
     ensures refused { IfErr result (StopsStep (texts_before asked) asked.lmc (value_of rule.now)
-        found.now.others.read.store found.now.others.read.held (W.has_failed sink.new)) }
+        found.now.read.store found.now.read.held (W.has_failed sink.new)) }
     ensures nothing_written { OnErr result ((result ≡ Err Fault.Write) ⊎ (sink.new ≡ sink.old)) }
     ensures nothing_told { OnErr result (told.new ≡ told.old) }
 {
-    let read = &found.others.read;
+    let read = &found.read;
     let lmc = asked.lmc;
     let by_told = asked.held_order.is_told();
-    let answers = asked.lanes.has_answers();
     let plan = Plan::of(alloc, &read.store, lmc, rule)?;
     let Ok(subnet) = Subnet::of(alloc, &read.store) else {
         return Err(Fault::Memory);
@@ -125,7 +123,7 @@ fn step<W: Sink, E: Sink>(
     let Ok(from) = Network::of(alloc, &subnet, &read.held) else {
         return Err(Fault::Memory);
     };
-    let Ok(named) = named_rule(alloc, asked.held_order, &found.others.order) else {
+    let Ok(named) = named_rule(alloc, asked.held_order, &found.order) else {
         return Err(Fault::Memory);
     };
     let input = texts_before(asked);
@@ -133,13 +131,12 @@ fn step<W: Sink, E: Sink>(
         Ok(made) => made,
         Err(fault) => return Err(fault),
     };
-    let lanes = &found.lanes;
-    let Ok(verdict) = StepVerdict::of(alloc, lanes, answers, &from, &made.next) else {
+    let Ok(cycle) = loop_in_step(alloc, &from, &made.next) else {
         return Err(Fault::Memory);
     };
     write_next(sink, plan.lids(), &made.next)?;
-    let _ = write_verdict(told, &from, &verdict, &made.order);
-    Ok(verdict.is_sound())
+    let _ = write_loop_and_order(told, &from, &cycle, &made.order);
+    Ok(cycle.is_none())
 }
 
 /// Returns the rule that spreads in the order of `switches`, which a text names, or `None` if `held_order` is not
@@ -163,17 +160,29 @@ fn named_rule(
     }
 }
 
-/// Writes to `told` what can happen while the step is written, and the line of `order`, if `order` is not `None`.
-fn write_verdict<E: Sink>(
+/// Returns a shortest credit loop that mixtures of the tables of the network `from` and of the tables `next` make, with
+/// its LIDs, or empty lists if no mixtures make a credit loop.
+fn loop_in_step(alloc: Global, from: &Network, next: &Held) -> Result<StepLoop, AllocError>
+    ensures { IfOk result (λ found. IsLoopInStep (cells_of from.now.facts) from.now.held next.now
+        found.channels.items found.lids.items) }
+{
+    let after = Network::of(alloc, from.subnet(), next)?;
+    StepLoop::of(alloc, from, &after)
+}
+
+/// Writes to `told` the lines of `cycle`, a credit loop that the step can make, and then the line of `order`, if `order`
+/// is not `None`.
+fn write_loop_and_order<E: Sink>(
     told: &mut E,
     from: &Network,
-    verdict: &StepVerdict,
+    cycle: &StepLoop,
     order: &Option<Vec<Guid>>,
 ) -> Result<(), WriteFault>
     ensures { WritesPart E.written E.has_failed result told.old told.new
-        (verdict_text (cells_of from.now.facts) (verdict_of verdict.now) ++ step_order_text (items_of order.now)) }
+        (loop_text (cells_of from.now.facts) cycle.now.channels.items cycle.now.lids.items
+        ++ step_order_text (items_of order.now)) }
 {
-    verdict.write(told, from)?;
+    cycle.write(told, from)?;
     write_step_order(told, order)
 }
 

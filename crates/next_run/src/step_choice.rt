@@ -5,7 +5,7 @@ ghost use Rattle.fact_store.specs.View.{cells_of};
 ghost use Rattle.lft_blocks.specs.Rule.{value_of};
 ghost use Rattle.subnet_view.specs.Reading.{switches};
 ghost use Rattle.between_orders.specs.Between.{goal_of};
-ghost use Rattle.next_run.specs.Asked.{preferred_positions, rule_or};
+ghost use Rattle.next_run.specs.PreferredRule.{preferred_positions, rule_or};
 ghost use Rattle.next_run.specs.NextRun.{IsChoice, IsGoalFrom, choice_of};
 
 use crate::step_order_text::switches_by;

@@ -12,7 +12,7 @@ use Rattle.sm_cli.specs.OrderText.{order_text}
 use Rattle.sm_cli.specs.InputTables.{AreNoTablesAndFiles, AreTablesAndFiles}
 use Rattle.sm_cli.specs.declared.fault.Fault.{Fault}
 use Rattle.sm_cli.specs.declared.input_tables.TablesAndFacts.{TablesAndFacts}
-use Rattle.audit_report.specs.AuditRun.{IsAnswerFault}
+use Rattle.sm_cli.specs.Fault.{IsOutputFault}
 
 -- the GUIDs of the switches of an order, the first switch first; `taken` has the indices of the switches, the last
 -- switch first. Empty for None, which means that there is no order
@@ -42,7 +42,7 @@ pub record FailsToTell {S : Type 0} (state : S → SourceState) (floor : ℕ) (o
     (sink_failed : Bool) (fault : Fault) : Type 0 where
   pub read_are : TablesAndFacts
   pub read : AreTablesAndFiles state floor olds news read_are
-  pub why : IsAnswerFault sink_failed fault
+  pub why : IsOutputFault sink_failed fault
 
 -- a run on open inputs ends with `fault`: the inputs are not read, or the order is not written
 abbrev pub IsOrderFault : {S : Type 0} → (S → SourceState) → ℕ → List S → List S → Bool → Fault → Type 0

@@ -5,7 +5,7 @@ ghost use Rattle.std.specs.Io.KnownBytes.{Appends};
 ghost use Rattle.std.specs.Option.{option_map};
 ghost use Rattle.fact_store.specs.View.{cells_of};
 ghost use Rattle.subnet_view.specs.Reading.{switches};
-ghost use Rattle.audit_report.specs.AuditRun.{IsAnswerFault};
+ghost use Rattle.sm_cli.specs.Fault.{IsOutputFault};
 ghost use Rattle.next_tables.specs.SwitchPositions.{switch_at};
 ghost use Rattle.told_order.specs.ToldOrder.{IsImpliedOrder};
 ghost use Rattle.order_run.specs.OrderRun.{HasPrintedOrder, IsOrderFault, IsOrderAnswer, told_switches};
@@ -56,7 +56,7 @@ fn answer<W: Sink>(alloc: Global, sink: &mut W, store: &Store, held: &Held) -> R
         (Appends (W.written sink.old) (W.written sink.new))) }
     ensures flushed { OnOk result (IsTrue (W.is_flushed sink.new)) }
     ensures sink_works { OnOk result (W.has_failed sink.new ≡ false) }
-    ensures refused { IfErr result (IsAnswerFault (W.has_failed sink.new)) }
+    ensures refused { IfErr result (IsOutputFault (W.has_failed sink.new)) }
     ensures nothing_written { OnErr result ((result ≡ Err Fault.Write) ⊎ (sink.new ≡ sink.old)) }
 {
     let Ok(subnet) = Subnet::of(alloc, store) else {

@@ -12,7 +12,7 @@ use Rattle.sm_manager.specs.Manager.{Manager, new_manager}
 use Rattle.serve_run.specs.Server.{HasServed, StopsServing}
 use Rattle.serve_run.specs.declared.serve_fault.ServeFault.{ServeFault}
 use Rattle.serve_run.specs.declared.serve_fault.ServeFault.TheVariants as stop
-use Rattle.serve_task.specs.declared.serving.Serving.{Serving}
+use Rattle.sm_cli.specs.declared.serving.Serving.{Serving}
 
 -- the reader of no inputs, which says of any GUID that it is that of a usable switch
 abbrev pub no_files : {S : Type 0} → Reader S (Unit {0})

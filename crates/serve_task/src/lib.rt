@@ -4,4 +4,4 @@
 mod no_files;
 mod serving;
 
-pub use serving::{Serving, run_serve};
+pub use serving::run_serve;

@@ -7,31 +7,14 @@ ghost use Rattle.serve_task.specs.RunServe.{HasServedLines, IsServeFault, fault_
 ghost use Rattle.sm_cli.specs.Asked.{texts_for};
 
 use crate::no_files::NoFiles;
-use attr_codec::{Lmc, Priority};
 use byte_io::{Sink, Source};
 use lft_blocks::Planning;
 use record_file::FileFault;
 use serve_run::{ServeFault, serve};
-use sm_cli::{Fault, RuleAsked, read_inputs};
+use sm_cli::{Fault, Serving, read_inputs};
 use sm_manager::Manager;
 use sm_state::Conduct;
-use smp_bytes::{Guid, PortNum};
 use std::alloc::Global;
-
-/// The manager that is to be served, and how the manager plans.
-#[derive(Clone, Copy, Debug, PartialEq, Eq)]
-pub struct Serving {
-    /// The GUID of the port at which the manager sits.
-    pub guid: Guid,
-    /// The number of the port at which the manager sits.
-    pub port: PortNum,
-    pub priority: Priority,
-    /// The SM_Key of the manager.
-    pub sm_key: u64,
-    /// The LMC of the manager's plans: a plan has 2^LMC LIDs for each adapter port.
-    pub lmc: Lmc,
-    pub rule: RuleAsked,
-}
 
 /// Serves a manager by lines, as `serve` does. The manager begins without facts. The inputs must be the text that the
 /// manager's rule takes, if the rule takes a text, and the lines. The text is read first.

@@ -4,10 +4,10 @@ use Rattle.byte_io.specs.Source.{SourceState}
 use Rattle.fact_store.specs.View.{Facts, cells_of}
 use Rattle.subnet_view.specs.Reading.{is_usable}
 use Rattle.sm_cli.specs.InputFiles.{HasRead, IsRefusedFile}
-use Rattle.sm_cli.specs.InputSteps.{AreNoStepInputs, AreStepInputs}
+use Rattle.sm_cli.specs.InputOrders.{AreNoOrderAndTables, AreOrderAndTables}
 use Rattle.sm_cli.specs.InputTables.{AreNoTablesAndFiles, AreTablesAndFiles}
 use Rattle.sm_cli.specs.Inputs.{Reader}
-use Rattle.sm_cli.specs.declared.input_steps.StepInputs.{StepInputs}
+use Rattle.sm_cli.specs.declared.input_orders.OrderAndTables.{OrderAndTables}
 use Rattle.sm_cli.specs.declared.input_tables.TablesAndFacts.{TablesAndFacts}
 
 -- the reader of files, which are read at the greatest of `floor` and the files' floors
@@ -26,11 +26,11 @@ tables_reader state floor = record {
   has_switch = λ told. is_usable (cells_of told.store);
 }
 
--- the reader of the inputs of a step: a text of lanes and a text of an order, if asked for, then tables and files;
--- the files are read at the greatest of `floor` and the files' floors
-abbrev pub step_reader : {S : Type 0} → (S → SourceState) → ℕ → Bool → Bool → Reader S StepInputs
-step_reader state floor has_lanes has_order = record {
-  reads = AreStepInputs state floor has_lanes has_order;
-  refuses = AreNoStepInputs state has_lanes has_order;
-  has_switch = λ told. is_usable (cells_of told.others.read.store);
+-- the reader of the inputs of a step: a text of an order, if asked for, then tables and files; the files are read at
+-- the greatest of `floor` and the files' floors
+abbrev pub step_reader : {S : Type 0} → (S → SourceState) → ℕ → Bool → Reader S OrderAndTables
+step_reader state floor has_order = record {
+  reads = AreOrderAndTables state floor has_order;
+  refuses = AreNoOrderAndTables state has_order;
+  has_switch = λ told. is_usable (cells_of told.read.store);
 }

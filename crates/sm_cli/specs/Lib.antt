@@ -6,12 +6,12 @@ pub mod InputFiles
 pub mod InputLanes
 pub mod InputOrders
 pub mod InputReaders
-pub mod InputSteps
 pub mod InputTables
 pub mod Inputs
 pub mod OrderText
 pub mod Run
 pub mod RunLaws
 pub mod Sources
+pub mod StepAsked
 pub mod SwitchLists
 pub mod TextFault

@@ -59,12 +59,6 @@ IsWritingFault lmc facts sink_failed Write = IsTrue sink_failed
 IsWritingFault lmc facts sink_failed Memory = no_room lmc (cells_of facts) ≡ None
 IsWritingFault lmc facts sink_failed fault = ⊥
 
--- writing an order ends with a fault: a write failed, or memory ran out
-abbrev pub IsOrderFault : Bool → Fault → Type 0
-IsOrderFault sink_failed Write = IsTrue sink_failed
-IsOrderFault sink_failed Memory = ⊤
-IsOrderFault sink_failed fault = ⊥
-
 -- making an output from `facts` ends with a fault: a plan has no room, a write failed, or memory ran out. Memory runs
 -- out only for an order or for a plan with room
 abbrev pub IsAnswerFault : Output → Facts → Bool → Fault → Type 0

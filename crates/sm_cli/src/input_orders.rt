@@ -1,4 +1,5 @@
-//! Reading of a text of an order of switches, if it is given, of a text of tables, and of the files after them.
+//! The inputs of a step after the text that its rule takes: a text of an order of switches, if it is given, a text of
+//! tables, and the files.
 ghost use Rattle.std.specs.Prelude.{◌≡◌, ◌+◌, ◌≤◌, length, IfErr, IfOk};
 ghost use Rattle.sm_cli.specs.InputOrders.{AreNoOrderAndTables, AreNoSwitches, AreOrderAndTables, AreSwitches};
 ghost use Rattle.sm_cli.specs.Asked.{texts_if};
@@ -6,10 +7,11 @@ ghost use Rattle.sm_cli.specs.Asked.{texts_if};
 use crate::asked::texts_if;
 use crate::fault::Fault;
 use crate::input_tables::{TablesAndFacts, read_tables_and_files};
-use crate::inputs::read_switches;
+use crate::inputs::{InputReader, read_switches};
 use byte_io::Source;
 use smp_bytes::{Generation, Guid};
 use std::alloc::Global;
+use subnet_view::is_usable;
 
 /// What a text of an order, a text of tables and the files after them say.
 #[derive(Drop)]
@@ -20,6 +22,40 @@ pub struct OrderAndTables {
     pub read: TablesAndFacts,
 }
 
+/// A reader of the inputs of a step, which knows the usable switches from the files' facts.
+#[derive(Clone, Copy, Debug, PartialEq, Eq)]
+pub struct StepReader {
+    /// The least floor at which the files are read. Facts below the floor are ignored.
+    pub floor: Generation,
+    /// Whether a text of an order comes before the text of tables.
+    pub has_order: bool,
+}
+
+impl<S: Source> InputReader<S> for StepReader {
+    ghost use Rattle.std.specs.Prelude.{◌+◌, ◌≤◌};
+    ghost use Rattle.sm_cli.specs.Asked.{texts_if};
+    ghost use Rattle.sm_cli.specs.InputReaders.{step_reader};
+
+    type Told = OrderAndTables;
+
+    ghost reader = { λ inputs. step_reader S.state inputs.floor inputs.has_order };
+
+    ghost takes = { λ inputs count. texts_if inputs.has_order + 1 ≤ count };
+
+    fn read(
+        &self,
+        alloc: Global,
+        before: usize,
+        inputs: &mut [S],
+    ) -> Result<OrderAndTables, Fault> {
+        read_order_and_tables(alloc, before, inputs, self.floor, self.has_order)
+    }
+
+    fn has_switch(&self, told: &OrderAndTables, guid: Guid) -> bool {
+        is_usable(&told.read.store, guid)
+    }
+}
+
 /// Reads the text of an order if `has_order` is true, then the text of tables, and then the files. What the files say
 /// is read at `floor` or a greater floor. `before` other inputs come before `inputs`. There must be an input for each
 /// text, and at most `usize::MAX` inputs in all.
@@ -27,7 +63,7 @@ pub struct OrderAndTables {
 /// # Errors
 ///
 /// Returns the fault of the first input that is refused. Memory that is refused counts as a fault of its input.
-pub(crate) fn read_order_and_tables<S: Source>(
+fn read_order_and_tables<S: Source>(
     alloc: Global,
     before: usize,
     inputs: &mut [S],

@@ -2,30 +2,34 @@
 #![tactic(auto)]
 
 mod asked;
+mod audit_asked;
 mod exit_status;
 mod fault;
 mod fault_line;
 mod input_files;
 mod input_lanes;
 mod input_orders;
-mod input_steps;
 mod input_tables;
 mod inputs;
 pub mod laws;
 mod order_text;
 mod run;
+mod serving;
+mod step_asked;
 mod text_fault;
 
 pub use asked::{Invocation, Output, RuleAsked, texts_if};
+pub use audit_asked::{AuditAsked, LaneAuditAsked};
 pub use exit_status::ExitStatus;
 pub use fault::Fault;
 pub use fault_line::write_fault;
 pub use input_files::FilesFrom;
 pub use input_lanes::{LanesAndFiles, read_lanes_and_files};
-pub use input_orders::OrderAndTables;
-pub use input_steps::{StepInputs, StepReader};
+pub use input_orders::{OrderAndTables, StepReader};
 pub use input_tables::{TablesAndFacts, TablesAndFiles, read_tables_and_files};
 pub use inputs::{InputReader, read_inputs};
 pub use order_text::write_order;
 pub use run::run_files;
+pub use serving::Serving;
+pub use step_asked::{HeldOrder, StepAsked};
 pub use text_fault::TextFault;

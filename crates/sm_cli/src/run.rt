@@ -8,7 +8,8 @@ ghost use Rattle.lft_blocks.specs.Plan.{plan_of};
 ghost use Rattle.lft_blocks.specs.PlanText.{plan_text};
 ghost use Rattle.sm_cli.specs.Asked.{rule_for, texts_for};
 ghost use Rattle.sm_cli.specs.OrderText.{order_text};
-ghost use Rattle.sm_cli.specs.Run.{HasAnswered, IsAnswer, IsAnswerFault, IsFaultOf, IsOrderFault};
+ghost use Rattle.sm_cli.specs.Fault.{IsOutputFault};
+ghost use Rattle.sm_cli.specs.Run.{HasAnswered, IsAnswer, IsAnswerFault, IsFaultOf};
 ghost use Rattle.sm_cli.specs.Run.{IsWritingFault, order_by};
 
 use crate::asked::{Invocation, Output};
@@ -112,7 +113,7 @@ fn write_order_by<W: Sink>(
         (order_text (order_by (value_of rule.now) (cells_of store.now)))) }
     ensures flushed { OnOk result (IsTrue (W.is_flushed sink.new)) }
     ensures sink_works { OnOk result (W.has_failed sink.new ≡ false) }
-    ensures refused { IfErr result (IsOrderFault (W.has_failed sink.new)) }
+    ensures refused { IfErr result (IsOutputFault (W.has_failed sink.new)) }
     ensures nothing_written { OnErr result ((result ≡ Err Fault.Write) ⊎ (sink.new ≡ sink.old)) }
 {
     let switches = order_by(alloc, store, rule)?;

@@ -4,9 +4,9 @@ use Rattle.std.specs.Io.KnownBytes.{Appends}
 use Rattle.std.proofs.lemmas.Result.{on_ok_weaker}
 use Rattle.fact_store.specs.View.{cells_of}
 use Rattle.record_file.proofs.Writing.{appends_then}
-use Rattle.audit_report.specs.declared.cycle_text.ChannelKind.TheVariants.{OnOneLane}
+use Rattle.audit_channels.specs.declared.cycle_text.ChannelKind.TheVariants.{OnOneLane}
 use Rattle.audit_report.specs.AuditText.{audit_text, findings_text, text_of}
-use Rattle.audit_report.specs.CycleText.{cycle_line}
+use Rattle.audit_channels.specs.CycleText.{cycle_line}
 use Rattle.audit_report.specs.Passing.{Audited}
 use Rattle.audit_report.proofs.audit_text.write_audit.Goals as goal
 

@@ -1,6 +1,6 @@
 -- A line more.
 use Rattle.audit_report.specs.AuditText.{port_line}
-use Rattle.audit_report.proofs.Written.{written_next}
+use Rattle.audit_channels.proofs.Written.{written_next}
 use Rattle.audit_report.proofs.audit_text.write_each_port.Goals as goal
 
 pub loop-port-preserved : goal.loop-port-preserved

@@ -1,6 +1,6 @@
 -- A line more.
 use Rattle.audit_report.specs.AuditText.{switch_line}
-use Rattle.audit_report.proofs.Written.{written_next}
+use Rattle.audit_channels.proofs.Written.{written_next}
 use Rattle.audit_report.proofs.audit_text.write_each_switch.Goals as goal
 
 pub loop-guid-preserved : goal.loop-guid-preserved

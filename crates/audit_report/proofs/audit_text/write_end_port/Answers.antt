@@ -1,6 +1,6 @@
 -- Its pieces in turn.
 use Rattle.record_file.proofs.Writing.{appends_then}
-use Rattle.audit_report.proofs.Written.{spelled, writes_then}
+use Rattle.audit_channels.proofs.Written.{spelled, writes_then}
 use Rattle.audit_report.proofs.audit_text.write_end_port.Goals as goal
 
 pub returns : goal.returns

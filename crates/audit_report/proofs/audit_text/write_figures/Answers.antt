@@ -2,7 +2,7 @@
 use Rattle.std.proofs.Common.{ap, sym}
 use Rattle.record_file.proofs.Writing.{appends_then}
 use Rattle.audit_report.specs.AuditText.{figures_text}
-use Rattle.audit_report.proofs.Written.{part_of, writes_as, writes_then}
+use Rattle.audit_channels.proofs.Written.{part_of, writes_as, writes_then}
 use Rattle.audit_report.proofs.audit_text.write_figures.Goals as goal
 
 pub returns-in_ok-write-in-Some-2 : goal.returns-in_ok-write-in-Some-2

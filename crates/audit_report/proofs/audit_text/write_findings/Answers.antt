@@ -9,7 +9,7 @@ use Rattle.audit_report.specs.AuditText.{ways_text}
 use Rattle.audit_report.specs.Passing.{Audited}
 use Rattle.audit_counts.specs.Packets.{packets_of}
 use Rattle.audit_report.proofs.TallyText.{tally_told}
-use Rattle.audit_report.proofs.Written.{part_then}
+use Rattle.audit_channels.proofs.Written.{part_then}
 use Rattle.audit_report.proofs.audit_text.write_findings.Goals as goal
 
 pub returns : goal.returns

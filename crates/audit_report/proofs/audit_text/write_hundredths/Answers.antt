@@ -1,6 +1,6 @@
 -- Its pieces in turn.
 use Rattle.record_file.proofs.Writing.{appends_then}
-use Rattle.audit_report.proofs.Written.{writes_then}
+use Rattle.audit_channels.proofs.Written.{writes_then}
 use Rattle.audit_report.proofs.audit_text.write_hundredths.Goals as goal
 
 pub returns : goal.returns

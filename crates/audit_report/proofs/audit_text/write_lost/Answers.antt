@@ -2,7 +2,7 @@
 use Rattle.std.proofs.Common.{ap}
 use Rattle.record_file.proofs.Writing.{appends_then}
 use Rattle.audit_report.specs.AuditText.{entry_text}
-use Rattle.audit_report.proofs.Written.{part_of, spelled, writes_then}
+use Rattle.audit_channels.proofs.Written.{part_of, spelled, writes_then}
 use Rattle.audit_report.proofs.audit_text.write_lost.Goals as goal
 
 pub returns : goal.returns

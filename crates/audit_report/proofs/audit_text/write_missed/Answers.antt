@@ -1,6 +1,6 @@
 -- Its kinds in turn.
 use Rattle.record_file.proofs.Writing.{appends_then}
-use Rattle.audit_report.proofs.Written.{part_then}
+use Rattle.audit_channels.proofs.Written.{part_then}
 use Rattle.audit_report.proofs.audit_text.write_missed.Goals as goal
 
 pub returns : goal.returns

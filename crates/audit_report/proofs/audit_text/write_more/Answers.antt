@@ -4,7 +4,7 @@ use Rattle.std.specs.Prelude.{codes, decimal}
 use Rattle.std.proofs.lemmas.Bool.{cond_below}
 use Rattle.record_file.proofs.Writing.{appends_then}
 use Rattle.audit_report.specs.AuditText.{more_line}
-use Rattle.audit_report.proofs.Written.{part_of, spelled, writes_as, writes_then}
+use Rattle.audit_channels.proofs.Written.{part_of, spelled, writes_as, writes_then}
 use Rattle.audit_report.proofs.audit_text.write_more.Goals as goal
 
 more_is : (word : List ℕ) (count : ℕ) → count ≢ 0 → codes "more " ++ word ++ codes " " ++ decimal count ++ codes "\n" ≡ more_line word count

@@ -3,9 +3,9 @@ use Rattle.std.specs.Prelude.{codes}
 use Rattle.std.proofs.lemmas.Result.{on_ok_weaker}
 use Rattle.fact_store.specs.View.{cells_of}
 use Rattle.record_file.proofs.Writing.{appends_then}
-use Rattle.audit_report.proofs.Written.{on_err}
+use Rattle.audit_channels.proofs.Written.{on_err}
 use Rattle.audit_report.specs.AuditText.{end_text, sent_text}
-use Rattle.audit_report.proofs.Written.{on_err}
+use Rattle.audit_channels.proofs.Written.{on_err}
 use Rattle.audit_report.proofs.audit_text.write_packet.Goals as goal
 
 pub returns : goal.returns

@@ -1,7 +1,7 @@
 -- A line more.
 use Rattle.fact_store.specs.View.{cells_of}
 use Rattle.audit_report.specs.AuditText.{packet_line}
-use Rattle.audit_report.proofs.Written.{written_next}
+use Rattle.audit_channels.proofs.Written.{written_next}
 use Rattle.audit_report.proofs.audit_text.write_packets.Goals as goal
 
 pub loop-packet-preserved : goal.loop-packet-preserved

@@ -1,6 +1,6 @@
 -- Its lines in turn.
 use Rattle.record_file.proofs.Writing.{appends_then}
-use Rattle.audit_report.proofs.Written.{part_of, writes_then}
+use Rattle.audit_channels.proofs.Written.{part_of, writes_then}
 use Rattle.audit_report.proofs.audit_text.write_pairs.Goals as goal
 
 pub returns : goal.returns

@@ -2,7 +2,7 @@
 use Rattle.std.proofs.Common.{◌≡◌, ◌∙◌, ap}
 use Rattle.std.specs.Prelude.{decimal}
 use Rattle.record_file.proofs.Writing.{appends_then}
-use Rattle.audit_report.proofs.Written.{spelled, writes_as, writes_then}
+use Rattle.audit_channels.proofs.Written.{spelled, writes_as, writes_then}
 use Rattle.audit_report.proofs.audit_text.write_sent.Goals as goal
 
 pub returns : goal.returns

@@ -1,5 +1,5 @@
 -- Its pieces in turn.
-use Rattle.audit_report.proofs.Written.{writes_then}
+use Rattle.audit_channels.proofs.Written.{writes_then}
 use Rattle.audit_report.proofs.audit_text.write_taken.Goals as goal
 
 pub returns : goal.returns

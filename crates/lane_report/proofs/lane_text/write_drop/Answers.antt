@@ -3,7 +3,7 @@ use Rattle.std.proofs.Common.{◌≡◌, ◌∙◌, ap}
 use Rattle.std.specs.Prelude.{decimal}
 use Rattle.smp_bytes.specs.Text.{guid_text}
 use Rattle.record_file.proofs.Writing.{appends_then}
-use Rattle.audit_report.proofs.Written.{spelled, writes_then}
+use Rattle.audit_channels.proofs.Written.{spelled, writes_then}
 use Rattle.lane_report.proofs.lane_text.write_drop.Goals as goal
 
 pub returns : goal.returns

@@ -4,7 +4,7 @@ use Rattle.std.specs.Prelude.{codes}
 use Rattle.std.specs.List.{flat_map}
 use Rattle.byte_io.specs.WritesPart.{WritesPart}
 use Rattle.audit_report.specs.AuditText.{more_line}
-use Rattle.audit_report.proofs.Written.{part_then, spelled}
+use Rattle.audit_channels.proofs.Written.{part_then, spelled}
 use Rattle.lane_report.specs.LaneText.{pair_line}
 use Rattle.lane_report.proofs.lane_text.write_missing.Goals as goal
 

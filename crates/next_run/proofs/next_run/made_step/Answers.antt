@@ -5,7 +5,7 @@ use Rattle.held_tables.specs.Held.{HeldPlan}
 use Rattle.plan_tables.specs.PlanTables.{held_plan}
 use Rattle.lft_blocks.specs.Rule.{value_of}
 use Rattle.next_tables.specs.NextTables.{first_moved}
-use Rattle.next_run.specs.Asked.{rule_or}
+use Rattle.next_run.specs.PreferredRule.{rule_or}
 use Rattle.next_run.specs.NextRun.{IsMade, StopsBy, choice_of}
 use Rattle.next_run.specs.StepOrderText.{items_of}
 use Rattle.next_run.proofs.GoalLids.{choice_made, moved_same}

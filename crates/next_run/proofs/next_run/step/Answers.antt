@@ -1,17 +1,18 @@
 -- All was made of the same facts and tables.
 use Rattle.std.proofs.Common.{◌≡◌, ◌∙◌, ℕ, Bool, ap, refl, subst, sym}
 use Rattle.std.specs.Io.KnownBytes.{Appends}
-use Rattle.fact_store.specs.View.{Facts}
+use Rattle.fact_store.specs.View.{Facts, cells_of}
 use Rattle.lid_assign.specs.Lids.{Given}
 use Rattle.lft_blocks.specs.Rule.{RuleValue, value_of}
 use Rattle.plan_tables.specs.PlanTables.{held_plan, planned}
 use Rattle.sm_cli.specs.declared.fault.Fault.{Fault}
 use Rattle.tables_file.specs.PrintedTables.{next_text}
 use Rattle.next_tables.specs.NextTables.{first_moved}
-use Rattle.next_run.specs.Asked.{has_answers, is_told, preferred_rule}
+use Rattle.sm_cli.specs.StepAsked.{is_told}
+use Rattle.next_run.specs.PreferredRule.{preferred_rule}
 use Rattle.next_run.specs.NextRun.{IsMade, IsSaid, StopsBy, StopsStep, texts_before}
 use Rattle.next_run.specs.StepOrderText.{items_of}
-use Rattle.next_run.specs.StepVerdict.{IsVerdict, verdict_of}
+use Rattle.next_run.specs.StepLoops.{IsLoopInStep}
 use Rattle.next_run.proofs.StepIs.{not_written, step_is, stops, stops_by, was_said}
 use Rattle.next_run.proofs.next_run.step.Goals as goal
 
@@ -20,9 +21,9 @@ returns-clause-done g c =
     let rule = value_of c.args.rule.now in
     let asked = c.args.asked in
     let found = c.args.found.now in
-    let store = found.others.read.store in
+    let store = found.read.store in
     let made = c.in-Ok-made_step.made in
-    let preferred = preferred_rule asked.held_order rule found.others.order.items in
+    let preferred = preferred_rule asked.held_order rule found.order.items in
     let Printed : Given → Type 0 = λ given. Appends (g.W.Sink.written c.args.sink.now) (g.W.Sink.written c.write_next.new.sink)
     (next_text given made.next) in
     let facts_is = c.in-Ok-of.ensures.facts ∙ c.in-Ok.ensures in
@@ -30,22 +31,23 @@ returns-clause-done g c =
     λ x. IsMade x.0 rule x.1.0 x.1.1 c.in-Ok-of.from.held (held_plan c.in_ok-plan.plan) made.next (items_of made.order) in
     let named_is = sym (c.in-Ok-named_rule.ensures rule) ∙ ap (preferred_rule asked.held_order rule) c.deref.ensures.value in
     let is_made = subst Made (λ i. (c.is_told-by_told.ensures i, (named_is i, facts_is i))) c.in-Ok-made_step.ensures.made in
-    let Judged : Bool × Facts → Type 0 = λ x. IsVerdict found.lanes x.0 x.1 c.in-Ok-of.from.held made.next (verdict_of c.in-Ok-of-2.verdict) in
-    step_is asked.lmc (is_told asked.held_order) rule preferred found.lanes (has_answers asked.lanes)
-    store found.others.read.held c.in_ok-plan.plan c.in_ok-plan.ensures.plan c.in-Ok-of.from.held made.next (items_of made.order)
+    let cycle = c.in-Ok-loop_in_step.cycle in
+    let Found : Facts → Type 0 = λ x. IsLoopInStep (cells_of x) c.in-Ok-of.from.held made.next cycle.channels.items cycle.lids.items in
+    step_is asked.lmc (is_told asked.held_order) rule preferred
+    store found.read.held c.in_ok-plan.plan c.in_ok-plan.ensures.plan c.in-Ok-of.from.held made.next (items_of made.order)
     c.in-Ok-of.ensures.held is_made
     (Appends (g.W.Sink.written c.args.sink.now) (g.W.Sink.written c.write_next.new.sink))
-    (IsSaid g.E.Sink.written g.E.Sink.has_failed c.args.told.now c.write_verdict.new.told)
-    c.is_sound.result c.in-Ok-of.from.facts (verdict_of c.in-Ok-of-2.verdict) facts_is c.in_ok-plan.ensures.judged
-    c.in-Ok-made_step.ensures.still (subst Judged (λ i. (c.has_answers-answers.ensures i, facts_is i)) c.in-Ok-of-2.ensures)
+    (IsSaid g.E.Sink.written g.E.Sink.has_failed c.args.told.now c.write_loop_and_order.new.told)
+    c.is_none.result c.in-Ok-of.from.facts cycle.channels.items cycle.lids.items facts_is c.in_ok-plan.ensures.judged
+    c.in-Ok-made_step.ensures.still (subst Found facts_is c.in-Ok-loop_in_step.ensures)
     (subst Printed c.lids.ensures c.in_ok-write_next.ensures.writes.ok)
-    (was_said g.E.Sink.written g.E.Sink.has_failed c.write_verdict.result _ _ _ c.write_verdict.ensures.ok c.write_verdict.ensures.err)
-    c.is_sound.ensures
+    (was_said g.E.Sink.written g.E.Sink.has_failed c.write_loop_and_order.result _ _ _ c.write_loop_and_order.ensures.ok c.write_loop_and_order.ensures.err)
+    c.is_none.ensures
 
 pub returns-in-Err-clause-refused : goal.returns-in-Err-clause-refused
 returns-in-Err-clause-refused g c =
     let rule = value_of c.args.rule.now in
-    let read = c.args.found.now.others.read in
+    let read = c.args.found.now.read in
     let moved : first_moved c.in-Ok-of.from.held (held_plan c.in_ok-plan.plan) ≡ first_moved read.held (planned c.args.asked.lmc rule read.store) =
     λ i. first_moved (c.in-Ok-of.ensures.held i) (held_plan (c.in_ok-plan.ensures.plan i)) in
     let fails : StopsBy (texts_before c.args.asked) (first_moved c.in-Ok-of.from.held (held_plan c.in_ok-plan.plan)) c.in-Err.fault =
@@ -56,7 +58,7 @@ returns-in-Err-clause-refused g c =
 
 pub returns-in_err-write_next-clause-refused : goal.returns-in_err-write_next-clause-refused
 returns-in_err-write_next-clause-refused g c =
-    let read = c.args.found.now.others.read in
+    let read = c.args.found.now.read in
     let Stops : Fault → Type 0 = λ fault. StopsStep (texts_before c.args.asked) c.args.asked.lmc (value_of c.args.rule.now) read.store read.held
     (g.W.Sink.has_failed c.write_next.new.sink) fault in
     stops c.from_residual-in_err-write_next.result Stops c.from_residual-in_err-write_next.ensures.1 (c.in_err-write_next.ensures.writes.failed.0 refl)

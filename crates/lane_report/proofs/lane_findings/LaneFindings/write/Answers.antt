@@ -4,8 +4,8 @@ use Rattle.std.specs.Io.KnownBytes.{Appends}
 use Rattle.std.proofs.lemmas.Result.{on_ok_weaker}
 use Rattle.fact_store.specs.View.{cells_of}
 use Rattle.record_file.proofs.Writing.{appends_then}
-use Rattle.audit_report.specs.declared.cycle_text.ChannelKind.TheVariants.{ByLane}
-use Rattle.audit_report.specs.CycleText.{cycle_line}
+use Rattle.audit_channels.specs.declared.cycle_text.ChannelKind.TheVariants.{ByLane}
+use Rattle.audit_channels.specs.CycleText.{cycle_line}
 use Rattle.lane_report.specs.LaneText.{dropped_text, lanes_text, missing_text}
 use Rattle.lane_report.proofs.lane_findings.LaneFindings.write.Goals as goal
 

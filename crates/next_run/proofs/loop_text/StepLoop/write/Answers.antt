@@ -4,8 +4,8 @@ use Rattle.std.specs.Io.KnownBytes.{Appends}
 use Rattle.std.proofs.lemmas.Result.{on_ok_weaker}
 use Rattle.fact_store.specs.View.{cells_of}
 use Rattle.record_file.proofs.Writing.{appends_then}
-use Rattle.lane_report.specs.ChannelKind.TheVariants.{OnOneLane}
-use Rattle.lane_report.specs.CycleText.{cycle_line}
+use Rattle.audit_channels.specs.declared.cycle_text.ChannelKind.TheVariants.{OnOneLane}
+use Rattle.audit_channels.specs.CycleText.{cycle_line}
 use Rattle.next_run.specs.LoopText.{lids_line}
 use Rattle.next_run.proofs.loop_text.StepLoop.write.Goals as goal
 
