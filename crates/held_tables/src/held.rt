@@ -145,11 +145,7 @@ fn push_range(lids: &mut Vec<HeldLid>, range: HeldRange) -> Result<(), AllocErro
 
 /// Appends to `lids` 2^`lmc` consecutive LIDs, starting with that of `first`, each with the end port of `first`.
 /// The LID of `first` must be below 49,152.
-pub fn push_lids(
-    lids: &mut Vec<HeldLid>,
-    first: &HeldLid,
-    lmc: Lmc,
-) -> Result<(), AllocError>
+pub fn push_lids(lids: &mut Vec<HeldLid>, first: &HeldLid, lmc: Lmc) -> Result<(), AllocError>
     requires { first.now.lid < 0xC000 }
     ensures { OnOk result (lids.new.items
         ≡ lids.old.items ++ lids_of (record { first = first.now; lmc = lmc })) }

@@ -6,8 +6,8 @@ ghost use Rattle.next_tables.specs.Assembly.{all_blocks, block_in, entry_in, mos
 ghost use Rattle.next_tables.specs.NextTables.{next_switch};
 
 use held_tables::{Held, HeldBlock, HeldSwitch};
-use plan_tables::block_count;
 use packet_walks::Network;
+use plan_tables::block_count;
 use smp_bytes::{Lid, NO_ENTRY};
 use std::alloc::{AllocError, Global};
 

@@ -60,11 +60,7 @@ fn push_owned(lids: &mut Vec<HeldLid>, map: &LidMap, lid: Lid) -> Result<(), All
 }
 
 /// Returns the switches of `tables`, each with the top `top`.
-fn with_top(
-    alloc: Global,
-    top: Lid,
-    tables: &[Table],
-) -> Result<Vec<HeldSwitch>, AllocError>
+fn with_top(alloc: Global, top: Lid, tables: &[Table]) -> Result<Vec<HeldSwitch>, AllocError>
     ensures { IfOk result (λ switches. switches.items ≡ map (with_top top) tables.now) }
 {
     let mut switches = Vec::with_capacity(alloc, tables.len())?;
