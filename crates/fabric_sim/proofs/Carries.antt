@@ -6,15 +6,15 @@ use Rattle.fabric_sim.specs.declared.packet.Packet.{Packet}
 use Rattle.fabric_sim.specs.declared.fabric_fault.FabricFault.{FabricFault}
 use Rattle.fabric_sim.specs.declared.delivered.Delivered.{Delivered}
 use Rattle.fabric_sim.specs.declared.delivered.Delivered.TheVariants as delivered_is
-use Rattle.fabric_sim.specs.Simulation.{Simulation, IsSimulation, AreCables, port_count, is_seat_at}
+use Rattle.fabric_sim.specs.Simulation.{Simulation, IsSimulation, AreCables, port_count, is_cable_port, is_seat_at}
 use Rattle.fabric_sim.specs.Delivery.{after_deliver}
-use Rattle.fabric_sim.specs.Changes.{after_inject, after_repeat, after_lose}
+use Rattle.fabric_sim.specs.Changes.{after_emit, after_inject, after_repeat, after_lose}
 use Rattle.fabric_sim.specs.Calls.{Inject, Deliver, Lose, Repeat}
 use Rattle.fabric_sim.proofs.Carried.{agents_say}
 use Rattle.fabric_sim.proofs.Courses.{AnySends, SaysSo, AreOnCourse, IsOnCourse, IsForManager}
-use Rattle.fabric_sim.proofs.Kept.{delivered_is as delivered_stays, injected_is, repeated_is, lost_is}
-use Rattle.fabric_sim.proofs.TracedCalls.{deliveries_trace, deliveries_hand_up_traced, injections_trace, copies_trace, losses_trace}
-use Rattle.fabric_sim.proofs.TripCalls.{along_call}
+use Rattle.fabric_sim.proofs.Kept.{delivered_is as delivered_stays, emitted_is, injected_is, repeated_is, lost_is}
+use Rattle.fabric_sim.proofs.TracedCalls.{deliveries_trace, deliveries_hand_up_traced, emissions_trace, injections_trace, copies_trace, losses_trace}
+use Rattle.fabric_sim.proofs.TripCalls.{along_call, along_emitted}
 use Rattle.fabric_sim.proofs.TripEnds.{keep}
 use Rattle.fabric_sim.proofs.TripShapes.{IsAlong}
 
@@ -48,6 +48,15 @@ module _ {start : Simulation} (cables : AreCables start) (counts : (id : ℕ) �
         along = along_call keep s (Inject p packet) c.along;
         is = injected_is s c.is p packet;
         flights = injections_trace AnySends (SaysSo start) cables counts c.along c.is c.flights p packet on;
+      }
+
+  pub emissions_carry : (p : NodePort) (packet : Packet) → (is_cable_port s p ≡ true → IsOnCourse start p packet.bytes)
+      → Carries start (after_emit s p packet).fabric
+  emissions_carry p packet on =
+      record {
+        along = along_emitted keep s p packet c.along;
+        is = emitted_is s c.is p packet;
+        flights = emissions_trace AnySends (SaysSo start) cables counts c.along c.is c.flights p packet on;
       }
 
   pub copies_carry : (n : ℕ) → Carries start (after_repeat s n).fabric

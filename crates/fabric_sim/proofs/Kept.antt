@@ -15,13 +15,13 @@ use Rattle.dr_forward.specs.declared.verdict.Verdict.TheVariants.{Out, ToAgent, 
 use Rattle.dr_forward.specs.DirectedStep.{step}
 use Rattle.fabric_sim.specs.declared.packet.Packet.{Packet}
 use Rattle.fabric_sim.specs.declared.flight.Whereabouts.{Whereabouts}
-use Rattle.fabric_sim.specs.declared.flight.Whereabouts.TheVariants.{Seat, Arrived}
+use Rattle.fabric_sim.specs.declared.flight.Whereabouts.TheVariants.{Seat, Arrived, Made}
 use Rattle.fabric_sim.specs.declared.flight.Flight.{Flight}
 use Rattle.fabric_sim.specs.declared.fabric_fault.FabricFault.TheVariants.{NoSuchPacket, NoSuchPort, SerialsSpent}
 use Rattle.fabric_sim.specs.declared.delivered.Delivered.TheVariants.{Answered}
 use Rattle.fabric_sim.specs.declared.delivered.Reason.TheVariants.{Down, Unreadable, Course as OffCourse}
 use Rattle.fabric_sim.specs.PacketOutcome.{Outcome, Moves, Asks, HandsUp, Represses, Drops}
-use Rattle.fabric_sim.specs.Simulation.{Simulation, IsSimulation, IsWaiting, CanWait, across, is_seat_at, fabric_of}
+use Rattle.fabric_sim.specs.Simulation.{Simulation, IsSimulation, IsWaiting, CanWait, across, is_cable_port, is_seat_at, fabric_of}
 use Rattle.fabric_sim.specs.Simulation.{port_of, is_at_seat, is_by_wire}
 use Rattle.fabric_sim.specs.Flights.{is_numbered, flight_with}
 use Rattle.fabric_sim.specs.Called.{refused}
@@ -29,7 +29,7 @@ use Rattle.fabric_sim.specs.Notice.{trap_repress}
 use Rattle.fabric_sim.specs.Delivery.{with_flight, without, asked, after_enqueue, after_outcome, delivered_flight, after_deliver}
 use Rattle.fabric_sim.specs.PacketOutcome.{CanFare}
 use Rattle.fabric_sim.specs.PacketOutcome.{carrying, leaving, is_for_manager, here_at, at_agent, by_verdict, directed_outcome, by_course, lid_routed_outcome, outcome_of}
-use Rattle.fabric_sim.specs.Changes.{addressed, after_inject, copied, after_repeat, after_lose}
+use Rattle.fabric_sim.specs.Changes.{addressed, after_emit, after_inject, copied, after_repeat, after_lose}
 use Rattle.fabric_sim.proofs.Invariants.{with_flight_is, without_is, moved_to_is, asked_is, with_traps_is}
 
 -- where a packet goes it can wait -------------------------------------------------------------
@@ -128,6 +128,14 @@ module _ (s : Simulation) (is : IsSimulation s) where
       by_seat : (b : Bool) → is_seat_at s p ≡ b → IsSimulation (cond (not b) (refused s NoSuchPort) (after_enqueue s (Seat p) (addressed s p packet))).fabric
       by_seat false e = is
       by_seat true e = launched_is (Seat p) (addressed s p packet) (record { port = is.seats p e; seat = λ h. e })
+
+  pub emitted_is : (p : NodePort) (packet : Packet) → IsSimulation (after_emit s p packet).fabric
+  unfolding after_emit
+  emitted_is p packet = by_port (is_cable_port s p) refl
+    where
+      by_port : (b : Bool) → is_cable_port s p ≡ b → IsSimulation (cond (not b) (refused s NoSuchPort) (after_enqueue s (Made p) packet)).fabric
+      by_port false e = is
+      by_port true e = launched_is (Made p) packet (record { port = e; seat = λ h. absurd (cc) })
 
   pub repeated_is : (serial : ℕ) → IsSimulation (after_repeat s serial).fabric
   unfolding after_repeat

@@ -13,7 +13,7 @@ use Rattle.fabric_sim.specs.declared.packet.Packet.{Packet}
 use Rattle.fabric_sim.specs.declared.flight.Whereabouts.{Whereabouts}
 use Rattle.fabric_sim.specs.declared.flight.Flight.{Flight}
 use Rattle.fabric_sim.specs.PacketOutcome.{Outcome, Moves, Asks, HandsUp, Represses, Drops}
-use Rattle.fabric_sim.specs.declared.flight.Whereabouts.TheVariants.{Seat as AtSeat}
+use Rattle.fabric_sim.specs.declared.flight.Whereabouts.TheVariants.{Made, Seat as AtSeat}
 use Rattle.fabric_sim.specs.declared.fabric_fault.FabricFault.TheVariants.{NoSuchPacket, NoSuchPort, PortTaken, SerialsSpent}
 use Rattle.fabric_sim.specs.declared.delivered.Delivered.TheVariants.{Answered}
 use Rattle.fabric_sim.specs.Simulation.{Simulation, is_cable_port, is_seat_at, fabric_of, port_of, answer_whereabouts}
@@ -21,7 +21,7 @@ use Rattle.fabric_sim.specs.Flights.{flight_with, without_flight}
 use Rattle.fabric_sim.specs.Called.{refused}
 use Rattle.fabric_sim.specs.Delivery.{with_changed, with_flight, without, asked, answer_at, after_enqueue, after_outcome, delivered_flight, after_deliver}
 use Rattle.fabric_sim.specs.PacketOutcome.{outcome_of}
-use Rattle.fabric_sim.specs.Changes.{addressed, after_inject, copied, after_repeat, after_lose, after_seat}
+use Rattle.fabric_sim.specs.Changes.{addressed, after_emit, after_inject, copied, after_repeat, after_lose, after_seat}
 use Rattle.fabric_sim.specs.Calls.{Call, Inject, Deliver, Lose, Repeat, Seat, after_call, after_calls, is_delivery_of}
 use Rattle.fabric_sim.specs.ThereAndBack.{KeepsPacket}
 use Rattle.fabric_sim.proofs.TripFlights.{AreGiven, found_before, found_without, found_beside_moved, found_given, given_one_more, given_without, given_moved}
@@ -160,6 +160,14 @@ module _ (keep : KeepAgents) {start : Simulation} where
       by_flight None = along
       by_flight (Some flight) = along_launched s flight.whereabouts flight.packet along
   along_call s (Seat at) along = along_seated s at along
+
+  pub along_emitted : (s : Simulation) (p : NodePort) (packet : Packet) → IsAlong start s → IsAlong start (after_emit s p packet).fabric
+  unfolding after_emit
+  along_emitted s p packet along = by_port (not (is_cable_port s p))
+    where
+      by_port : (b : Bool) → IsAlong start (cond b (refused s NoSuchPort) (after_enqueue s (Made p) packet)).fabric
+      by_port true = along
+      by_port false = along_launched s (Made p) packet along
 
   pub along_calls : (calls : List Call) (s : Simulation) → IsAlong start s → IsAlong start (after_calls calls s)
   along_calls [] s along = along

@@ -6,7 +6,7 @@ use Rattle.fabric_model.specs.Fabric.{is_switch_at}
 use Rattle.smp_bytes.specs.Packet.{is_lid_routed}
 use Rattle.node_agents.specs.Agent.{Agent, after_set_wired, after_set_seat}
 use Rattle.fabric_sim.specs.declared.packet.Packet.{Packet}
-use Rattle.fabric_sim.specs.declared.flight.Whereabouts.TheVariants.{Seat}
+use Rattle.fabric_sim.specs.declared.flight.Whereabouts.TheVariants.{Made, Seat}
 use Rattle.fabric_sim.specs.declared.flight.Flight.{Flight}
 use Rattle.fabric_sim.specs.declared.fabric_fault.FabricFault.TheVariants.{NoSuchPacket, NoSuchPort, PortTaken}
 use Rattle.fabric_sim.specs.Simulation.{Simulation, is_cable_port, is_seat_at, across, fabric_of}
@@ -25,6 +25,11 @@ addressed s p packet = if is_lid_routed packet.bytes then record packet { slid =
 unfoldable pub after_inject : Simulation → NodePort → Packet → Called ℕ
 after_inject s p packet =
     if not (is_seat_at s p) then refused s NoSuchPort else after_enqueue s (Seat p) (addressed s p packet)
+
+-- the fabric after a node without a manager has sent a packet from its port `p`, and the packet's serial number;
+-- refused if `p` is not a cable port (`is_cable_port`), or if no serial number is left
+unfoldable pub after_emit : Simulation → NodePort → Packet → Called ℕ
+after_emit s p packet = if not (is_cable_port s p) then refused s NoSuchPort else after_enqueue s (Made p) packet
 
 -- the fabric after a copy of the given packet was added, and the copy's serial number; the copy waits where the
 -- packet waits. Refused if the packet is None, or if no serial number is left

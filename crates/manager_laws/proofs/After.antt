@@ -21,7 +21,7 @@ use Rattle.fabric_sim.specs.declared.packet.Packet.{Packet}
 use Rattle.fabric_sim.specs.Simulation.{Simulation, agent_at}
 use Rattle.fabric_sim.specs.ThereAndBack.{directed_packet}
 use Rattle.fabric_sim.proofs.Traced.{IsRequestFor, IsAnswerFor, IsForManager}
-use Rattle.fabric_sim.proofs.TracedCalls.{agents_after, repeated_agents, lost_agents, injected_agents}
+use Rattle.fabric_sim.proofs.TracedCalls.{agents_after, repeated_agents, lost_agents, emitted_agents, injected_agents}
 use Rattle.fabric_sim.proofs.TripShapes.{IsAlong}
 use Rattle.lft_blocks.specs.Plan.{PlanValue}
 use Rattle.plan_steps.specs.declared.step.Step.{Step}
@@ -33,8 +33,8 @@ use Rattle.sm_manager.specs.Packets.{Called, answers, unless_spent, after_packet
 use Rattle.sm_manager.specs.PlanFaults.{writing_fault}
 use Rattle.sm_manager.specs.ManagerRequests.{counts, is_for_step, is_step, no_step_waits, none_counts, without_number}
 use Rattle.sm_manager.specs.Writing.{is_spent, is_written, is_written_by, next_phase, next_pending, noted, without_empty_phases, phase_sent, after_step, went_on_with}
-use Rattle.manager_laws.specs.Scene.{Handed, Scene, Sending, ByLid, ByPath, Answer, Event, Deliver, Lose, Repeat, Send as SendFrom, after_event}
-use Rattle.manager_laws.specs.Scene.{answer_to, answered_from, asks_manager, sent, sent_from}
+use Rattle.manager_laws.specs.Scene.{Handed, Scene, Sending, ByLid, ByPath, Answer, Event, Deliver, Lose, Repeat, Send as SendFrom, Emit, after_event}
+use Rattle.manager_laws.specs.Scene.{answer_to, answered_from, asks_manager, emitted, emitted_from, sent, sent_from}
 use Rattle.manager_laws.proofs.Answers.{was_there}
 use Rattle.manager_laws.proofs.TracedScenes.{traced_there}
 use Rattle.manager_laws.specs.Managing.{Managing, ManagerEvent, Around, Begin, Write, Take, Send, Hear, TimeOut, Raise, Merge, Poll, HandOver}
@@ -444,6 +444,18 @@ module _ (start : Simulation) (seat : NodePort) (plan : PlanValue) (c : ℕ) (ph
           (directed_packet (directed method attribute modifier tid path payload)) g
       sent_agents w (Answer which given payload) at g = answered_agents w at given payload (slice_get w.scene.handed which) g
 
+      emitted_from_agents : (w : Managing) (at : NodePort) (packet : Packet) → Writes w
+          → (emitted_from w.scene at packet).fabric.agents ≡ w.scene.fabric.agents
+      emitted_from_agents w at packet g =
+          emitted_agents (Sends start seat plan c g.all) (Tells start seat plan c g.all w.scene.fabric) ground.cables ground.counts
+          g.fair.scene.fabric.along g.fair.scene.fabric.is g.fair.traced.flights at packet
+
+      emitting_agents : (w : Managing) (s : Sending) (at : NodePort) → Writes w → (emitted w.scene at s).fabric.agents ≡ w.scene.fabric.agents
+      emitting_agents w (ByLid packet) at g = emitted_from_agents w at packet g
+      emitting_agents w (ByPath method attribute modifier tid path payload) at g = emitted_from_agents w at
+          (directed_packet (directed method attribute modifier tid path payload)) g
+      emitting_agents w (Answer which given payload) at g = refl
+
       around_stays : (w : Managing) (event : Event) (g : Writes w) → KeepsPlan plan own w.scene.fabric event
           → Stays start seat plan c g.all w.scene.fabric (after_event w.scene event).fabric
       around_stays w (Deliver n) g keeps =
@@ -463,6 +475,8 @@ module _ (start : Simulation) (seat : NodePort) (plan : PlanValue) (c : ℕ) (ph
           g.fair.scene.fabric.is g.fair.traced.flights n)
       around_stays w (SendFrom from_seat sending_it) g keeps =
           same_agents start seat plan c g.all w.scene.fabric _ (sent_agents w sending_it from_seat g)
+      around_stays w (Emit at sending_it) g keeps =
+          same_agents start seat plan c g.all w.scene.fabric _ (emitting_agents w sending_it at g)
 
       heard_writes : (w : Managing) (which : ℕ) (m : Option Handed) → slice_get w.scene.handed which ≡ m → Writes w → Writes (hearing w m)
       heard_writes w which None e g = g

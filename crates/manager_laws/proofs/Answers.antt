@@ -13,19 +13,19 @@ use Rattle.smp_bytes.specs.ReadBack.{FitsRequest}
 use Rattle.smp_bytes.proofs.FieldLaws.{number_in-alike}
 use Rattle.node_agents.specs.Agent.{node_of}
 use Rattle.fabric_sim.specs.declared.packet.Packet.{Packet}
-use Rattle.fabric_sim.specs.Simulation.{Simulation, AreCables, port_count, is_seat_at, fabric_of}
+use Rattle.fabric_sim.specs.Simulation.{Simulation, AreCables, port_count, is_cable_port, is_seat_at, fabric_of}
 use Rattle.fabric_sim.specs.Delivery.{after_deliver}
 use Rattle.fabric_sim.specs.ThereAndBack.{BeginsWith}
 use Rattle.attr_codec.specs.NodeInfo.{node_info_in}
 use Rattle.attr_codec.specs.PortInfo.{port_state}
 use Rattle.attr_codec.specs.SwitchInfo.{linear_fdb_cap}
 use Rattle.fabric_sim.specs.ToldOfEnd.{port_asked, SaysNode, SaysPort, SaysSwitch, SaysOf, TellsOfEnd}
-use Rattle.fabric_sim.proofs.Carries.{Carries, deliveries_carry, deliveries_hand_up, injections_carry, copies_carry, losses_carry}
+use Rattle.fabric_sim.proofs.Carries.{Carries, deliveries_carry, deliveries_hand_up, emissions_carry, injections_carry, copies_carry, losses_carry}
 use Rattle.fabric_sim.proofs.Courses.{AnySends, SaysSo, AreOnCourse, IsAnswerFor, IsOnCourse, IsForManager}
 use Rattle.fabric_sim.proofs.TripEnds.{few_ports, along_itself, agent_by_port}
 use Rattle.fabric_sim.proofs.TripShapes.{port_count_stays}
 use Rattle.fabric_sim.proofs.TripsOut.{IsPortOf}
-use Rattle.manager_laws.specs.Scene.{Handed, Scene, ByLid, ByPath, Answer, Event, Deliver, Lose, Repeat, Send, CanHappen, sent_from, asks_manager, answer_to, answered_from, after_event, after_events, IsQuiet}
+use Rattle.manager_laws.specs.Scene.{Handed, Scene, ByLid, ByPath, Answer, Event, Deliver, Lose, Repeat, Send, Emit, CanHappen, emitted_from, sent_from, asks_manager, answer_to, answered_from, after_event, after_events, IsQuiet}
 use Rattle.manager_laws.specs.AnswersTell.{IsBack, AnswersTell}
 use Rattle.manager_laws.proofs.Returned as returned
 use Rattle.manager_laws.proofs.TracedScenes.{WereTraced, manager_traced, other_traced, sent_traced, traced_by, traced_more, traced_there}
@@ -113,15 +113,23 @@ module _ {start : Simulation} (cables : AreCables start) (counts : (id : ℕ) �
 
   -- events ----------------------------------------------------------------------------------------------
 
+  -- a port for a cable is one of the fabric at the start
+  pub cabled_in_port : (s : Simulation) → Carries start s → (p : NodePort) → is_cable_port s p ≡ true → IsPortOf start p
+  cabled_in_port s c p there =
+      let parts = and_parts (nat_le 1 p.port) (nat_le p.port (port_count s p.node)) there in
+      let to_count : p.port ≤ port_count s p.node = leb-true _ _ parts.1 in
+      record { some = leb-true _ _ parts.0; most = omega (arith, to_count, port_count_stays c.along p.node) }
+
   pub seat_in_port : (s : Simulation) → Carries start s → (seat : NodePort) → is_seat_at s seat ≡ true → IsPortOf start seat
-  seat_in_port s c seat there =
-      let parts = and_parts (nat_le 1 seat.port) (nat_le seat.port (port_count s seat.node)) (c.is.seats seat there) in
-      let to_count : seat.port ≤ port_count s seat.node = leb-true _ _ parts.1 in
-      record { some = leb-true _ _ parts.0; most = omega (arith, to_count, port_count_stays c.along seat.node) }
+  seat_in_port s c seat there = cabled_in_port s c seat (c.is.seats seat there)
 
   pub sends : (s : Scene) (seat : NodePort) (packet : Packet) → Continues start s → (is_seat_at s.fabric seat ≡ true → IsOnCourse start seat packet.bytes)
       → Continues start (sent_from s seat packet)
   sends s seat packet c on = record { fabric = injections_carry cables counts s.fabric c.fabric seat packet on; handed = c.handed }
+
+  emits : (s : Scene) (at : NodePort) (packet : Packet) → Continues start s → (is_cable_port s.fabric at ≡ true → IsOnCourse start at packet.bytes)
+      → Continues start (emitted_from s at packet)
+  emits s at packet c on = record { fabric = emissions_carry cables counts s.fabric c.fabric at packet on; handed = c.handed }
 
   answers : (s : Scene) (seat : NodePort) (given : ℕ) (payload : List ℕ) (m : Option Handed) → Continues start s → given < 2 ^ 15 → length payload ≡ 64
       → ((h : Handed) → m ≡ Some h → IsForManager start h.at h.packet.bytes) → Continues start (answered_from s seat given payload m)
@@ -146,6 +154,10 @@ module _ {start : Simulation} (cables : AreCables start) (counts : (id : ℕ) �
       sends s seat _ c (λ there. sent_on start seat method attribute modifier tid path payload fits low short own (seat_in_port s.fabric c.fabric seat there))
   continued s (Send seat (Answer which given payload)) c (small, whole) =
       answers s seat given payload (slice_get s.handed which) c small whole (λ h e. was_there start s.handed which h c.handed e)
+  continued s (Emit at (ByLid packet)) c (can, sets) = emits s at packet c (λ _. other_traced AnySends (SaysSo start) start at packet.bytes can.0 can.1)
+  continued s (Emit at (ByPath method attribute modifier tid path payload)) c ((fits, low, short, own), sets) =
+      emits s at _ c (λ there. sent_on start at method attribute modifier tid path payload fits low short own (cabled_in_port s.fabric c.fabric at there))
+  continued s (Emit at (Answer which given payload)) c can = absurd can
 
   all_continue : (events : List Event) (s : Scene) → Continues start s → All CanHappen events → Continues start (after_events events s)
   all_continue [] s c all = c

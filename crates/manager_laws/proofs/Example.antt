@@ -103,10 +103,12 @@ events = asked ++ manager_answers ∷ answered
 -- whatever happens can be, but for what is sent
 abbrev sends_nothing : SweepEvent → Bool
 sends_nothing (Around (scene.Send seat sending)) = false
+sends_nothing (Around (scene.Emit at sending)) = false
 sends_nothing event = true
 
 silent_can : (event : SweepEvent) → sends_nothing event ≡ true → CanBe event
 silent_can (Around (scene.Send seat sending)) e = absurd (cc)
+silent_can (Around (scene.Emit at sending)) e = absurd (cc)
 silent_can event e = tt
 
 can_be : All CanBe events

@@ -21,7 +21,7 @@ use Rattle.sm_manager.specs.declared.outgoing.Outgoing.{Outgoing}
 use Rattle.sm_manager.specs.declared.pending.Pending.{Pending}
 use Rattle.sm_manager.specs.Manager.{Manager, after_take_outgoing, taken_of}
 use Rattle.sm_manager.specs.ManagerRequests.{is_step}
-use Rattle.manager_laws.specs.Scene.{Handed, Scene, Sending, ByLid, ByPath, Answer, Event, Deliver, Lose, Repeat, Send, CanSend, CanHappen}
+use Rattle.manager_laws.specs.Scene.{Handed, Scene, Sending, ByLid, ByPath, Answer, Event, Deliver, Lose, Repeat, Send, Emit, CanSend, CanHappen}
 use Rattle.manager_laws.specs.Scene.{after_event, answered_from, answer_to, asks_manager, handed_by, sent, sent_from}
 use Rattle.manager_laws.proofs.Answers.{Continues, continued}
 use Rattle.manager_laws.proofs.Swept as swept
@@ -62,6 +62,9 @@ stays_handed w (Deliver serial) = still_there w.handed (handed_by (after_deliver
 stays_handed w (Lose serial) = same_handed w.handed w.handed refl
 stays_handed w (Repeat serial) = same_handed w.handed w.handed refl
 stays_handed w (Send from sending) = same_handed w.handed _ (sent_handed w from sending)
+stays_handed w (Emit at (ByLid packet)) = same_handed w.handed w.handed refl
+stays_handed w (Emit at (ByPath method attribute modifier tid path payload)) = same_handed w.handed w.handed refl
+stays_handed w (Emit at (Answer which given payload)) = same_handed w.handed w.handed refl
 
 module _ (start : Simulation) (seat : NodePort) (plan : PlanValue) where
   -- packets of its own ---------------------------------------------------------------------------------

@@ -20,18 +20,18 @@ use Rattle.node_agents.specs.Answers.{after_answer}
 use Rattle.node_agents.proofs.Outcomes.{answers_hold}
 use Rattle.fabric_sim.specs.declared.packet.Packet.{Packet}
 use Rattle.fabric_sim.specs.declared.flight.Flight.{Flight}
-use Rattle.fabric_sim.specs.Simulation.{Simulation, AreCables, agent_at, port_count, is_seat_at, fabric_of, port_of}
+use Rattle.fabric_sim.specs.Simulation.{Simulation, AreCables, agent_at, port_count, is_cable_port, is_seat_at, fabric_of, port_of}
 use Rattle.fabric_sim.specs.Delivery.{after_deliver, answer_at}
-use Rattle.fabric_sim.specs.Changes.{after_inject, after_repeat, after_lose}
+use Rattle.fabric_sim.specs.Changes.{after_emit, after_inject, after_repeat, after_lose}
 use Rattle.fabric_sim.proofs.Traced.{IsRequestFor, IsOnCourse, IsForManager}
-use Rattle.fabric_sim.proofs.TracedCalls.{AreTraced, IsAskedBy, deliveries_trace, deliveries_hand_up_traced, injections_trace}
-use Rattle.fabric_sim.proofs.TracedCalls.{injected_agents, copies_trace, losses_trace, weaker_manager, weaker_all}
+use Rattle.fabric_sim.proofs.TracedCalls.{AreTraced, IsAskedBy, deliveries_trace, deliveries_hand_up_traced, emissions_trace, injections_trace}
+use Rattle.fabric_sim.proofs.TracedCalls.{emitted_agents, injected_agents, copies_trace, losses_trace, weaker_manager, weaker_all}
 use Rattle.fabric_sim.proofs.TripShapes.{agent_there}
 use Rattle.lft_blocks.specs.Plan.{PlanValue}
 use Rattle.plan_steps.specs.Step.{set_packet}
-use Rattle.manager_laws.specs.Scene.{Handed, Scene, Sending, ByLid, ByPath, Answer, Event, Deliver, Lose, Repeat, Send, CanSend, CanHappen}
-use Rattle.manager_laws.specs.Scene.{sent, sent_from, asks_manager, answer_to, answered_from, after_event}
-use Rattle.manager_laws.proofs.Answers.{Continues, bytes_answered, seat_in_port}
+use Rattle.manager_laws.specs.Scene.{Handed, Scene, Sending, ByLid, ByPath, Answer, Event, Deliver, Lose, Repeat, Send, Emit, CanSend, CanHappen}
+use Rattle.manager_laws.specs.Scene.{emitted_from, sent, sent_from, asks_manager, answer_to, answered_from, after_event}
+use Rattle.manager_laws.proofs.Answers.{Continues, bytes_answered, cabled_in_port, seat_in_port}
 use Rattle.manager_laws.proofs.TracedScenes as traced
 use Rattle.manager_laws.specs.Managing.{IsElsewhere}
 use Rattle.manager_laws.proofs.Steps.{StepSent}
@@ -225,6 +225,17 @@ module _ (start : Simulation) (seat : NodePort) (plan : PlanValue) (c : ℕ) (al
           handed = handed_later w.fabric after stays w.handed t.handed;
         }
 
+    emits_traced : (w : Scene) (at : NodePort) (packet : Packet) → Continues start w → IsTraced w
+        → (is_cable_port w.fabric at ≡ true → IsOnCourse Sends (Tells w.fabric) start at packet.bytes) → IsTraced (emitted_from w at packet)
+    emits_traced w at packet c t on =
+        let after = (after_emit w.fabric at packet).fabric in
+        let stays = same_agents w.fabric after (emitted_agents Sends (Tells w.fabric) cables counts c.fabric.along c.fabric.is t.flights at packet) in
+        record {
+          flights = flights_later w.fabric after stays after.flights
+              (emissions_trace Sends (Tells w.fabric) cables counts c.fabric.along c.fabric.is t.flights at packet on);
+          handed = handed_later w.fabric after stays w.handed t.handed;
+        }
+
     answers_traced : (w : Scene) (from : NodePort) (given : ℕ) (payload : List ℕ) (m : Option Handed) → Continues start w → IsTraced w → given < 2 ^ 15
         → length payload ≡ 64
         → ((h : Handed) → m ≡ Some h → IsForManager Sends (Tells w.fabric) start h.at h.packet.bytes) → IsTraced (answered_from w from given payload m)
@@ -276,3 +287,10 @@ module _ (start : Simulation) (seat : NodePort) (plan : PlanValue) (c : ℕ) (al
           handed = handed_later w.fabric (after_repeat w.fabric n).fabric stays w.handed t.handed;
         }
     around_traced w (Send from sending) c t can elsewhere stays = sending_traced w from sending c t can (λ same. absurd (elsewhere same))
+    around_traced w (Emit at (ByLid packet)) c t (can, sets) elsewhere stays = emits_traced w at packet c t
+        (λ _. traced.other_traced Sends (Tells w.fabric) start at packet.bytes can.0 can.1)
+    around_traced w (Emit at (ByPath method attribute modifier tid path payload)) c t ((fits, low, short, begins), sets) elsewhere stays =
+        emits_traced w at _ c t (λ there. traced.sent_traced Sends (Tells w.fabric) start at method attribute modifier tid path payload fits low short
+        begins
+        (cabled_in_port cables counts w.fabric c.fabric at there) (λ same. absurd (elsewhere same)))
+    around_traced w (Emit at (Answer which given payload)) c t can elsewhere stays = absurd can

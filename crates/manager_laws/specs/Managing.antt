@@ -47,13 +47,14 @@ pub data ManagerEvent : Type 0 where
 
 -- which events there are --------------------------------------------------------------------------
 
--- in the event, no other manager sends a packet from the port `seat`
+-- in the event, nobody else sends a packet from the port `seat`
 abbrev pub IsElsewhere : NodePort → Event → Type 0
 IsElsewhere seat (around.Send other sending) = other ≢ seat
+IsElsewhere seat (around.Emit other sending) = other ≢ seat
 IsElsewhere seat event = Unit {0}
 
--- the event is possible: an event on the fabric can happen (`CanHappen`), and no other manager sends a packet from
--- `seat` in this event; a floor is a generation; merged sightings are in range
+-- the event is possible: an event on the fabric can happen (`CanHappen`), and nobody else sends a packet from `seat` in
+-- this event; a floor is a generation; merged sightings are in range
 abbrev pub CanBe : NodePort → ManagerEvent → Type 0
 CanBe seat (Around event) = CanHappen event × IsElsewhere seat event
 CanBe seat (Raise floor) = IsTrue (is_generation floor)

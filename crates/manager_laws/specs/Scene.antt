@@ -1,11 +1,11 @@
 -- A fabric on which subnet managers work, the packets that were handed up to them, and what may happen while no cable
 -- changes.
-use Rattle.std.specs.Prelude.{◌≡◌, ℕ, ◌<◌, ◌≤◌, ◌^◌, Bool, false, ◌&&◌, not, List, [], ◌∷◌, ◌++◌, length, slice_get, ◌==◌, if◌then◌else◌, Option, Some, None, Result, Ok, Err}
+use Rattle.std.specs.Prelude.{◌≡◌, ◌≢◌, ℕ, ◌<◌, ◌≤◌, ◌^◌, Bool, false, ◌&&◌, not, List, [], ◌∷◌, ◌++◌, length, slice_get, ◌==◌, if◌then◌else◌, Option, Some, None, Result, Ok, Err}
 use Rattle.fabric_model.specs.declared.cable.NodePort.{NodePort}
 use Rattle.fabric_model.specs.Cables.{is_same_port}
-use Rattle.smp_bytes.specs.Header.{sm_info}
+use Rattle.smp_bytes.specs.Header.{set, sm_info}
 use Rattle.smp_bytes.specs.Field.{number_in}
-use Rattle.smp_bytes.specs.Packet.{attribute_id, is_directed, is_response, max_hops}
+use Rattle.smp_bytes.specs.Packet.{attribute_id, is_directed, is_response, max_hops, method as method_field}
 use Rattle.smp_bytes.specs.Requests.{directed, answer_packet}
 use Rattle.smp_bytes.specs.ReadBack.{FitsRequest}
 use Rattle.fabric_sim.specs.declared.packet.Packet.{Packet}
@@ -14,7 +14,7 @@ use Rattle.fabric_sim.specs.declared.delivered.Delivered.TheVariants.{Moved, Ans
 use Rattle.fabric_sim.specs.declared.fabric_fault.FabricFault.{FabricFault}
 use Rattle.fabric_sim.specs.Simulation.{Simulation, IsSimulation}
 use Rattle.fabric_sim.specs.Delivery.{after_deliver}
-use Rattle.fabric_sim.specs.Changes.{after_inject, after_repeat, after_lose}
+use Rattle.fabric_sim.specs.Changes.{after_emit, after_inject, after_repeat, after_lose}
 use Rattle.fabric_sim.specs.ThereAndBack.{BeginsWith, directed_packet}
 
 -- a packet, and the port at which it was handed up
@@ -27,7 +27,7 @@ pub record Scene : Type 0 where
   pub fabric : Simulation
   pub handed : List Handed
 
--- a packet that a manager may send from its port: any packet that is forwarded by LIDs (`ByLid`), a request along a
+-- a packet that may be sent from a port: any packet that is forwarded by LIDs (`ByLid`), a request along a
 -- path (`ByPath`), or the answer to a request for SMInfo that was handed up there (`Answer`). `which` is the request's
 -- index among all packets handed up
 pub data Sending : Type 0 where
@@ -35,12 +35,14 @@ pub data Sending : Type 0 where
   ByPath : (method attribute modifier tid : ℕ) (path payload : List ℕ) → Sending
   Answer : (which status : ℕ) (payload : List ℕ) → Sending
 
--- an event on the fabric: a packet takes a step, is lost or is copied, or a manager sends from its seat
+-- an event on the fabric: a packet takes a step, is lost or is copied; a manager sends from its seat; or any node sends
+-- from a port of its own, a host for example, or a switch that sends a trap (`Emit`)
 pub data Event : Type 0 where
   Deliver : (serial : ℕ) → Event
   Lose : (serial : ℕ) → Event
   Repeat : (serial : ℕ) → Event
   Send : (seat : NodePort) (sending : Sending) → Event
+  Emit : (at : NodePort) (sending : Sending) → Event
 
 -- which events there are --------------------------------------------------------------------------
 
@@ -54,9 +56,18 @@ CanSend seat (ByPath method attribute modifier tid path payload) =
     × BeginsWith seat.port path
 CanSend seat (Answer which status payload) = (status < 2 ^ 15) × (length payload ≡ 64)
 
--- the event can happen; if a manager sends in it, the manager may send this (`CanSend`)
+-- whoever is no manager may send this from the port `at`: what a manager may send there (`CanSend`), other than a Set or
+-- an answer to a request for SMInfo
+abbrev pub CanEmit : NodePort → Sending → Type 0
+CanEmit at (ByLid packet) = CanSend at (ByLid packet) × (number_in method_field packet.bytes ≢ set)
+CanEmit at (ByPath method attribute modifier tid path payload) =
+    CanSend at (ByPath method attribute modifier tid path payload) × (method ≢ set)
+CanEmit at (Answer which status payload) = ⊥
+
+-- the event can happen; if a packet is sent in it, the sender may send this (`CanSend`, `CanEmit`)
 abbrev pub CanHappen : Event → Type 0
 CanHappen (Send seat sending) = CanSend seat sending
+CanHappen (Emit at sending) = CanEmit at sending
 CanHappen (Deliver serial) = Unit {0}
 CanHappen (Lose serial) = Unit {0}
 CanHappen (Repeat serial) = Unit {0}
@@ -107,6 +118,18 @@ sent s seat (ByPath method attribute modifier tid path payload) =
     sent_from s seat (directed_packet (directed method attribute modifier tid path payload))
 sent s seat (Answer which status payload) = answered_from s seat status payload (slice_get s.handed which)
 
+-- the scene once a node without a manager has sent the packet from its port `at`; unchanged if there is no such port for
+-- a cable, or if no serial number is left
+abbrev pub emitted_from : Scene → NodePort → Packet → Scene
+emitted_from s at packet = with_fabric s (after_emit s.fabric at packet).fabric
+
+-- the scene once a node without a manager has sent from its port `at`; only managers answer requests for SMInfo
+abbrev pub emitted : Scene → NodePort → Sending → Scene
+emitted s at (ByLid packet) = emitted_from s at packet
+emitted s at (ByPath method attribute modifier tid path payload) =
+    emitted_from s at (directed_packet (directed method attribute modifier tid path payload))
+emitted s at (Answer which status payload) = s
+
 -- the scene after an event; a call that the fabric refuses leaves the scene unchanged
 abbrev pub after_event : Scene → Event → Scene
 after_event s (Deliver serial) =
@@ -115,6 +138,7 @@ after_event s (Deliver serial) =
 after_event s (Lose serial) = with_fabric s (after_lose s.fabric serial).fabric
 after_event s (Repeat serial) = with_fabric s (after_repeat s.fabric serial).fabric
 after_event s (Send seat sending) = sent s seat sending
+after_event s (Emit at sending) = emitted s at sending
 
 -- the scene after `events`, in turn
 abbrev pub after_events : List Event → Scene → Scene

@@ -24,7 +24,7 @@ use Rattle.node_agents.proofs.SameRequests.{AskSame}
 use Rattle.smp_bytes.proofs.OffsetLaws.{bytes_in-alike}
 use Rattle.fabric_sim.specs.declared.packet.Packet.{Packet}
 use Rattle.fabric_sim.specs.declared.flight.Whereabouts.{Whereabouts}
-use Rattle.fabric_sim.specs.declared.flight.Whereabouts.TheVariants.{Arrived, Seat}
+use Rattle.fabric_sim.specs.declared.flight.Whereabouts.TheVariants.{Arrived, Made, Seat}
 use Rattle.fabric_sim.specs.declared.flight.Flight.{Flight}
 use Rattle.fabric_sim.specs.declared.delivered.Delivered.{Delivered}
 use Rattle.fabric_sim.specs.declared.delivered.Delivered.TheVariants as delivered_is
@@ -33,7 +33,7 @@ use Rattle.fabric_sim.specs.declared.fabric_fault.FabricFault.{FabricFault}
 use Rattle.fabric_sim.specs.declared.fabric_fault.FabricFault.TheVariants.{NoSuchPacket, SerialsSpent}
 use Rattle.fabric_sim.specs.Called.{Called, refused}
 use Rattle.fabric_sim.specs.Notice.{trap_repress}
-use Rattle.fabric_sim.specs.Changes.{addressed, after_inject, after_lose, after_repeat, copied}
+use Rattle.fabric_sim.specs.Changes.{addressed, after_emit, after_inject, after_lose, after_repeat, copied}
 use Rattle.fabric_sim.specs.Delivery.{after_deliver, after_enqueue, after_outcome, answer_at, asked, delivered_flight}
 use Rattle.fabric_sim.specs.PacketOutcome.{by_course, by_verdict, carrying, here_at}
 use Rattle.fabric_sim.specs.Delivery.{with_changed}
@@ -371,6 +371,11 @@ module _ (Sends : NodePort → List ℕ → Type 0) (Tells : NodePort → NodePo
     where
       same_bytes : (addressed s p packet).bytes ≡ packet.bytes
       same_bytes = cond_both (field.is_lid_routed packet.bytes) _ _ (λ (x : Packet). x.bytes ≡ packet.bytes) (λ _. refl) (λ _. refl)
+
+  pub emitted_harmless : (p : NodePort) (packet : Packet) → IsHarmless packet.bytes → AreHarmless (after_emit s p packet).fabric.flights
+  unfolding after_emit
+  emitted_harmless p packet its =
+      cond_both (not (is_cable_port s p)) _ _ (λ (x : Called ℕ). AreHarmless x.fabric.flights) (λ _. harmless) (λ _. launched_harmless (Made p) packet its)
 
   pub copied_harmless : (n : ℕ) → AreHarmless (after_repeat s n).fabric.flights
   unfolding after_repeat

@@ -10,17 +10,17 @@ use Rattle.smp_bytes.specs.Requests.{answer_packet, directed}
 use Rattle.smp_bytes.proofs.Answered.{answer_reads_back}
 use Rattle.node_agents.specs.Agent.{Agent, base_lid_at}
 use Rattle.fabric_sim.specs.declared.packet.Packet.{Packet}
-use Rattle.fabric_sim.specs.Simulation.{AreCables, agent_at, fabric_of, is_seat_at, port_count}
+use Rattle.fabric_sim.specs.Simulation.{AreCables, agent_at, fabric_of, is_cable_port, is_seat_at, port_count}
 use Rattle.fabric_sim.specs.Delivery.{after_deliver}
 use Rattle.fabric_sim.specs.ThereAndBack.{directed_packet}
 use Rattle.fabric_sim.proofs.Traced.{IsForManager, IsOnCourse}
-use Rattle.fabric_sim.proofs.TracedCalls.{AreTraced, copies_trace, deliveries_hand_up_traced, deliveries_trace, injected_agents, injections_trace, lost_agents}
+use Rattle.fabric_sim.proofs.TracedCalls.{AreTraced, copies_trace, deliveries_hand_up_traced, deliveries_trace, emissions_trace, emitted_agents, injected_agents, injections_trace, lost_agents}
 use Rattle.fabric_sim.proofs.TracedCalls.{losses_trace, repeated_agents}
 use Rattle.fabric_sim.proofs.TripEnds.{request_over}
 use Rattle.lft_blocks.specs.Plan.{PlanValue}
-use Rattle.manager_laws.specs.Scene.{Handed, Scene, Sending, ByLid, ByPath, Answer, Event, Deliver, Lose, Repeat, Send, CanHappen, CanSend}
-use Rattle.manager_laws.specs.Scene.{after_event, answer_to, answered_from, asks_manager, sent, sent_from}
-use Rattle.manager_laws.proofs.Answers.{Continues, bytes_answered, continued, seat_in_port}
+use Rattle.manager_laws.specs.Scene.{Handed, Scene, Sending, ByLid, ByPath, Answer, Event, Deliver, Lose, Repeat, Send, Emit, CanEmit, CanHappen, CanSend}
+use Rattle.manager_laws.specs.Scene.{after_event, emitted, emitted_from, answer_to, answered_from, asks_manager, sent, sent_from}
+use Rattle.manager_laws.proofs.Answers.{Continues, bytes_answered, cabled_in_port, continued, seat_in_port}
 use Rattle.manager_laws.proofs.Followed.{SeenBySweeps, one_seen, seen_further}
 use Rattle.manager_laws.proofs.Scenes.{SetsInfoAlone}
 use Rattle.manager_laws.proofs.Sound.{CanBeSwept}
@@ -29,7 +29,7 @@ use Rattle.takeover_laws.specs.Claims.{HasLidsOf}
 use Rattle.takeover_laws.proofs.HeldOn.{AgentsKeep, AreListed, HasLids, HeldOn, KeepsHeld, held_later, lids_later, same_keep}
 use Rattle.masters_laws.proofs.Deliveries.{Sends, Tells, agents_keep, none_comes}
 use Rattle.masters_laws.proofs.KeptLids.{KeepsLids}
-use Rattle.masters_laws.proofs.Harmless.{AreHarmless, IsHarmless, copied_harmless, delivered_harmless, directed_harmless, injected_harmless, lost_harmless}
+use Rattle.masters_laws.proofs.Harmless.{AreHarmless, IsHarmless, copied_harmless, delivered_harmless, directed_harmless, emitted_harmless, injected_harmless, lost_harmless}
 
 module _ (from : Scene) (plan : PlanValue) (IsSeat : NodePort → Type 0) where
   -- each Set over a path that is sent from a seat carries the plan's values where it leads; others set nothing but SMInfo
@@ -41,6 +41,7 @@ module _ (from : Scene) (plan : PlanValue) (IsSeat : NodePort → Type 0) where
 
   abbrev pub SentSo : Event → Type 0
   SentSo (Send seat sending) = SendsSo seat sending
+  SentSo (Emit at sending) = SendsSo at sending
   SentSo event = Unit {0}
 
   -- what is so at each moment: what is joined to each seat holds the plan's LIDs, and each port has its own
@@ -136,6 +137,29 @@ module _ (from : Scene) (plan : PlanValue) (IsSeat : NodePort → Type 0) where
           answered_on seat given payload (slice_get w.handed which) small whole
           (λ h e. traced_there Requests Told from.fabric w.handed which h st.handed e)
 
+    -- what others send, who are no managers
+    module _ (w : Scene) (st : Stands w) where
+      emit_on : (at : NodePort) (packet : Packet)
+          → (is_cable_port w.fabric at ≡ true → IsOnCourse Requests Told from.fabric at packet.bytes) → IsHarmless packet.bytes
+          → StaysOn w (emitted_from w at packet)
+      emit_on at packet on its =
+          record {
+            flights = emissions_trace Requests Told cables counts st.continues.fabric.along st.continues.fabric.is st.flights at packet on;
+            handed = st.handed;
+            harmless = emitted_harmless Requests Told cables counts st.continues.fabric.along st.continues.fabric.is st.flights st.harmless at packet its;
+            agents = emitted_agents Requests Told cables counts st.continues.fabric.along st.continues.fabric.is st.flights at packet;
+          }
+
+      emitting_on : (at : NodePort) (sending : Sending) → CanEmit at sending → SendsSo at sending → StaysOn w (emitted w at sending)
+      emitting_on at (ByLid packet) ((count, other), sets) so =
+          emit_on at packet (λ _. other_traced Requests Told from.fabric at packet.bytes count other) (λ _. so)
+      emitting_on at (ByPath method attribute modifier tid path payload) ((fits, low, short, begins), sets) so =
+          emit_on at (directed_packet (directed method attribute modifier tid path payload))
+          (λ there. sent_traced Requests Told from.fabric at method attribute modifier tid path payload fits low short begins
+          (cabled_in_port cables counts w.fabric st.continues.fabric at there) so)
+          (directed_harmless (directed method attribute modifier tid path payload) (request_over fits low short).directed)
+      emitting_on at (Answer which given payload) can so = absurd can
+
     -- whatever happens ---------------------------------------------------------------------------------
 
     keep : (w : Scene) (n : ℕ) → Stands w → (id : ℕ) (a : Agent) → agent_at w.fabric id ≡ Some a
@@ -199,6 +223,8 @@ module _ (from : Scene) (plan : PlanValue) (IsSeat : NodePort → Type 0) where
     stands_on w (Repeat n) st can_happen so = stays_on w (Repeat n) st tt (repeated_on w n st)
     stands_on w (Send seat sending) st can_happen so =
         stays_on w (Send seat sending) st can_happen (sending_on w st seat sending can_happen so)
+    stands_on w (Emit at sending) st can_happen so =
+        stays_on w (Emit at sending) st can_happen (emitting_on w st at sending can_happen so)
 
     -- what is joined to a seat goes on holding the plan
     pub held_on : (w : Scene) (event : Event) → Stands w → CanHappen event → SentSo event → (seat : NodePort) → IsSeat seat
@@ -218,3 +244,4 @@ module _ (from : Scene) (plan : PlanValue) (IsSeat : NodePort → Type 0) where
         by_event (Lose n) can_happen so = still_kept (Lose n) (lost_on w n st).agents
         by_event (Repeat n) can_happen so = still_kept (Repeat n) (repeated_on w n st).agents
         by_event (Send from_seat sending) can_happen so = still_kept (Send from_seat sending) (sending_on w st from_seat sending can_happen so).agents
+        by_event (Emit at sending) can_happen so = still_kept (Emit at sending) (emitting_on w st at sending can_happen so).agents

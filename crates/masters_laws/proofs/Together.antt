@@ -10,7 +10,7 @@ use Rattle.fabric_sim.specs.Simulation.{AreCables, fabric_of, port_count}
 use Rattle.fabric_sim.proofs.TripEnds.{along_itself, few_ports}
 use Rattle.fabric_sim.proofs.TracedCalls.{AreTraced}
 use Rattle.lft_blocks.specs.Planning.{Planning}
-use Rattle.manager_laws.specs.Scene.{Scene, ByLid, ByPath, Event, Send as SendFrom, CanHappen, after_event}
+use Rattle.manager_laws.specs.Scene.{Scene, ByLid, ByPath, Answer, Event, Send as SendFrom, Emit, CanHappen, after_event}
 use Rattle.manager_laws.specs.Managing as one
 use Rattle.manager_laws.specs.Managing.{Managing, ManagerEvent, Starts, after_manager_event}
 use Rattle.manager_laws.specs.Written.{plan_at}
@@ -164,6 +164,11 @@ module _ (held : Facts) (planning : Planning) (t0 : Masters) (h : ShareLids held
   others_so (SendFrom seat (ByPath method attribute modifier tid path payload)) (fits, low, short, begins) nothing = λ sets.
       let holds = (directed_reads_back method attribute modifier tid path payload fits short).0 in
       inl (holds.attribute_id ∙ nothing (sym holds.method ∙ sets))
+  others_so (Emit at (ByLid packet)) (can, sets) nothing = λ is. absurd (sets is)
+  others_so (Emit at (ByPath method attribute modifier tid path payload)) ((fits, low, short, begins), sets) nothing = λ is.
+      let holds = (directed_reads_back method attribute modifier tid path payload fits short).0 in
+      absurd (sets (sym holds.method ∙ is))
+  others_so (Emit at (Answer which given payload)) can nothing = absurd can
   others_so event can_happen nothing = tt
 
   -- something happens on the fabric

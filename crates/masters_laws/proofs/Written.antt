@@ -19,7 +19,7 @@ use Rattle.sm_manager.specs.Manager.{begin_fault}
 use Rattle.sm_manager.specs.PlanFaults.{writing_fault}
 use Rattle.sm_manager.specs.Writing.{is_written}
 use Rattle.manager_laws.specs.Complete.{IsWhole}
-use Rattle.manager_laws.specs.Scene.{Event, Deliver, Lose, Repeat, Send as SendFrom}
+use Rattle.manager_laws.specs.Scene.{Event, Deliver, Lose, Repeat, Send as SendFrom, Emit}
 use Rattle.manager_laws.specs.Managing as one
 use Rattle.manager_laws.specs.Managing.{Managing, ManagerEvent, after_manager_event, after_manager_events}
 use Rattle.manager_laws.specs.Sets.{KeepsPlan, OwnSets}
@@ -78,6 +78,7 @@ keeps_any plan own w (one.Around (Deliver n)) keeps = λ at a packet takes. elim
 keeps_any plan own w (one.Around (Lose n)) keeps = tt
 keeps_any plan own w (one.Around (Repeat n)) keeps = tt
 keeps_any plan own w (one.Around (SendFrom seat sending)) keeps = tt
+keeps_any plan own w (one.Around (Emit at sending)) keeps = tt
 keeps_any plan own w event keeps = keeps
 
 all_keep_along : (plan : PlanValue) (own : OwnSets) (events : List ManagerEvent) (w : Managing) → Along (Keeps plan no_sets) events w

@@ -22,7 +22,7 @@ use Rattle.schedule_lines.specs.ManagerAsks.{emptied}
 use Rattle.sm_manager.specs.Manager.{Manager, new_manager, after_begin_sweep}
 use Rattle.sm_manager.specs.PlanFaults.{writing_fault}
 use Rattle.sm_manager.specs.Writing.{after_write_steps, begun_with, is_written}
-use Rattle.manager_laws.specs.Scene.{Deliver, Lose, Repeat, Send as SendFrom}
+use Rattle.manager_laws.specs.Scene.{Deliver, Lose, Repeat, Send as SendFrom, Emit}
 use Rattle.manager_laws.proofs.Lists.{all_append, all_tested}
 use Rattle.manager_laws.specs.Managing.{Managing, Starts}
 use Rattle.manager_laws.specs.Sets.{IsOwnSet, OwnSets}
@@ -58,6 +58,7 @@ is_no_line event = true
 
 silent_can : (seat : NodePort) (event : LiveEvent) → is_silent event ≡ true → CanLive seat event
 silent_can seat (Around (SendFrom from sending)) e = absurd (cc)
+silent_can seat (Around (Emit at sending)) e = absurd (cc)
 silent_can seat (Tell line) e = absurd (cc)
 silent_can seat (Hear which) e = tt
 silent_can seat (Send which) e = tt

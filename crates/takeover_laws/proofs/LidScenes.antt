@@ -18,18 +18,18 @@ use Rattle.node_agents.specs.declared.agent_node.AgentNode.{AgentNode}
 use Rattle.node_agents.specs.Agent.{Agent, node_of, base_lid_at}
 use Rattle.node_agents.specs.Answers.{after_answer}
 use Rattle.fabric_sim.specs.declared.packet.Packet.{Packet}
-use Rattle.fabric_sim.specs.Simulation.{Simulation, AreCables, agent_at, port_count, port_of, fabric_of, is_seat_at}
+use Rattle.fabric_sim.specs.Simulation.{Simulation, AreCables, agent_at, port_count, port_of, fabric_of, is_cable_port, is_seat_at}
 use Rattle.fabric_sim.specs.Delivery.{answer_at, after_deliver}
 use Rattle.fabric_sim.specs.ToldOfEnd.{port_asked}
 use Rattle.fabric_sim.specs.declared.flight.Flight.{Flight}
 use Rattle.fabric_sim.proofs.AgentLists.{changed_at_id}
 use Rattle.fabric_sim.proofs.Courses.{AnySends}
 use Rattle.fabric_sim.proofs.Traced.{IsRequestFor, IsOnCourse, IsForManager}
-use Rattle.fabric_sim.proofs.TracedCalls.{AreTraced, IsAskedBy, deliveries_trace, deliveries_hand_up_traced, injections_trace, copies_trace, losses_trace}
+use Rattle.fabric_sim.proofs.TracedCalls.{AreTraced, IsAskedBy, deliveries_trace, deliveries_hand_up_traced, emissions_trace, injections_trace, copies_trace, losses_trace}
 use Rattle.fabric_sim.proofs.TripEnds.{agent_by_port}
 use Rattle.fabric_sim.proofs.TripShapes.{IsAlong, agent_there}
-use Rattle.manager_laws.specs.Scene.{Handed, Scene, ByLid, ByPath, Answer, Event, Deliver, Lose, Repeat, Send, CanHappen, sent_from, asks_manager, answer_to, answered_from, after_event}
-use Rattle.manager_laws.proofs.Answers.{Continues, bytes_answered, seat_in_port}
+use Rattle.manager_laws.specs.Scene.{Handed, Scene, ByLid, ByPath, Answer, Event, Deliver, Lose, Repeat, Send, Emit, CanHappen, emitted_from, sent_from, asks_manager, answer_to, answered_from, after_event}
+use Rattle.manager_laws.proofs.Answers.{Continues, bytes_answered, cabled_in_port, seat_in_port}
 use Rattle.manager_laws.proofs.TracedScenes as traced
 use Rattle.takeover_laws.proofs.LidsTold.{lid_told}
 
@@ -112,6 +112,14 @@ module _ {start : Simulation} (cables : AreCables start) (counts : (id : ℕ) �
         handed = k.handed;
       }
 
+  emits_known : (w : Scene) (at : NodePort) (packet : Packet) → Continues start w → LidsKnown start w
+      → (is_cable_port w.fabric at ≡ true → IsOnCourse AnySends (LidSo start) start at packet.bytes) → LidsKnown start (emitted_from w at packet)
+  emits_known w at packet c k on =
+      record {
+        flights = emissions_trace AnySends (LidSo start) cables counts c.fabric.along c.fabric.is k.flights at packet on;
+        handed = k.handed;
+      }
+
   manager_known : (h : Handed) (given : ℕ) (payload : List ℕ) (origin : NodePort) → number_in attribute_id (answer_packet h.packet.bytes given payload)
       ≡ sm_info
       → LidSo start origin h.at (answer_packet h.packet.bytes given payload)
@@ -153,3 +161,9 @@ module _ {start : Simulation} (cables : AreCables start) (counts : (id : ℕ) �
   event_known w (Send seat (Answer which given payload)) c k (small, whole) lids =
       answers_known w seat given payload (slice_get w.handed which) c k small whole
       (λ h e. traced.traced_there AnySends (LidSo start) start w.handed which h k.handed e)
+  event_known w (Emit at (ByLid packet)) c k (can, sets) lids =
+      emits_known w at packet c k (λ _. traced.other_traced AnySends (LidSo start) start at packet.bytes can.0 can.1)
+  event_known w (Emit at (ByPath method attribute modifier tid path payload)) c k ((fits, low, short, own), sets) lids =
+      emits_known w at _ c k (λ there. traced.sent_traced AnySends (LidSo start) start at method attribute modifier tid path payload fits low short own
+      (cabled_in_port cables counts w.fabric c.fabric at there) tt)
+  event_known w (Emit at (Answer which given payload)) c k can lids = absurd can

@@ -14,14 +14,14 @@ use Rattle.fabric_sim.specs.Simulation.{Simulation, fabric_of}
 use Rattle.fabric_sim.specs.Changes.{after_lose, after_repeat}
 use Rattle.fabric_sim.specs.Delivery.{after_deliver}
 use Rattle.fabric_sim.proofs.Courses.{AnySends, SaysSo}
-use Rattle.fabric_sim.proofs.TracedCalls.{agents_after, injected_agents, lost_agents, repeated_agents}
+use Rattle.fabric_sim.proofs.TracedCalls.{agents_after, emitted_agents, injected_agents, lost_agents, repeated_agents}
 use Rattle.subnet_view.specs.FabricAgreement.{AgreesOn}
 use Rattle.lid_assign.specs.Lids.{IsNoRoom}
 use Rattle.lft_blocks.specs.Rule.{RuleValue}
 use Rattle.lft_blocks.specs.InForce.{HoldsPlan}
 use Rattle.lft_blocks.specs.Plan.{PlanValue, plan_of}
 use Rattle.sm_manager.specs.declared.outgoing.Outgoing.{Outgoing}
-use Rattle.manager_laws.specs.Scene.{Handed, Scene, Sending, ByLid, ByPath, Answer, Event, Deliver, Lose, Repeat, Send as SendFrom, after_event, answer_to, answered_from, asks_manager, sent, sent_from}
+use Rattle.manager_laws.specs.Scene.{Handed, Scene, Sending, ByLid, ByPath, Answer, Event, Deliver, Lose, Repeat, Send as SendFrom, Emit, after_event, emitted, emitted_from, answer_to, answered_from, asks_manager, sent, sent_from}
 use Rattle.manager_laws.proofs.Answers.{Continues}
 use Rattle.manager_laws.proofs.PlannedPings.{pings_arrive}
 use Rattle.manager_laws.proofs.Alike.{agrees_along, end_port_along}
@@ -68,6 +68,15 @@ module _ (start : Simulation) (seat : NodePort) (plan : PlanValue) (listed : Are
     sending_still at (ByPath method attribute modifier tid path payload) = sent_still at _
     sending_still at (Answer which given payload) = answered_still at given payload (slice_get w.handed which)
 
+    emitted_still : (at : NodePort) (packet : Packet) → (emitted_from w at packet).fabric.agents ≡ w.fabric.agents
+    emitted_still at packet =
+        emitted_agents AnySends (SaysSo start) ground.cables ground.counts c.fabric.along c.fabric.is c.fabric.flights at packet
+
+    emitting_still : (at : NodePort) (s : Sending) → (emitted w at s).fabric.agents ≡ w.fabric.agents
+    emitting_still at (ByLid packet) = emitted_still at packet
+    emitting_still at (ByPath method attribute modifier tid path payload) = emitted_still at _
+    emitting_still at (Answer which given payload) = refl
+
     -- where each Set carries the plan's values
     pub around_held : (event : Event)
         → ((serial : ℕ) → event ≡ Deliver serial → (at : NodePort) (a : Agent) (packet : List ℕ) → TakesSet w.fabric serial at a packet
@@ -84,6 +93,7 @@ module _ (start : Simulation) (seat : NodePort) (plan : PlanValue) (listed : Are
         keeps_still (after_repeat w.fabric n).fabric (repeated_agents AnySends (SaysSo start) ground.cables ground.counts c.fabric.along c.fabric.is
         c.fabric.flights n) h
     around_held (SendFrom at sending_it) carry h = keeps_still (sent w at sending_it).fabric (sending_still at sending_it) h
+    around_held (Emit at sending_it) carry h = keeps_still (emitted w at sending_it).fabric (emitting_still at sending_it) h
 
   -- whatever happens to the manager ------------------------------------------------------------------------------
 
