@@ -160,7 +160,7 @@ all_plain routings = (
           (
             ((refl, refl), ((refl, refl), ((refl, refl), ((refl, refl), tt)))),
             (
-              ((refl, refl), ((refl, refl), ((refl, refl), ((refl, refl), ((refl, refl), ((refl, refl), ((refl, refl), ((refl, refl), ((refl, refl), ((refl, refl), ((refl, refl), ((refl, refl), tt)))))))))))),
+              ((refl, refl), ((refl, refl), ((refl, refl), ((refl, refl), ((refl, refl), ((refl, refl), ((refl, refl), ((refl, refl), ((refl, refl), ((refl, refl), tt)))))))))),
               (
                 ((refl, refl), ((refl, refl), ((refl, refl), ((refl, refl), ((refl, refl), ((refl, refl), ((refl, refl), tt))))))),
                 (
@@ -201,7 +201,7 @@ all_fit routings known = (
             (
               λ other differs is rows t e apart. next refl (text_given routings known _ (codes "next") rows t (codes "TABLES") _ refl refl (given_first _ _ e).0)
                   (names_files routings known _ (codes "next") rows t _ refl refl (given_first _ _ (given_first _ _ e).1).0)
-                  (names_planning routings known _ (codes "next") rows t _ _ refl refl refl refl refl (neither _ _ apart).0) (neither _ _ apart).1,
+                  (names_planning routings known _ (codes "next") rows t _ _ refl refl refl refl refl apart),
               (
                 λ other differs is rows t e apart. run refl (text_given routings known _ (codes "run") rows t (codes "TOPOLOGY") _ refl refl (given_first _ _ e).0)
                     (text_given routings known _ (codes "run") rows t (codes "SCHEDULE") _ refl refl (given_first _ _ (given_first _ _ e).1).0)
