@@ -34,17 +34,21 @@ files_rule = record (new_rule (codes "FILE")) {
 abbrev pub option_rule : Text → Rule
 option_rule name = record (new_rule name) { long = Some name; value_names = 1; action = Some Set }
 
+-- the option `name`, with no word after it
+abbrev pub flag_rule : Text → Rule
+flag_rule name = record (new_rule name) { long = Some name; action = Some SetTrue }
+
 -- the option for a floor, from 1 to 2^32 - 1
 abbrev pub floor_rule : Rule
 floor_rule = record (option_rule (codes "floor")) { parser = Some (Signed (pos 1) (pos 4294967295)) }
 
 -- the option `--all`, with no word after it: all items are listed
 abbrev pub all_rule : Rule
-all_rule = record (new_rule (codes "all")) { long = Some (codes "all"); action = Some SetTrue }
+all_rule = flag_rule (codes "all")
 
 -- the option `--told-order`, with no word after it: a step may go by the order that held tables imply
 abbrev pub told_order_rule : Rule
-told_order_rule = record (new_rule (codes "told-order")) { long = Some (codes "told-order"); action = Some SetTrue }
+told_order_rule = flag_rule (codes "told-order")
 
 -- the options of a step: whether it may go by the order that held tables imply, and the file of the last step's order
 abbrev pub of_step : List Rule
@@ -61,7 +65,7 @@ of_report = all_rule ∷ max_load_rule ∷ []
 -- the option `--answers-as-asked`, with no word after it: answers have the service level of the packets that they
 -- answer
 abbrev pub answers_rule : Rule
-answers_rule = record (new_rule (codes "answers-as-asked")) { long = Some (codes "answers-as-asked"); action = Some SetTrue }
+answers_rule = flag_rule (codes "answers-as-asked")
 
 -- the options for judging by lane: the file of lanes, and which service levels answers have
 abbrev pub of_lanes : List Rule

@@ -1,9 +1,9 @@
 //! The arguments and options of subcommands.
 ghost use Rattle.std.specs.Prelude.{◌≡◌, codes, false};
 ghost use Rattle.clap.specs.Walk.{rule_of};
-ghost use Rattle.cli_arguments.specs.CommandLine.{all_rule, answers_rule, files_rule, floor_rule, lmc_rule};
-ghost use Rattle.cli_arguments.specs.CommandLine.{max_load_rule, option_rule, port_rule, priority_rule, routing_rule};
-ghost use Rattle.cli_arguments.specs.CommandLine.{text_rule, told_order_rule};
+ghost use Rattle.cli_arguments.specs.CommandLine.{all_rule, answers_rule, files_rule, flag_rule, floor_rule};
+ghost use Rattle.cli_arguments.specs.CommandLine.{lmc_rule, max_load_rule, option_rule, port_rule, priority_rule};
+ghost use Rattle.cli_arguments.specs.CommandLine.{routing_rule, text_rule, told_order_rule};
 
 use crate::argument_names::{
     ALL, ANSWERS_AS_ASKED, FILE, FLOOR, GUID, LANES, LAST_ORDER, LMC, MAX_LOAD, ORDER, PORT,
@@ -23,16 +23,37 @@ pub(crate) fn text<'a>(alloc: Global, name: &'a str, help: &'a str) -> Arg<'a>
         .action(ArgAction::Set)
 }
 
+/// Builds an option that takes one word, which help calls `value_name`.
+fn option<'a>(alloc: Global, name: &'a str, value_name: &'a str, help: &'a str) -> Arg<'a>
+    ensures rule { rule_of result ≡ option_rule name.now }
+    ensures own { result.global ≡ false }
+{
+    Arg::new(alloc, name)
+        .long(name)
+        .value_name(value_name)
+        .help(help)
+        .action(ArgAction::Set)
+}
+
+/// Builds an option that takes no word.
+fn flag<'a>(alloc: Global, name: &'a str, help: &'a str) -> Arg<'a>
+    ensures rule { rule_of result ≡ flag_rule name.now }
+    ensures own { result.global ≡ false }
+{
+    Arg::new(alloc, name)
+        .long(name)
+        .help(help)
+        .action(ArgAction::SetTrue)
+}
+
 /// Builds the argument for the number of a port.
 pub(crate) fn port<'a>(alloc: Global) -> Arg<'a>
     ensures rule { rule_of result ≡ port_rule }
     ensures own { result.global ≡ false }
 {
-    Arg::new(alloc, PORT)
-        .help("The number of the port, 1 to 254")
-        .required(true)
-        .value_parser(value_parser!(u8).range(1..=254))
-        .action(ArgAction::Set)
+    text(alloc, PORT, "The number of the port, 1 to 254").value_parser(value_parser!(u8).range(
+        1..=254,
+    ))
 }
 
 /// Builds the argument for the priority of a manager.
@@ -40,11 +61,9 @@ pub(crate) fn priority<'a>(alloc: Global) -> Arg<'a>
     ensures rule { rule_of result ≡ priority_rule }
     ensures own { result.global ≡ false }
 {
-    Arg::new(alloc, PRIORITY)
-        .help("The priority of the manager, 0 to 15")
-        .required(true)
-        .value_parser(value_parser!(u8).range(0..=15))
-        .action(ArgAction::Set)
+    text(alloc, PRIORITY, "The priority of the manager, 0 to 15").value_parser(value_parser!(
+        u8
+    ).range(0..=15))
 }
 
 /// Builds the option for the SM_Key of a manager.
@@ -52,11 +71,12 @@ pub(crate) fn sm_key<'a>(alloc: Global) -> Arg<'a>
     ensures rule { rule_of result ≡ option_rule (codes "sm-key") }
     ensures own { result.global ≡ false }
 {
-    Arg::new(alloc, SM_KEY)
-        .long(SM_KEY)
-        .value_name("HEX")
-        .help("The SM_Key of the manager, 1 to 16 hex digits; OpenSM's, 1, if none is given")
-        .action(ArgAction::Set)
+    option(
+        alloc,
+        SM_KEY,
+        "HEX",
+        "The SM_Key of the manager, 1 to 16 hex digits; OpenSM's, 1, if none is given",
+    )
 }
 
 /// Builds the option for the floor.
@@ -64,12 +84,13 @@ pub(crate) fn floor<'a>(alloc: Global) -> Arg<'a>
     ensures rule { rule_of result ≡ floor_rule }
     ensures own { result.global ≡ false }
 {
-    Arg::new(alloc, FLOOR)
-        .long(FLOOR)
-        .value_name("G")
-        .help("Forgets what is older than generation G, 1 to 4294967295")
-        .value_parser(value_parser!(u32).range(1..))
-        .action(ArgAction::Set)
+    option(
+        alloc,
+        FLOOR,
+        "G",
+        "Forgets what is older than generation G, 1 to 4294967295",
+    )
+    .value_parser(value_parser!(u32).range(1..))
 }
 
 /// Builds the flag for all lines of each kind.
@@ -77,10 +98,11 @@ pub(crate) fn all<'a>(alloc: Global) -> Arg<'a>
     ensures rule { rule_of result ≡ all_rule }
     ensures own { result.global ≡ false }
 {
-    Arg::new(alloc, ALL)
-        .long(ALL)
-        .help("Prints all lines of each kind, and not the first 20 alone")
-        .action(ArgAction::SetTrue)
+    flag(
+        alloc,
+        ALL,
+        "Prints all lines of each kind, and not the first 20 alone",
+    )
 }
 
 /// Builds the flag that lets a step go by the order that held tables imply.
@@ -88,13 +110,12 @@ pub(crate) fn told_order<'a>(alloc: Global) -> Arg<'a>
     ensures rule { rule_of result ≡ told_order_rule }
     ensures own { result.global ≡ false }
 {
-    Arg::new(alloc, TOLD_ORDER)
-        .long(TOLD_ORDER)
-        .help(
-            "From tables that are not right by the order of the plan's switches, goes by the order that they \
-             tell by themselves, towards tables between both orders",
-        )
-        .action(ArgAction::SetTrue)
+    flag(
+        alloc,
+        TOLD_ORDER,
+        "From tables that are not right by the order of the plan's switches, goes by the order that they \
+         tell by themselves, towards tables between both orders",
+    )
 }
 
 /// Builds the option for the file of the order that the last step went by.
@@ -102,14 +123,13 @@ pub(crate) fn last_order<'a>(alloc: Global) -> Arg<'a>
     ensures rule { rule_of result ≡ option_rule (codes "last-order") }
     ensures own { result.global ≡ false }
 {
-    Arg::new(alloc, LAST_ORDER)
-        .long(LAST_ORDER)
-        .value_name("FILE")
-        .help(
-            "As --told-order, but if the tables tell several orders, goes by the one nearest to that of FILE, \
-             a GUID a line, as the last step printed it",
-        )
-        .action(ArgAction::Set)
+    option(
+        alloc,
+        LAST_ORDER,
+        "FILE",
+        "As --told-order, but if the tables tell several orders, goes by the one nearest to that of FILE, \
+         a GUID a line, as the last step printed it",
+    )
 }
 
 /// Builds the option for the greatest load that passes.
@@ -117,15 +137,14 @@ pub(crate) fn max_load<'a>(alloc: Global) -> Arg<'a>
     ensures rule { rule_of result ≡ max_load_rule }
     ensures own { result.global ≡ false }
 {
-    Arg::new(alloc, MAX_LOAD)
-        .long(MAX_LOAD)
-        .value_name("N")
-        .help(
-            "Lets no tables pass by which a channel carries more than N pairs of an adapter port and another one's \
-             LID, N from 0 to 4294967295",
-        )
-        .value_parser(value_parser!(u32).range(0..))
-        .action(ArgAction::Set)
+    option(
+        alloc,
+        MAX_LOAD,
+        "N",
+        "Lets no tables pass by which a channel carries more than N pairs of an adapter port and another one's \
+         LID, N from 0 to 4294967295",
+    )
+    .value_parser(value_parser!(u32).range(0..))
 }
 
 /// Builds the option for the file of lanes.
@@ -133,13 +152,12 @@ pub(crate) fn lanes<'a>(alloc: Global) -> Arg<'a>
     ensures rule { rule_of result ≡ option_rule (codes "lanes") }
     ensures own { result.global ≡ false }
 {
-    Arg::new(alloc, LANES)
-        .long(LANES)
-        .value_name("FILE")
-        .help(
-            "Judges credit loops lane by lane, by the virtual lanes and service levels that FILE gives",
-        )
-        .action(ArgAction::Set)
+    option(
+        alloc,
+        LANES,
+        "FILE",
+        "Judges credit loops lane by lane, by the virtual lanes and service levels that FILE gives",
+    )
 }
 
 /// Builds the flag for answers at the service level of the packets that they answer.
@@ -147,12 +165,11 @@ pub(crate) fn answers_as_asked<'a>(alloc: Global) -> Arg<'a>
     ensures rule { rule_of result ≡ answers_rule }
     ensures own { result.global ≡ false }
 {
-    Arg::new(alloc, ANSWERS_AS_ASKED)
-        .long(ANSWERS_AS_ASKED)
-        .help(
-            "With --lanes, also follows answers that go at the service level of the packets that they answer",
-        )
-        .action(ArgAction::SetTrue)
+    flag(
+        alloc,
+        ANSWERS_AS_ASKED,
+        "With --lanes, also follows answers that go at the service level of the packets that they answer",
+    )
 }
 
 /// Builds the option for the LMC.
@@ -160,12 +177,13 @@ pub(crate) fn lmc<'a>(alloc: Global) -> Arg<'a>
     ensures rule { rule_of result ≡ lmc_rule }
     ensures own { result.global ≡ false }
 {
-    Arg::new(alloc, LMC)
-        .long(LMC)
-        .value_name("N")
-        .help("Plans 2^N LIDs for each adapter port, N from 0, the default, to 7")
-        .value_parser(value_parser!(u8).range(0..=7))
-        .action(ArgAction::Set)
+    option(
+        alloc,
+        LMC,
+        "N",
+        "Plans 2^N LIDs for each adapter port, N from 0, the default, to 7",
+    )
+    .value_parser(value_parser!(u8).range(0..=7))
 }
 
 /// Builds the option for the rule of routing, which takes a word of `routings`.
@@ -173,16 +191,15 @@ pub(crate) fn routing<'a>(alloc: Global, routings: &'a [&'a str]) -> Arg<'a>
     ensures rule { rule_of result ≡ routing_rule routings.entry }
     ensures own { result.global ≡ false }
 {
-    Arg::new(alloc, ROUTING)
-        .long(ROUTING)
-        .value_name("RULE")
-        .help(
-            "updown leads packets by one root of each component, and is what is taken where none is named; \
-             spread leads them over all wires, so that none is much busier than others; balance does so in \
-             the best of several orders of switches and by counted loads, which pays where the fabric is no tree",
-        )
-        .value_parser(routings)
-        .action(ArgAction::Set)
+    option(
+        alloc,
+        ROUTING,
+        "RULE",
+        "updown leads packets by one root of each component, and is what is taken where none is named; \
+         spread leads them over all wires, so that none is much busier than others; balance does so in \
+         the best of several orders of switches and by counted loads, which pays where the fabric is no tree",
+    )
+    .value_parser(routings)
 }
 
 /// Builds the option for the file of roots.
@@ -190,13 +207,12 @@ pub(crate) fn roots<'a>(alloc: Global) -> Arg<'a>
     ensures rule { rule_of result ≡ option_rule (codes "roots") }
     ensures own { result.global ≡ false }
 {
-    Arg::new(alloc, ROOTS)
-        .long(ROOTS)
-        .value_name("FILE")
-        .help(
-            "spread begins at the switches that FILE names, a GUID a line, in place of those in the middle",
-        )
-        .action(ArgAction::Set)
+    option(
+        alloc,
+        ROOTS,
+        "FILE",
+        "spread begins at the switches that FILE names, a GUID a line, in place of those in the middle",
+    )
 }
 
 /// Builds the option for the file of an order of switches.
@@ -204,13 +220,12 @@ pub(crate) fn order_file<'a>(alloc: Global) -> Arg<'a>
     ensures rule { rule_of result ≡ option_rule (codes "order") }
     ensures own { result.global ≡ false }
 {
-    Arg::new(alloc, ORDER)
-        .long(ORDER)
-        .value_name("FILE")
-        .help(
-            "spread and balance order switches as FILE names them, a GUID a line, and those that it lacks behind them",
-        )
-        .action(ArgAction::Set)
+    option(
+        alloc,
+        ORDER,
+        "FILE",
+        "spread and balance order switches as FILE names them, a GUID a line, and those that it lacks behind them",
+    )
 }
 
 /// Builds the argument for the files. At least one file is required, and options may stand between the files.
@@ -218,9 +233,7 @@ pub(crate) fn files<'a>(alloc: Global) -> Arg<'a>
     ensures rule { rule_of result ≡ files_rule }
     ensures own { result.global ≡ false }
 {
-    Arg::new(alloc, FILE)
-        .help("Report files and store files")
-        .required(true)
+    text(alloc, FILE, "Report files and store files")
         .num_args(1..)
         .action(ArgAction::Append)
 }
