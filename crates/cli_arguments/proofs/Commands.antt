@@ -5,8 +5,12 @@ use Rattle.clap.specs.Simple.{App, Shape, shape_of, with_subcommand}
 use Rattle.clap.specs.Walk.{Rule, rule_of}
 use Rattle.clap.specs.declared.builder.arg.Arg.{Arg}
 use Rattle.clap.specs.declared.builder.command.Command.{Command}
+use Rattle.clap.specs.declared.builder.command.Command.TheOpen.{Command-F}
 use Rattle.clap.specs.declared.builder.command.Command.TheViews.{out-Command as fields_of}
 use Rattle.cli_arguments.specs.CommandLine.{AddsRules, IsApp, IsOf}
+
+abbrev pub has_globals : Command-F Command → Bool
+has_globals c = c.has_globals
 
 or_false : (b : Bool) → (b || false) ≡ b
 or_false true = refl

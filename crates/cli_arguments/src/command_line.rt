@@ -1,6 +1,6 @@
 //! The command line.
 ghost use Rattle.std.specs.Prelude.{◌∷◌, IfOk, codes, map};
-ghost use Rattle.clap.specs.Simple.{App, Shape, with_subcommand};
+ghost use Rattle.clap.specs.Simple.{App, Shape, new_shape, with_subcommand};
 ghost use Rattle.cli_arguments.specs.CommandLine.{AddsRules, AreRoutings, IsApp, IsOf, IsReadAs, audit_shape};
 ghost use Rattle.cli_arguments.specs.CommandLine.{facts_shape, join_shape, next_shape, order_of_shape, order_shape};
 ghost use Rattle.cli_arguments.specs.CommandLine.{command_line, of_files, of_order, of_planning, of_routing, of_seat};
@@ -143,81 +143,97 @@ fn program<'a>(alloc: Global) -> Command<'a>
         .subcommand_required(true)
 }
 
+/// Builds the subcommand `name` without its arguments. Its help begins with `about` and closes with `end`.
+fn subcommand_head<'a>(alloc: Global, name: &'a str, about: &'a str, end: &'a str) -> Command<'a>
+    ensures { IsOf (new_shape name.now) result }
+{
+    Command::new(alloc, name).about(about).after_help(end)
+}
+
 fn facts<'a>(alloc: Global) -> Result<Command<'a>, AllocError>
     ensures { IfOk result (IsOf facts_shape) }
 {
-    let command = Command::new(alloc, FACTS)
-        .about("Prints the facts that all the files tell together")
-        .after_help(FACTS_END);
+    let command = subcommand_head(
+        alloc,
+        FACTS,
+        "Prints the facts that all the files tell together",
+        FACTS_END,
+    );
     of_files(alloc, command)
 }
 
 fn join<'a>(alloc: Global) -> Result<Command<'a>, AllocError>
     ensures { IfOk result (IsOf join_shape) }
 {
-    let command = Command::new(alloc, JOIN)
-        .about(
-            "Writes the facts that all the files tell together to standard output, as a store file",
-        )
-        .after_help(JOIN_END);
+    let command = subcommand_head(
+        alloc,
+        JOIN,
+        "Writes the facts that all the files tell together to standard output, as a store file",
+        JOIN_END,
+    );
     of_files(alloc, command)
 }
 
 fn plan<'a>(alloc: Global, routings: &'a [&'a str]) -> Result<Command<'a>, AllocError>
     ensures { IfOk result (IsOf (plan_shape routings.entry)) }
 {
-    let command = Command::new(alloc, PLAN)
-        .about(
-            "Prints the LIDs and the forwarding blocks that follow from the facts of all the files",
-        )
-        .after_help(PLAN_END);
+    let command = subcommand_head(
+        alloc,
+        PLAN,
+        "Prints the LIDs and the forwarding blocks that follow from the facts of all the files",
+        PLAN_END,
+    );
     with_planning(alloc, routings, of_files(alloc, command)?)
 }
 
 fn order<'a>(alloc: Global, routings: &'a [&'a str]) -> Result<Command<'a>, AllocError>
     ensures { IfOk result (IsOf (order_shape routings.entry)) }
 {
-    let command = Command::new(alloc, ORDER)
-        .about(
-            "Prints the switches in the order by which a plan goes, by spread if no rule is named, a GUID a line, for --order",
-        )
-        .after_help(ORDER_END);
+    let command = subcommand_head(
+        alloc,
+        ORDER,
+        "Prints the switches in the order by which a plan goes, by spread if no rule is named, a GUID a line, for --order",
+        ORDER_END,
+    );
     with_routing(alloc, routings, of_files(alloc, command)?)
 }
 
 fn audit<'a>(alloc: Global) -> Result<Command<'a>, AllocError>
     ensures { IfOk result (IsOf audit_shape) }
 {
-    let command = Command::new(alloc, AUDIT)
-        .about(
-            "Prints how packets fare by the tables that switches hold, in the subnet of the facts of all the \
-             files",
-        )
-        .after_help(AUDIT_END);
+    let command = subcommand_head(
+        alloc,
+        AUDIT,
+        "Prints how packets fare by the tables that switches hold, in the subnet of the facts of all the \
+         files",
+        AUDIT_END,
+    );
     with_lanes(alloc, with_report(alloc, of_tables(alloc, command)?)?)
 }
 
 fn order_of<'a>(alloc: Global) -> Result<Command<'a>, AllocError>
     ensures { IfOk result (IsOf order_of_shape) }
 {
-    let command = Command::new(alloc, ORDER_OF)
-        .about(
-            "Prints the switches in an order by which the tables that switches hold lead packets up and then \
-             down, a GUID a line, for --order",
-        )
-        .after_help(ORDER_OF_END);
+    let command = subcommand_head(
+        alloc,
+        ORDER_OF,
+        "Prints the switches in an order by which the tables that switches hold lead packets up and then \
+         down, a GUID a line, for --order",
+        ORDER_OF_END,
+    );
     of_tables(alloc, command)
 }
 
 fn next<'a>(alloc: Global, routings: &'a [&'a str]) -> Result<Command<'a>, AllocError>
     ensures { IfOk result (IsOf (next_shape routings.entry)) }
 {
-    let command = Command::new(alloc, NEXT)
-        .about(
-            "Prints the tables to write next, from those that switches hold towards the plan of the facts of \
-             all the files, so that no packet for a LID that stays is lost meanwhile",
-        )
-        .after_help(NEXT_END);
+    let command = subcommand_head(
+        alloc,
+        NEXT,
+        "Prints the tables to write next, from those that switches hold towards the plan of the facts of \
+         all the files, so that no packet for a LID that stays is lost meanwhile",
+        NEXT_END,
+    );
     let command = with_planning(alloc, routings, of_tables(alloc, command)?)?;
     with_step(alloc, command)
 }
@@ -225,11 +241,13 @@ fn next<'a>(alloc: Global, routings: &'a [&'a str]) -> Result<Command<'a>, Alloc
 fn run<'a>(alloc: Global, routings: &'a [&'a str]) -> Result<Command<'a>, AllocError>
     ensures { IfOk result (IsOf (run_shape routings.entry)) }
 {
-    let command = Command::new(alloc, RUN)
-        .about(
-            "Runs a schedule in the simulated fabric of a topology, and prints what its commands print",
-        )
-        .after_help(RUN_END)
+    let command = subcommand_head(
+        alloc,
+        RUN,
+        "Runs a schedule in the simulated fabric of a topology, and prints what its commands print",
+        RUN_END,
+    );
+    let command = command
         .arg(text(
             alloc,
             TOPOLOGY,
@@ -246,11 +264,12 @@ fn run<'a>(alloc: Global, routings: &'a [&'a str]) -> Result<Command<'a>, AllocE
 fn serve<'a>(alloc: Global, routings: &'a [&'a str]) -> Result<Command<'a>, AllocError>
     ensures { IfOk result (IsOf (serve_shape routings.entry)) }
 {
-    let command = Command::new(alloc, SERVE)
-        .about(
-            "Serves a subnet manager by the lines on standard input, and prints what it sends and tells",
-        )
-        .after_help(SERVE_END);
+    let command = subcommand_head(
+        alloc,
+        SERVE,
+        "Serves a subnet manager by the lines on standard input, and prints what it sends and tells",
+        SERVE_END,
+    );
     with_planning(alloc, routings, of_seat(alloc, command)?)
 }
 
@@ -339,12 +358,25 @@ fn with_order<'a>(alloc: Global, command: Command<'a>) -> Result<Command<'a>, Al
 /// Builds the subcommand `name` if it is `audit`, `next`, `run`, `order` or `serve`. Builds `plan` for any other name,
 /// and for `None`.
 pub(crate) fn subcommand<'a>(alloc: Global, name: Option<&str>) -> Result<Command<'a>, AllocError> {
+    let command = match name {
+        Some(AUDIT) => audit(alloc),
+        Some(NEXT) => next(alloc, RULES.as_slice()),
+        Some(RUN) => run(alloc, RULES.as_slice()),
+        Some(ORDER) => order(alloc, RULES.as_slice()),
+        Some(SERVE) => serve(alloc, RULES.as_slice()),
+        _ => plan(alloc, RULES.as_slice()),
+    };
+    command?.bin_name(bin_name(name))
+}
+
+/// Returns the words that call the subcommand that `subcommand` builds for `name`.
+fn bin_name(name: Option<&str>) -> &'static str {
     match name {
-        Some(AUDIT) => audit(alloc)?.bin_name("ibsm audit"),
-        Some(NEXT) => next(alloc, RULES.as_slice())?.bin_name("ibsm next"),
-        Some(RUN) => run(alloc, RULES.as_slice())?.bin_name("ibsm run"),
-        Some(ORDER) => order(alloc, RULES.as_slice())?.bin_name("ibsm order"),
-        Some(SERVE) => serve(alloc, RULES.as_slice())?.bin_name("ibsm serve"),
-        _ => plan(alloc, RULES.as_slice())?.bin_name("ibsm plan"),
+        Some(AUDIT) => "ibsm audit",
+        Some(NEXT) => "ibsm next",
+        Some(RUN) => "ibsm run",
+        Some(ORDER) => "ibsm order",
+        Some(SERVE) => "ibsm serve",
+        _ => "ibsm plan",
     }
 }
