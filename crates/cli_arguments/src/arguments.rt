@@ -187,19 +187,11 @@ pub(crate) fn lmc<'a>(alloc: Global) -> Arg<'a>
 }
 
 /// Builds the option for the rule of routing, which takes a word of `routings`.
-pub(crate) fn routing<'a>(alloc: Global, routings: &'a [&'a str]) -> Arg<'a>
+pub(crate) fn routing<'a>(alloc: Global, routings: &'a [&'a str], help: &'a str) -> Arg<'a>
     ensures rule { rule_of result ≡ routing_rule routings.entry }
     ensures own { result.global ≡ false }
 {
-    option(
-        alloc,
-        ROUTING,
-        "RULE",
-        "updown leads packets by one root of each component, and is what is taken where none is named; \
-         spread leads them over all wires, so that none is much busier than others; balance does so in \
-         the best of several orders of switches and by counted loads, which pays where the fabric is no tree",
-    )
-    .value_parser(routings)
+    option(alloc, ROUTING, "RULE", help).value_parser(routings)
 }
 
 /// Builds the option for the file of roots.

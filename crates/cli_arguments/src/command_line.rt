@@ -74,6 +74,17 @@ const SERVE_END: &str =
      4  a file or standard input cannot be opened or read, or the output takes no more\n  \
      5  out of memory\n\nExample:\n  ibsm serve 0000000000000101 1 5";
 
+/// What the rules of routing make of a plan, and which one is taken by default.
+const PLAN_ROUTING_HELP: &str =
+    "updown leads packets by one root of each component, and is what is taken where none is named; \
+     spread leads them over all wires, and spreads LIDs over equal ways; balance does so in the best of \
+     several orders of switches and by counted loads, which pays where the fabric is no tree";
+
+/// What the subcommand `order` prints by each rule of routing, and which one is taken by default.
+const ORDER_ROUTING_HELP: &str =
+    "The rule whose order is printed: spread is what is taken where none is named; balance takes the best of \
+     several orders; updown goes by no order, so nothing is printed";
+
 /// Parses the words of a command line, the program's name first.
 ///
 /// # Errors
@@ -195,7 +206,12 @@ fn order<'a>(alloc: Global, routings: &'a [&'a str]) -> Result<Command<'a>, Allo
         "Prints the switches in the order by which a plan goes, by spread if no rule is named, a GUID a line, for --order",
         ORDER_END,
     );
-    with_routing(alloc, routings, of_files(alloc, command)?)
+    with_routing(
+        alloc,
+        routings,
+        ORDER_ROUTING_HELP,
+        of_files(alloc, command)?,
+    )
 }
 
 fn audit<'a>(alloc: Global) -> Result<Command<'a>, AllocError>
@@ -333,18 +349,19 @@ fn with_planning<'a>(
     ensures { IfOk result (AddsRules (of_planning routings.entry) command.entry) }
 {
     let command = command.arg(lmc(alloc))?;
-    with_routing(alloc, routings, command)
+    with_routing(alloc, routings, PLAN_ROUTING_HELP, command)
 }
 
-/// Adds the options for a rule of routing, and for its roots or its order.
+/// Adds the options for a rule of routing, of which `help` tells, and for its roots or its order.
 fn with_routing<'a>(
     alloc: Global,
     routings: &'a [&'a str],
+    help: &'a str,
     command: Command<'a>,
 ) -> Result<Command<'a>, AllocError>
     ensures { IfOk result (AddsRules (of_routing routings.entry) command.entry) }
 {
-    let command = command.arg(routing(alloc, routings))?;
+    let command = command.arg(routing(alloc, routings, help))?;
     with_order(alloc, command)
 }
 
