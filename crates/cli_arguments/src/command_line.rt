@@ -375,25 +375,12 @@ fn with_order<'a>(alloc: Global, command: Command<'a>) -> Result<Command<'a>, Al
 /// Builds the subcommand `name` if it is `audit`, `next`, `run`, `order` or `serve`. Builds `plan` for any other name,
 /// and for `None`.
 pub(crate) fn subcommand<'a>(alloc: Global, name: Option<&str>) -> Result<Command<'a>, AllocError> {
-    let command = match name {
-        Some(AUDIT) => audit(alloc),
-        Some(NEXT) => next(alloc, RULES.as_slice()),
-        Some(RUN) => run(alloc, RULES.as_slice()),
-        Some(ORDER) => order(alloc, RULES.as_slice()),
-        Some(SERVE) => serve(alloc, RULES.as_slice()),
-        _ => plan(alloc, RULES.as_slice()),
-    };
-    command?.bin_name(bin_name(name))
-}
-
-/// Returns the words that call the subcommand that `subcommand` builds for `name`.
-fn bin_name(name: Option<&str>) -> &'static str {
     match name {
-        Some(AUDIT) => "ibsm audit",
-        Some(NEXT) => "ibsm next",
-        Some(RUN) => "ibsm run",
-        Some(ORDER) => "ibsm order",
-        Some(SERVE) => "ibsm serve",
-        _ => "ibsm plan",
+        Some(AUDIT) => audit(alloc)?.bin_name("ibsm audit"),
+        Some(NEXT) => next(alloc, RULES.as_slice())?.bin_name("ibsm next"),
+        Some(RUN) => run(alloc, RULES.as_slice())?.bin_name("ibsm run"),
+        Some(ORDER) => order(alloc, RULES.as_slice())?.bin_name("ibsm order"),
+        Some(SERVE) => serve(alloc, RULES.as_slice())?.bin_name("ibsm serve"),
+        _ => plan(alloc, RULES.as_slice())?.bin_name("ibsm plan"),
     }
 }
