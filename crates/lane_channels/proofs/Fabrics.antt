@@ -1,6 +1,6 @@
 -- In a fabric that facts describe and that holds tables and lanes, packets take channels by lane from stop to stop.
 use Rattle.std.proofs.Common.{◌≡◌, ◌≢◌, ℕ, zero, suc, ◌<◌, ◌≤◌, ◌+◌, ◌*◌, ◌/◌, ◌%◌, Bool, true, false, cond, ◌||◌, List, [], ◌∷◌, Option, None, Some, length}
-use Rattle.std.proofs.Common.{refl, sym, ap, ◌∙◌, subst, arith, inl, inr}
+use Rattle.std.proofs.Common.{refl, sym, ap, ◌∙◌, subst, arith}
 use Rattle.std.specs.Prelude.{Contains, is_some, slice_get, slice_index_or, map, nat_lt, ◌==◌, ◌&&◌}
 use Rattle.std.specs.Option.{option_map_or}
 use Rattle.std.proofs.lemmas.Bool.{and_from, lt-ltb}
@@ -35,7 +35,6 @@ use Rattle.packet_walks.proofs.FarRows.{has, row_at}
 use Rattle.packet_walks.proofs.Told.{IsClosed, switch_goes, joined_closed}
 use Rattle.audit_channels.specs.Fabrics.{IsChannel}
 use Rattle.lane_channels.specs.Fabrics.{HoldLanes, IsCarried, IsLaneChannel, LaneMaps, came_by}
-use Rattle.lane_channels.specs.LaneStepLaws.{StepLaneChannelsRise}
 use Rattle.lane_channels.specs.Fabrics.{lane_at}
 use Rattle.lane_channels.specs.LaneLaws.{LaneChannelsRise}
 use Rattle.lanes_file.specs.Lanes.{lane_of}
@@ -47,10 +46,7 @@ use Rattle.lane_channels.specs.Stops.{lane_number, port_across}
 use Rattle.lane_channels.specs.FarPorts.{far_port, port_in}
 use Rattle.lane_channels.specs.Stops.{stop_at, stop_by}
 use Rattle.lane_channels.specs.AnyTables.{WaitsByAny, columns_for}
-use Rattle.next_tables.specs.Mixtures.{IsMixed}
-use Rattle.smp_bytes.proofs.Members.{contains_here, contains_later}
 use Rattle.lane_channels.proofs.FarPorts.{index_below}
-use Rattle.lane_channels.proofs.Visits.{no_column}
 
 -- the switch and the port of a stop
 stop_switch : (index port : ℕ) → port ≤ 254 → (256 * index + port) / 256 ≡ index
@@ -531,33 +527,3 @@ lane_channels_rise s answers f origin vl is_end seen holds r level hops t nth ch
     (waits s [] s.seen.held f part seen (joined_closed f seen.is_fabric origin) vl holds t.lid t.is_lid (λ index edge is. (0, is)) level t.source t.node
     t.is_source hops t.end t.goes (nth + 2) carries
     answers nth channel next (omega arith) t.has_level c later)
-
--- the element of a list that is made from another
-mapped_there : (guids : List ℕ) (F : ℕ → Option Edge) (i : ℕ) (edge : Edge) → slice_index_or (map F guids) i None ≡ Some edge
-    → (g : ℕ) × (slice_get guids i ≡ Some g) × Contains guids g × (F g ≡ Some edge)
-mapped_there [] F i edge e = absurd (no_column i edge e)
-mapped_there (x ∷ guids) F zero edge e = (x, refl, contains_here x guids, e)
-mapped_there (x ∷ guids) F (suc i) edge e =
-    let m = mapped_there guids F i edge e in (m.0, m.1, contains_later x m.0 guids m.2, m.3)
-
--- an edge by mixed tables is one by either of them
-among_both : (s : SeenByLane) (next_held mixed : HeldPlan) (lid : ℕ) → IsMixed (cells_of s.seen.facts) s.seen.held next_held lid mixed
-    → IsAmong s (next_held ∷ []) mixed lid
-among_both s next_held mixed lid h index edge e =
-    let cells = cells_of s.seen.facts in
-    let by : HeldPlan → ℕ → Option Edge = λ held g. edge_by (row_of cells g) (entry_for held lid g) in
-    let m = mapped_there (switches cells) (by mixed) index edge e in
-    elim (h.entries m.0 m.2) [
-      | inl same ↦ (0, edge_at (switches cells) (by s.seen.held) index m.0 m.1 ∙ ap (edge_by (row_of cells m.0)) (sym same) ∙ m.3)
-      | inr same ↦ (1, edge_at (switches cells) (by next_held) index m.0 m.1 ∙ ap (edge_by (row_of cells m.0)) (sym same) ∙ m.3)
-    ]
-
-pub step_lane_channels_rise : StepLaneChannelsRise
-step_lane_channels_rise s next_held answers f origin vl is_end holds r level hops t mixed is_mixed seen nth channel next carries c d =
-    let part : Part = IsJoinedTo f origin in
-    let after : nth + 1 ≡ suc nth = omega arith in
-    let later = subst (λ (n : ℕ). IsLaneChannel (cells_of s.seen.facts) f vl level hops n next) after d in
-    r.rises channel next
-    (waits s (next_held ∷ []) mixed f part seen (joined_closed f seen.is_fabric origin) vl holds t.lid t.is_lid
-    (among_both s next_held mixed t.lid is_mixed) level t.source t.node t.is_source hops t.end t.goes (nth + 2) carries answers nth channel next (omega arith)
-    t.has_level c later)
