@@ -3,10 +3,10 @@ use Rattle.clap.specs.Simple.{App, app_of_fields}
 use Rattle.cli_arguments.proofs.Commands.{has_globals}
 use Rattle.cli_arguments.proofs.command_line.program.Goals as goal
 
-versioned : App → App
+abbrev versioned : App → App
 versioned app = record app { top = record app.top { has_version = true } }
 
-required : App → App
+abbrev required : App → App
 required app = record app { top = record app.top { subcommand_required = true } }
 
 pub returns : goal.returns

@@ -10,9 +10,3 @@ returns c app shape is_app is_of =
     IfOk-weaker c.subcommand.result _ _ (λ new h. adds_subcommand c.in_ok-command.field-0 c.in_ok-subcommand.subcommand new app shape h
     (subst (λ r. IfOk r (IsApp app)) c.in_ok-command.was is_app) (subst (λ r. IfOk r (IsOf shape)) c.in_ok-subcommand.was is_of))
     c.subcommand.ensures
-
-pub returns-in_err-subcommand : goal.returns-in_err-subcommand
-returns-in_err-subcommand c app shape is_app is_of = tt
-
-pub returns-in_err-command : goal.returns-in_err-command
-returns-in_err-command c app shape is_app is_of = tt
