@@ -16,6 +16,7 @@ use Rattle.lane_report.specs.declared.levels_missing.PacketPair.{PacketPair}
 use Rattle.sm_cli.specs.declared.audit_asked.LaneAuditAsked.{LaneAuditAsked}
 use Rattle.lane_report.specs.LaneText.{lanes_text}
 use Rattle.lane_report.specs.LevelsMissing.{missing_levels}
+use Rattle.sm_cli.specs.Fault.{IsOutputFault}
 use Rattle.sm_cli.specs.declared.fault.Fault.{Fault}
 use Rattle.sm_cli.specs.InputLanes.{AreLanesAndFiles, AreNoLanesAndFiles}
 use Rattle.sm_cli.specs.declared.input_lanes.LanesAndFiles.{LanesAndFiles}
