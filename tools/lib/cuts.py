@@ -22,6 +22,7 @@ class Pairs:
         self.routes = Routes(facts, held)
         self.held, self.facts = held, facts
         self.count = collections.Counter(held.owners.values())  # LIDs of each end
+        self.at = {end: self.switch_of(end) for end in facts.end_ports()}  # end port: its switch
         self.lost = collections.defaultdict(lambda: [0, 0])  # cable: pairs of adapters, and all pairs
         for is_all in (0, 1):
             self.take(is_all)
@@ -33,21 +34,20 @@ class Pairs:
     def take(self, is_all: int) -> None:
         """Counts, by cable, the pairs whose packets arrive: those of adapters or, if `is_all` is 1, of all end
         ports."""
-        routes, senders = self.routes, [end for end in self.count if is_all or end[1]]
-        at = {end: self.switch_of(end) for end in senders}
-        sources = collections.Counter(switch for switch in at.values() if switch is not None)
-        beside = collections.defaultdict(list)
+        routes = self.routes
+        at = {end: switch for end, switch in self.at.items() if switch is not None and (is_all or end[1])}
+        sources, beside = collections.Counter(at.values()), collections.defaultdict(list)
         for end, switch in at.items():
             beside[switch].append(end)
-        channels, carried, served = routes.ends(), collections.Counter(), collections.Counter()
+        carried, served = collections.Counter(), collections.Counter()
         groups = progress.counted("follows packets, groups of LIDs", routes.groups.items(), len(routes.groups))
         for (home, column), lids in groups:
             owners = collections.Counter(routes.owners[lid] for lid in lids if is_all or routes.owners[lid][1])
             if home is None or not owners:
                 continue
-            arrives, _ = routes.arrivals(home, column)
-            there = {switch: count for switch, count in sources.items() if arrives[switch]}
-            routes.carry(home, column, channels, collections.Counter(there), owners.total(), carried)
+            ways = routes.reached(home, column)
+            routes.carry(ways, column, sources, owners.total(), carried)
+            there = {switch: sources[switch] for switch in ways if sources[switch]}
             for owner, count in owners.items():
                 served[owner] += count * (sum(there.values()) - (owner in at))
             for switch in there:
@@ -141,10 +141,10 @@ class Masks:
     def masks(self, is_all: int) -> collections.Counter[int]:
         """Counts the pairs of each mask of cables."""
         pairs, routes, found = self.pairs, self.pairs.routes, collections.Counter()
-        senders = [end for end in pairs.count if (is_all or end[1]) and pairs.switch_of(end) is not None]
         beside = collections.defaultdict(collections.Counter)
-        for end in senders:
-            beside[pairs.switch_of(end)][self.bits_of(end) if end[1] else 0] += 1
+        for end, at in pairs.at.items():
+            if at is not None and (is_all or end[1]):
+                beside[at][self.bits_of(end) if end[1] else 0] += 1
         channels = {it: self.bits_of((routes.guids[it[0]], it[1])) for it in routes.ends()}
         what = "follows packets over cables, groups of LIDs"
         groups = progress.counted(what, routes.groups.items(), len(routes.groups))
@@ -161,23 +161,17 @@ class Masks:
                 own = self.bits_of(owner) if owner[1] else 0
                 for mask, number in sent.items():
                     found[mask | own] += number * count
-                if pairs.switch_of(owner) in on_way and (is_all or owner[1]):
-                    found[on_way[pairs.switch_of(owner)] | own] -= count
+                if owner in pairs.at:
+                    found[on_way[home] | own] -= count
         return found
 
     def on_way(self, home: int, column: bytes, channels: dict[tuple[int, int], int]) -> dict[int, int]:
         """Returns, for each switch from which packets arrive, the bits of the cables between switches that they
         take."""
-        routes = self.pairs.routes
-        arrives, _ = routes.arrivals(home, column)
-        found = {home: 0} if arrives.get(home) else {}
-        for start in (at for at, ended in arrives.items() if ended):
-            passed, at = [], start
-            while at not in found:
-                passed.append(at)
-                at = routes.step(at, home, column)[0]
-            for at in reversed(passed):
-                found[at] = found[routes.step(at, home, column)[0]] | channels.get((at, column[at]), 0)
+        routes, found = self.pairs.routes, {}
+        for at, cables in routes.reached(home, column).items():
+            port = column[at]
+            found[at] = found[routes.nexts[at][port]] | channels.get((at, port), 0) if cables else 0
         return found
 
 

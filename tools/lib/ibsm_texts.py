@@ -290,6 +290,10 @@ class Facts:
         """Returns whether a node is known to be a switch."""
         return self.type_of(guid) == "switch"
 
+    def end_ports(self) -> list[End]:
+        """Returns the end ports: port 0 of each switch, and the other ports of each adapter, if their GUID is known."""
+        return [end for end in self.port_guids if self.type_of(end[0]) and self.is_switch(end[0]) == (end[1] == 0)]
+
     def wire(self, end: End) -> End | None:
         """Returns the far end of the cable in a port if both ends report it and are up, or else None."""
         far = self.links.get(end)
@@ -384,5 +388,5 @@ class Plan:
         return self.tables[guid][lid] if lid <= self.tops.get(guid, -1) else NO_WAY
 
     def row(self, guid: int) -> bytes:
-        """Returns the entries of a switch from LID 0 up to its top."""
-        return self.tables[guid][: self.tops[guid] + 1]
+        """Returns the entries of a switch from LID 0 up to its top; none of a switch without tables."""
+        return self.tables[guid][: self.tops[guid] + 1] if guid in self.tables else b""

@@ -50,7 +50,7 @@
       if (!arrives(at, lid, home, exit)) continue;
       const passes = over(at, port, lid, home, exit);
       let count = 0;
-      for (const sender of net.sends) {
+      for (let sender = 0; sender < net.homes.length; sender++) {
         if (sender === owner || passes[net.homes[sender][0]] !== 1) continue;
         senders.set(sender, (senders.get(sender) || 0) + 1);
         count++;

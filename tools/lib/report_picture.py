@@ -31,10 +31,10 @@ class Picture:
         roots: Iterable[int], most: int,
     ) -> None:
         self.facts, self.held, self.routes, self.names = facts, held, routes, names
-        self.loads = routes.carried()
+        self.loads = routes.carried
         self.ends = routes.ends()
         self.busiest = sorted(self.loads, key=lambda channel: (-self.loads[channel], channel))[:most]
-        self.at_home = collections.Counter(home for home, _ in routes.home.values())
+        self.at_home = routes.senders
         self.shown, self.is_part = self.which()
         self.frames = {}
         self.places = self.in_groups(group_of) if group_of is not None else self.in_rows(roots)
@@ -145,12 +145,10 @@ class Picture:
             far.append(ports)
         rows = b"".join(self.held.row(guid)[:width].ljust(width, bytes([NO_WAY])) for guid in routes.guids)
         owners = [(lid, number[end]) for lid, end in sorted(self.held.owners.items()) if end in number]
-        sending = {number[end] for end in set(self.held.owners.values()) if end in number}
         return {
             "switches": [self.name(i) for i in range(len(routes.guids))],
             "adapters": [self.end_name(end) for end in adapters],
             "homes": [list(routes.home[end]) for end in adapters],
-            "sends": sorted(sending),
             "far": far,
             "owners": owners,
             "width": width,

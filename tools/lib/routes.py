@@ -24,25 +24,27 @@ class Routes:
     """The routes of packets by the tables of a plan."""
 
     def __init__(self, facts: Facts, plan: Plan) -> None:
-        self.plan, self.owners, self.guids = plan, plan.owners, sorted(plan.tables)
+        self.plan, self.owners = plan, plan.owners
+        # A usable switch without tables has no entries.
+        self.guids = sorted(plan.tables.keys() | {guid for guid in facts.caps if facts.is_switch(guid)})
         self.index = {guid: i for i, guid in enumerate(self.guids)}
         self.far = [{} for _ in self.guids]  # port: far end
-        for (guid, port) in facts.links:
-            far = facts.wire((guid, port))
-            if guid in self.index and far:
-                self.far[self.index[guid]][port] = far
         self.home = {}  # adapter port: its switch and the port there
-        for i, ports in enumerate(self.far):
-            for port, end in ports.items():
-                if end[0] not in self.index:
-                    self.home[end] = i, port
+        adapters = {end for end in facts.end_ports() if end[1]}
+        for end in facts.links:
+            far = facts.wire(end)
+            if far and end[0] in self.index:
+                self.far[self.index[end[0]]][end[1]] = far
+            elif far and end in adapters and far[0] in self.index:
+                self.home[end] = self.index[far[0]], far[1]
 
     def columns(self, lids: Iterable[int]) -> Iterator[tuple[int, bytes]]:
         """Yields each LID with its column. `lids` must rise. Joins only one block of each switch at a time."""
+        tables, tops = self.plan.tables, self.plan.tops
         for number, those in itertools.groupby(lids, lambda it: it // ENTRIES):
             start = number * ENTRIES
             stripe = b"".join(
-                self.plan.tables[guid][start : min(start + ENTRIES, self.plan.tops[guid] + 1)].ljust(ENTRIES, NONE)
+                tables.get(guid, b"")[start : min(start + ENTRIES, tops.get(guid, 0) + 1)].ljust(ENTRIES, NONE)
                 for guid in self.guids
             )
             for lid in those:
@@ -118,10 +120,10 @@ class Routes:
         Goes switch by switch only if something is wrong with a column. If a LID has the same column as the LID before
         it at the same switch, it is not followed again.
         """
-        nexts, last, odd, without = self.nexts(), {}, collections.defaultdict(list), 0
+        last, odd, without = {}, collections.defaultdict(list), 0
         for lid, home, column in progress.counted("follows packets for LIDs", self.owned(), len(self.owners)):
             if home not in last or last[home][0] != column:
-                last[home] = column, self.lost(nexts, home, column)
+                last[home] = column, self.lost(home, column)
             count = last[home][1]
             if count is None:
                 odd[home, column].append(lid)
@@ -135,6 +137,7 @@ class Routes:
             found += [f"a packet for LID {lids[0]}{alike}: {fault}" for fault in wrong[:MOST_SAID]]
         return found, without
 
+    @functools.cached_property
     def nexts(self) -> list[list[int]]:
         """Returns, for each switch and entry, the next switch. The three numbers after those of switches stand for an
         arrival, the entry 255, and a fault."""
@@ -149,13 +152,13 @@ class Routes:
             found.append(row)
         return found
 
-    def lost(self, nexts: list[list[int]], home: int | None, column: bytes) -> int | None:
+    def lost(self, home: int | None, column: bytes) -> int | None:
         """Returns from how many switches packets end at an entry 255, or None if a packet loops or ends with a fault.
 
         All packets advance together, twice as far in each round as in the one before, until none moves any more.
         """
         count = len(self.guids)
-        at = [*map(operator.getitem, nexts, column), count, count + 1, count + 2]
+        at = [*map(operator.getitem, self.nexts, column), count, count + 1, count + 2]
         if home is not None:
             at[home] = count
         steps, at, before = 1, tuple(at), None
@@ -171,39 +174,49 @@ class Routes:
         return {(i, port): self.index[end[0]] for i, ports in enumerate(self.far) for port, end in ports.items()
                 if end[0] in self.index}
 
+    @functools.cached_property
+    def senders(self) -> collections.Counter[int]:
+        """Counts the adapter ports at each switch, each of which sends."""
+        return collections.Counter(home for home, _ in self.home.values())
+
+    def reached(self, home: int | None, column: bytes) -> dict[int, int]:
+        """Returns the switches from which packets arrive by a column, nearest first, each with the number of cables
+        between switches that they take."""
+        behind = collections.defaultdict(list)
+        for at, far in enumerate(map(operator.getitem, self.nexts, column)):
+            behind[far].append(at)
+        found = {} if home is None else {home: 0}
+        order = list(found)
+        for near in order:
+            if near in behind:
+                order += behind[near]
+                found |= dict.fromkeys(behind[near], found[near] + 1)
+        return found
+
+    @functools.cached_property
     def carried(self) -> dict[Channel, int]:
-        """Returns, for each channel, the number of routes that it carries: one for each adapter port and each LID of
-        another adapter port."""
-        ends = self.ends()
-        carried = dict.fromkeys(ends, 0)
-        sources = collections.Counter(self.home[end][0] for end in set(self.owners.values()) if end in self.home)
+        """Returns, for each channel, the number of pairs of an adapter port and a LID of another one whose packets take
+        it and arrive."""
+        carried = dict.fromkeys(self.ends(), 0)
         for (home, column), lids in self.groups.items():
             count = sum(self.owners[lid] in self.home for lid in lids)
-            if count and home is not None:
-                self.carry(home, column, ends, sources, count, carried)
+            if count:
+                self.carry(self.reached(home, column), column, self.senders, count, carried)
         return carried
 
     def carry(
         self,
-        home: int,
+        ways: dict[int, int],
         column: bytes,
-        ends: dict[Channel, int],
         sources: collections.Counter[int],
         count: int,
         carried: dict[Channel, int],
     ) -> None:
-        """Adds the routes of one column to `carried`, beginning with the switches that no other switch sends to."""
-        ahead = [ends.get((at, port)) if at != home else None for at, port in enumerate(column)]
-        waits = collections.Counter(ahead)
-        routes = [sources[at] for at in range(len(column))]
-        ready = [at for at in range(len(column)) if not waits[at]]
-        while ready:
-            at = ready.pop()
-            far = ahead[at]
-            if far is None:
-                continue
-            carried[at, column[at]] += count * routes[at]
-            routes[far] += routes[at]
-            waits[far] -= 1
-            if not waits[far]:
-                ready.append(far)
+        """Adds to `carried` the packets of a column from the switches that `reached` returns, `count` packets from each
+        source."""
+        sent = {at: sources[at] for at in ways}
+        for at, cables in reversed(ways.items()):
+            if cables:
+                port = column[at]
+                carried[at, port] += count * sent[at]
+                sent[self.nexts[at][port]] += sent[at]

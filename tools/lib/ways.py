@@ -31,7 +31,7 @@ def hops_of(ways: Routes) -> collections.Counter[int]:
 
 def told_of_ways(ways: Routes) -> str:
     """Returns the lines `hops` and `load` of an audit."""
-    hops, loads = hops_of(ways), ways.carried().values()
+    hops, loads = hops_of(ways), ways.carried.values()
     pairs, wires = sum(hops.values()), sum(number * count for number, count in hops.items())
     told = f"max {max(hops)} mean {hundredths(wires, pairs)}" if pairs else "none"
     load = f"max {max(loads)} mean {hundredths(sum(loads), len(loads))}" if loads else "none"
@@ -40,5 +40,5 @@ def told_of_ways(ways: Routes) -> str:
 
 def told_of_unused(ways: Routes) -> str:
     """Returns the line that counts channels without a route."""
-    loads = ways.carried().values()
+    loads = ways.carried.values()
     return f"unused {sum(not load for load in loads)} of {len(loads)}\n"
