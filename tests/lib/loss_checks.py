@@ -1,9 +1,17 @@
 """What `tests/test-files` checks of tools that follow packets, by tables that lose some of them."""
 from __future__ import annotations
 
+import os
+import pathlib
+import subprocess
+
 import sample_fabrics
+from record_files import store_of
 from report_checks import FAKE, SOUND
+from sample_fabrics import Fabric, Tables
 from tool_room import Room
+
+Rows = dict[str, tuple[str, str, str]]
 
 
 def without_cable(facts: str, *ends: str) -> str:
@@ -13,6 +21,14 @@ def without_cable(facts: str, *ends: str) -> str:
     return facts
 
 
+def row_of_three() -> tuple[Fabric, Tables]:
+    """Returns three switches in a row, with an adapter at each end, and tables of its ways. The LIDs of the adapters
+    are 4 and 5."""
+    fabric = sample_fabrics.line(3)
+    fabric.join(fabric.add(sample_fabrics.ADAPTER, "H2", 0x1000020, 1), "S3")
+    return fabric, fabric.shortest()
+
+
 def cut_tree() -> tuple[str, str]:
     """Returns facts and tables of two leaves, each with two adapters, and two spines. All ways to the other leaf lead
     over the first spine, but for those to the last LID, and the cable from there to the second leaf is cut."""
@@ -20,6 +36,52 @@ def cut_tree() -> tuple[str, str]:
     tables = fabric.shortest()
     tables["S1"][8] = 4
     return without_cable(fabric.facts(), "0000000000000020/3", "0000000000000030/2"), fabric.plan(tables)
+
+
+def cases(room: Room) -> Rows:
+    """Returns, by what is tried, facts, tables, and the lines of `balance`."""
+    facts, plan = room.text("t.facts"), room.text("t.plan")
+    row, tables = row_of_three()
+    whole = row.plan(tables)
+    tables["S2"][5] = 255
+    tableless = plan[: plan.index("switch 0000000000000010")] + plan[plan.index("switch 0000000000000020") :]
+    # On the row one packet takes four wires and two of four channels. On the triangle one takes three wires and one of
+    # six channels; if both arrive, they take both channels of a cable.
+    one_on_row = "hops max 4 mean 4.00\nload max 1 mean 0.50\nunused 2 of 4\n"
+    both = "hops max 3 mean 3.00\nload max 1 mean 0.33\nunused 4 of 6\n"
+    return {
+        "a cable that is cut": (
+            without_cable(facts, "0000000000000020/2", "0000000000000030/2"),
+            plan,
+            "hops none\nload max 0 mean 0.00\nunused 4 of 4\n",
+        ),
+        "packets that go round": (
+            facts, room.text("round.plan"), "hops max 3 mean 3.00\nload max 1 mean 0.16\nunused 5 of 6\n"
+        ),
+        "packets lost behind a channel": (row.facts(), row.plan(tables), one_on_row),
+        "an adapter without a LID": (row.facts(), whole.replace("lid 5 0000000001000020/1\n", ""), one_on_row),
+        "a switch without tables": (facts, tableless, both),
+        # Four pairs of adapters at one switch or leaf take two wires, and two pairs take four.
+        "a tree with a cut": (*cut_tree(), "hops max 4 mean 2.66\nload max 2 mean 0.66\nunused 4 of 6\n"),
+    }
+
+
+def audited(room: Room, program: pathlib.Path, facts: str, plan: str) -> str:
+    """Returns the text of an audit."""
+    (room.path / "lossy.store").write_bytes(store_of(facts))
+    words = [program, "audit", "lossy.plan", "lossy.store"]
+    room.put(lossy_plan=plan)
+    return subprocess.run(words, cwd=room.path, text=True, capture_output=True).stdout
+
+
+def figures(room: Room, program: pathlib.Path) -> None:
+    """Checks that `balance` counts the packets that arrive, as an audit does."""
+    for what, (facts, plan, told) in cases(room).items():
+        room.put(lossy_facts=facts, lossy_plan=plan)
+        room.check(room.run("balance lossy.facts lossy.plan", 0) == told, f"balance: {what}")
+        if os.access(program, os.X_OK):
+            figures_told = told[: told.index("unused")]
+            room.check(figures_told in audited(room, program, facts, plan), f"the audit of {what}: {figures_told}")
 
 
 def page(room: Room) -> None:
@@ -34,3 +96,9 @@ def page(room: Room) -> None:
     room.check("by both counts" in text and "THE COUNTS DIFFER" not in text, "the page counts as the audit does")
     for channel, pairs in ("10 port 4 \u2192 40 port 1", 2), ("10 port 3 \u2192 30 port 1", 0):
         room.check(f"{channel}: {pairs} pairs" in text, f"{channel} carries {pairs} pairs")
+
+
+def losses(room: Room, program: pathlib.Path) -> None:
+    """Checks tools that follow packets, by tables that lose some of them."""
+    figures(room, program)
+    page(room)

@@ -4,7 +4,6 @@ from __future__ import annotations
 
 import collections
 
-from ibsm_texts import NO_WAY
 from routes import Routes
 
 
@@ -14,18 +13,13 @@ def hundredths(total: int, count: int) -> str:
 
 
 def hops_of(ways: Routes) -> collections.Counter[int]:
-    """Counts the packets between adapter ports by the number of wires that they take."""
+    """Counts the packets between adapter ports that arrive by the number of wires that they take."""
     hops = collections.Counter()
-    sources = collections.Counter(ways.home[end][0] for end in set(ways.owners.values()) if end in ways.home)
     for (home, column), lids in ways.groups.items():
         targets = sum(ways.owners[lid] in ways.home for lid in lids)
-        for start, count in sources.items() if targets else ():
-            at, wires = start, 2
-            while at != home and column[at] != NO_WAY:
-                at, wires = ways.index[ways.far[at][column[at]][0]], wires + 1
-            if at == home:
-                # A port sends itself no packet.
-                hops[wires] += targets * (count - (start == home))
+        for at, cables in ways.reached(home, column).items() if targets else ():
+            # A port sends itself no packet.
+            hops[cables + 2] += targets * (ways.senders[at] - (at == home))
     return +hops
 
 
