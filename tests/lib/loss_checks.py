@@ -44,6 +44,7 @@ def cases(room: Room) -> Rows:
     row, tables = row_of_three()
     whole = row.plan(tables)
     tables["S2"][5] = 255
+    cabled = sample_fabrics.cabled_adapters()
     tableless = plan[: plan.index("switch 0000000000000010")] + plan[plan.index("switch 0000000000000020") :]
     # On the row one packet takes four wires and two of four channels. On the triangle one takes three wires and one of
     # six channels; if both arrive, they take both channels of a cable.
@@ -63,6 +64,10 @@ def cases(room: Room) -> Rows:
         "a switch without tables": (facts, tableless, both),
         # Four pairs of adapters at one switch or leaf take two wires, and two pairs take four.
         "a tree with a cut": (*cut_tree(), "hops max 4 mean 2.66\nload max 2 mean 0.66\nunused 4 of 6\n"),
+        # Two pairs take two wires, and two take the cable between the adapters.
+        "adapters cabled to each other": (
+            cabled.facts(), cabled.plan(cabled.shortest()), "hops max 2 mean 1.50\nload none\nunused 0 of 0\n"
+        ),
     }
 
 

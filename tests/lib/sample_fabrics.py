@@ -112,6 +112,8 @@ class Fabric:
         tables = {name: [255] * (len(self.ends()) // 64 + 1) * 64 for name in self.nodes if self.is_switch(name)}
         for lid, (name, port) in enumerate(self.ends(), 1):
             at, out = (name, 0) if port == 0 else self.peers[name, port]
+            if at not in tables:
+                continue
             tables[at][lid] = out
             waiting = collections.deque([at])
             while waiting:
@@ -239,6 +241,16 @@ def two_ports(count: int) -> Fabric:
         host = fabric.add(ADAPTER, f"H{i + 1}", 0x1000000 + 16 * i)
         fabric.join(host, switches[i])
         fabric.join(host, switches[count + i])
+    return fabric
+
+
+def cabled_adapters() -> Fabric:
+    """Returns a switch with two adapters, which also have a cable to each other."""
+    fabric = Fabric()
+    fabric.switches(1)
+    for i in (1, 2):
+        fabric.join(fabric.add(ADAPTER, f"H{i}", 0x1000000 + 16 * i), "S1")
+    fabric.join("H1", "H2")
     return fabric
 
 

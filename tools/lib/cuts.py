@@ -58,6 +58,8 @@ class Pairs:
         for end, count in served.items():
             if end[1]:
                 self.lost[self.cable(end)][is_all] += count
+        for end, far in routes.partners.items():
+            self.lost[self.cable(end)][is_all] += self.count[far]
 
     def cable(self, end: End) -> Cable:
         """Returns the two ends of the cable in a port, the lesser first, or the port twice if it has no cable that is

@@ -30,13 +30,17 @@ class Routes:
         self.index = {guid: i for i, guid in enumerate(self.guids)}
         self.far = [{} for _ in self.guids]  # port: far end
         self.home = {}  # adapter port: its switch and the port there
+        self.partners = {}  # adapter port cabled to another one: that one
         adapters = {end for end in facts.end_ports() if end[1]}
         for end in facts.links:
             far = facts.wire(end)
             if far and end[0] in self.index:
                 self.far[self.index[end[0]]][end[1]] = far
-            elif far and end in adapters and far[0] in self.index:
-                self.home[end] = self.index[far[0]], far[1]
+            elif far and end in adapters:
+                if far[0] in self.index:
+                    self.home[end] = self.index[far[0]], far[1]
+                elif far in adapters:
+                    self.partners[end] = far
 
     def columns(self, lids: Iterable[int]) -> Iterator[tuple[int, bytes]]:
         """Yields each LID with its column. `lids` must rise. Joins only one block of each switch at a time."""

@@ -20,6 +20,8 @@ def hops_of(ways: Routes) -> collections.Counter[int]:
         for at, cables in ways.reached(home, column).items() if targets else ():
             # A port sends itself no packet.
             hops[cables + 2] += targets * (ways.senders[at] - (at == home))
+    lids = collections.Counter(ways.owners.values())
+    hops[1] += sum(lids[far] for far in ways.partners.values())
     return +hops
 
 
