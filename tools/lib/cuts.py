@@ -24,6 +24,8 @@ class Pairs:
         self.count = collections.Counter(held.owners.values())  # LIDs of each end
         self.at = {end: self.switch_of(end) for end in facts.end_ports()}  # end port: its switch
         self.lost = collections.defaultdict(lambda: [0, 0])  # cable: pairs of adapters, and all pairs
+        # By the switches from which packets arrive, a byte for each: the owners of such LIDs, with how many they have.
+        self.arriving = collections.defaultdict(collections.Counter)
         for is_all in (0, 1):
             self.take(is_all)
 
@@ -53,6 +55,8 @@ class Pairs:
             for switch in there:
                 for end in beside[switch]:
                     served[end] += owners.total() - owners[end]
+            if is_all:
+                self.arriving[bytes(map(ways.__contains__, range(len(column))))] += owners
         for (i, port), count in carried.items():
             self.lost[self.cable((routes.guids[i], port))][is_all] += count
         for end, count in served.items():
@@ -68,25 +72,17 @@ class Pairs:
         return (min(end, far), max(end, far)) if far else (end, end)
 
     def cut_off(self, cables: Sequence[Cable]) -> int:
-        """Counts the pairs of an end port and a LID that are joined now, and would not be without these cables."""
-        cut, found = {end for cable in cables for end in cable}, 0
-        # The ends of the cables, and then the end ports that stay joined to each of them.
-        left = {(end[0], 0) if self.facts.is_switch(end[0]) else end for end in cut}
-        sides, seen = [], set()
-        for end in sorted(left):
-            if end not in seen:
-                sides.append(self.side(end, cut))
-                seen |= sides[-1]
-        counts = [[self.count[end] for end in side if end in self.count] for side in sides]
-        wholes = []
-        for side in sides:
-            if not any(side & whole for whole in wholes):
-                wholes.append(self.side(min(side), set()))
-        wholes = [next(i for i, whole in enumerate(wholes) if side & whole) for side in sides]
-        for i, one in enumerate(counts):
-            for j, other in enumerate(counts):
-                if i != j and wholes[i] == wholes[j]:
-                    found += len(one) * sum(other)
+        """Counts the pairs whose packets arrive now, and which nothing joins without these cables."""
+        cut, side = {end for cable in cables for end in cable}, {}
+        for end in cut:
+            start = (end[0], 0) if self.facts.is_switch(end[0]) else end
+            if start not in side:
+                side |= dict.fromkeys(self.side(start, cut), start)
+        found = sum(self.count[far] for end, far in self.routes.partners.items() if side.get(end) != side.get(far))
+        for arrives, owners in self.arriving.items():
+            senders = [side.get(end) for end, at in self.at.items() if at is not None and arrives[at]]
+            on_side = collections.Counter(senders)
+            found += sum(count * (len(senders) - on_side[side.get(owner)]) for owner, count in owners.items())
         return found
 
     def side(self, start: End, cut: Collection[End]) -> set[End]:
