@@ -15,7 +15,7 @@ RATE = r"\d+x [A-Z]+ [0-9.]+ Gb/s"
 KINDS = ("lost", "misdelivered", "round", "unowned", "twice", "unknown", "tableless", "unusable", "lidless", "unjoined")
 MISSED = ("above-top", "no-entry", "no-port", "no-link", "foreign", "misdelivered", "round")
 # A name after a GUID or an end.
-NAMED = re.compile(r'(?<![0-9A-Za-z_"])(([0-9a-f]{16})(?:/[0-9]{1,3})?) "([^"]*)"')
+NAMED = re.compile(r'(?<![0-9A-Za-z_"])((?:0x)?([0-9a-f]{16})(?:/[0-9]{1,3})?) "([^"]*)"')
 
 
 def typed(words: str) -> dict[str, str | int]:
