@@ -103,7 +103,19 @@ def page(room: Room) -> None:
         room.check(f"{channel}: {pairs} pairs" in text, f"{channel} carries {pairs} pairs")
 
 
+def the_only_switch(room: Room) -> None:
+    """Checks what is lost without the only switch of a subnet, if nothing else is there: its packet to itself is not
+    lost."""
+    lone = sample_fabrics.Fabric()
+    lone.switches(1)
+    room.put(lone_facts=lone.facts(), lone_plan=lone.plan(lone.shortest()), fake_plan="", fake=FAKE)
+    (room.path / "fake").chmod(0o755)
+    printed = room.run("what-if lone.facts lone.plan --switches --ibsm ./fake", 0).splitlines()
+    room.check(printed[1].split() == ["0"] * 5 + ["0000000000000010"], f"without the only switch: {printed}")
+
+
 def losses(room: Room, program: pathlib.Path) -> None:
     """Checks tools that follow packets, by tables that lose some of them."""
     figures(room, program)
+    the_only_switch(room)
     page(room)

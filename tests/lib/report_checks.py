@@ -171,11 +171,14 @@ def names_as_text(room: Room, words: str) -> None:
 
 def refused(room: Room) -> None:
     """Checks files and command lines for which there is no page."""
+    room.put(bare_facts="floor 5\n")
     for words, why, status in (
         ("none t.plan -o x.html", "none: no nodes", 3),
         ("t.facts nothing -o x.html", "nothing", 4),
         ("t.facts t.plan -o nowhere/x.html", "nowhere/x.html", 4),
         ("t.facts t.plan -o x.html --was nothing", "nothing", 4),
+        ("t.facts t.plan -o x.html --was none", "none: no facts", 3),
+        ("t.facts t.plan -o x.html --was bare.facts", "bare.facts: no facts", 3),
     ):
         room.refused(f"report {words} --ibsm ./fake", why, status)
     room.put(audit_text="nonsense\n")

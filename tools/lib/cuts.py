@@ -191,7 +191,7 @@ def facts_without(facts: Facts, held: Plan, cut: Collection[End] = (), switches:
             if kind == "claim" and at in held.ranges:
                 rest[0] = str(held.ranges[at][0])
         lines.append(" ".join([kind, end, *rest]))
-    return "\n".join(lines) + "\n"
+    return "".join(f"{line}\n" for line in lines)
 
 
 def changed(old: Plan, new: Plan) -> tuple[int, int]:
