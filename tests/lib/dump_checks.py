@@ -88,6 +88,46 @@ def lmcs(room: Room) -> None:
     room.check("2 LIDs, from 3 on, have entries, and no dump tells whose they are" in room.said, "LIDs of nobody")
     turned(room, "triangle-lmc.ibnetdiscover triangle-lmc.fdbs --cap 1024 --tables held", facts)
     room.check(room.text("held") == tables, "the LMC that ibnetdiscover tells")
+    named_lids(room)
+
+
+# A switch with LID 1 and an adapter with LID 2, and what dump_fts prints of the switch if no packet for the adapter's
+# first LID leaves it.
+LST = (
+    "{ SW Ports:02 SystemGUID:10 NodeGUID:10 PortGUID:10 VenID:0 DevID:0 Rev:0 {s} LID:0001 PN:01 } "
+    "{ CA Ports:01 SystemGUID:20 NodeGUID:20 PortGUID:21 VenID:0 DevID:0 Rev:0 {h} LID:0002 PN:01 } "
+    "PHY=4x LOG=ACT SPD=10\n"
+)
+FTS = """Unicast lids [0x0-0x3] of switch Lid 1 guid 0x0000000000000010 (s):
+0x0001 000 : (Switch portguid 0x0000000000000010: 's')
+0x0003 001 : (Channel Adapter portguid 0x0000000000000021: 'h')
+2 valid lids dumped
+"""
+
+
+def named_lids(room: Room) -> None:
+    """Checks the LMC of an adapter's port of which a dump of tables names the second LID, the first one, or both."""
+    both = FTS.replace("0x0003", "0x0002 001 : (Channel Adapter portguid 0x0000000000000021: 'h')\n0x0003")
+    both = both.replace("2 valid", "3 valid")
+    room.put(one_lst=LST, second_fts=FTS, first_fts=FTS.replace("0x0003", "0x0002"), both_fts=both)
+    for dump, options, lmc in (
+        ("second.fts", "--lmc 1", " lmc 1"),
+        ("first.fts", "--lmc 1", " lmc 1"),
+        ("first.fts", "--lmc 0", ""),
+        ("first.fts", "", ""),
+        ("both.fts", "", " lmc 1"),
+        ("both.fts", "--lmc 0", " lmc 1"),
+        ("both.fts", "--lmc 2", " lmc 1"),
+    ):
+        room.run(f"from-dumps one.lst {dump} --cap 64 --tables held {options}", int(dump != "both.fts" and bool(lmc)))
+        lids = [line for line in room.text("held").splitlines() if line.startswith("lid ")]
+        room.check(lids == ["lid 1 0000000000000010/0", f"lid 2 0000000000000020/1{lmc}"], f"{dump} {options}: {lids}")
+        room.check("LMC" not in room.said, f"{dump} {options}: no LMC is assumed")
+    for options in "", "--lmc 0":
+        room.refused(
+            f"from-dumps one.lst second.fts --cap 64 --tables held {options}",
+            "port 0000000000000020/1 claims LID 2, and the dumps give it 3: are they of one time?",
+        )
 
 
 def parts(room: Room) -> None:

@@ -6,22 +6,23 @@ from ibsm_texts import End, Facts, name_of
 
 
 def lids_of(
-    facts: Facts, dump: Dump, lmcs: dict[End, int] | None = None
+    facts: Facts, dump: Dump, lmcs: dict[End, int] | None = None, lmc: int | None = None
 ) -> tuple[dict[End, tuple[int, int]], list[str]]:
     """Returns the first and the last LID of each end port, by facts, dumps and known LMCs, and a line for each case in
-    which these disagree."""
-    by_guid, ranges, found = {}, {}, []
+    which these disagree. `lmc` is that of an adapter's port if it is not known, and dumps do not name several LIDs of
+    the port that are a whole range."""
+    by_guid, ranges, found, lmcs = {}, {}, [], lmcs or {}
     for lid, guid in sorted(dump.named.items()):
         by_guid.setdefault(guid, []).append(lid)
     for end, guid in sorted(facts.port_guids.items()):
         claimed, named = facts.claims.get(end, 0), by_guid.pop(guid, [])
         first = claimed or (named[0] if named else 0)
-        count = len(named) if named and named[-1] - first + 1 == len(named) else 1
-        if lmcs and end in lmcs:
-            count = 2 ** lmcs[end]
+        count = len(named) or 1
+        goes = not named or named == [*range(first, first + count)] and not count & (count - 1)
+        known = lmcs.get(end, lmc if end[1] and not (goes and count > 1) else None)
+        if known is not None:
+            count = 2**known
             goes = not named or first <= named[0] and named[-1] < first + count
-        else:
-            goes = not named or named[0] == first and count == len(named) and not count & (count - 1)
         if not goes:
             given = ", ".join(map(str, named[:8]))
             told = f"claims LID {claimed}, and the dumps give it {given}: are they of one time?"
