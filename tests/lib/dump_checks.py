@@ -146,6 +146,13 @@ def parts(room: Room) -> None:
     without = facts.replace("portguid 0000000000000030/0 0000000000000030 @1\n", "")
     turned(room, "old.ibnd --cap 1024", without, 1)
     room.check("1 switches: no dump tells the GUID of port 0" in room.said, "old ibnetdiscover tells no port GUIDs")
+    for dump in "triangle.fts", "triangle.lfts", "triangle.fdbs":
+        turned(room, f"old.ibnd {dump} --cap 1024 --tables held", without, 1)
+        room.check(room.text("held") == tables, f"its LID is that of port 0, beside {dump}")
+        room.check("whose they are" not in room.said, f"and has an owner: {room.said}")
+    other = room.text("triangle.fts").replace("portguid 0x0000000000000030", "portguid 0x0000000000000020")
+    room.put(other_fts=other)
+    room.refused("from-dumps old.ibnd other.fts --cap 1024 --tables held", "claims LID 4, and the dumps give it 4, 5")
     last = "{ SW Ports:04 SystemGUID:0000000000000030"
     half = "".join(line for line in room.text("triangle.lst").splitlines(True) if not line.startswith(last))
     room.put(half_lst=half)

@@ -5,6 +5,17 @@ from dump_tables import Dump
 from ibsm_texts import End, Facts, name_of
 
 
+def port_guids(facts: Facts, dump: Dump) -> dict[End, int | None]:
+    """Returns the GUIDs of end ports. If the facts do not have a port's GUID, as of port 0 in an older ibnetdiscover's
+    output, it is that of the owner, by the dumps, of the LID that the port claims; None if no dump names the owner, or
+    the facts know this GUID as another port's."""
+    known, found = set(facts.port_guids.values()), dict(facts.port_guids)
+    for end, lid in facts.claims.items():
+        if lid and end not in found and facts.is_switch(end[0]) == (end[1] == 0):
+            found[end] = None if dump.named.get(lid) in known else dump.named.get(lid)
+    return found
+
+
 def lids_of(
     facts: Facts, dump: Dump, lmcs: dict[End, int] | None = None, lmc: int | None = None
 ) -> tuple[dict[End, tuple[int, int]], list[str]]:
@@ -14,7 +25,7 @@ def lids_of(
     by_guid, ranges, found, lmcs = {}, {}, [], lmcs or {}
     for lid, guid in sorted(dump.named.items()):
         by_guid.setdefault(guid, []).append(lid)
-    for end, guid in sorted(facts.port_guids.items()):
+    for end, guid in sorted(port_guids(facts, dump).items()):
         claimed, named = facts.claims.get(end, 0), by_guid.pop(guid, [])
         first = claimed or (named[0] if named else 0)
         count = len(named) or 1
