@@ -17,9 +17,9 @@ pub fn labelled_go_on()
     ensures law { LabelledGoOn }
 {}
 
-/// Suppose that each edge has an edge back, the first order grows by some positions, and the second order grows by
-/// other positions in the tree of the first. Suppose also that at first only the targets have labels, down by both
-/// orders. Then each vertex from which a walk leads to a target gets a label.
+/// If each edge has an edge back, the first order grows by some positions, the second order grows by other positions in
+/// the tree of the first, and at first only the targets have labels, down by both orders, then each vertex from which a
+/// walk leads to a target gets a label.
 pub fn all_get_labels()
     ensures law { AllGetLabels }
 {}
@@ -30,8 +30,8 @@ pub fn agreement_stays()
     ensures law { AgreementStays }
 {}
 
-/// Suppose that positions agree, on the first k vertices, with the order that grows by a plan. Then the order that
-/// grows by the plan in the tree of these positions agrees with the plan's order on the first k + 1 vertices.
+/// If positions agree, on the first k vertices, with the order that grows by a plan, then the order that grows by the
+/// plan in the tree of these positions agrees with the plan's order on the first k + 1 vertices.
 pub fn agreement_grows()
     ensures law { AgreementGrows }
 {}
@@ -41,9 +41,9 @@ pub fn grows_again()
     ensures law { GrowsAgain }
 {}
 
-/// Suppose that each edge has an edge back, vertices have different positions, and each vertex except the first of its
-/// component has a neighbor at an earlier position. Then the order that grows by the positions keeps the order of the
-/// positions within each component.
+/// If each edge has an edge back, vertices have different positions, and each vertex except the first of its component
+/// has a neighbor at an earlier position, then the order that grows by the positions keeps the order of the positions
+/// within each component.
 pub fn grown_orders_stay()
     ensures law { GrownOrdersStay }
 {}
