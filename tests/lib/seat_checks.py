@@ -113,14 +113,15 @@ def seated(
 
 @contextlib.contextmanager
 def opensm(
-    bench: Bench, host: str, priority: int, *words: str
+    bench: Bench, host: str, priority: int, *words: str, is_deaf: bool = False
 ) -> Iterator[tuple[subprocess.Popen[bytes], Callable[[], str]]]:
-    """Runs OpenSM at another adapter, and yields it with its log."""
+    """Runs OpenSM at another adapter, and yields it with its log. If it is deaf, no traps reach it."""
     (bench.path / "opensm.conf").write_text(OPENSM)
     log = bench.path / f"opensm-{host}.log"
     log.unlink(missing_ok=True)
     environment = bench.environment() | {"SIM_HOST": host}
-    environment["LD_PRELOAD"] = f"{bench.room}/out/repressed_traps.so:{bench.library}"
+    environment["LD_PRELOAD"] = f"{bench.room}/out/opensm_kernel.so:{bench.library}"
+    environment |= {"LOSE_TRAPS": "1"} if is_deaf else {}
     words = ["-e", "-p", priority, "-d", "2", "-s", "2", "-D", "0x43", "-f", log, "-F", "opensm.conf", *words]
     quiet = {"stdout": subprocess.DEVNULL, "stderr": subprocess.DEVNULL, "stdin": subprocess.DEVNULL}
     words = ["opensm", *map(str, words)]

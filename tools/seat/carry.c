@@ -20,6 +20,7 @@ enum { INITIALIZE = 2, ARMED = 3 };
 
 struct packet {
 	uint16_t lid;
+	uint8_t is_own;		/* made here: the process neither printed it nor hears of it */
 	uint8_t bytes[PACKET];
 };
 
@@ -136,17 +137,8 @@ static int digit(int letter)
 	return letter <= '9' ? letter - '0' : letter - 'a' + 10;
 }
 
-void queue_packet(const char *hex, unsigned lid)
+static void add_to_queue(const struct packet *packet)
 {
-	struct packet packet = { .lid = lid };
-	int i;
-
-	for (i = 0; i < PACKET; i++)
-		packet.bytes[i] = digit(hex[2 * i]) << 4 | digit(hex[2 * i + 1]);
-	if (is_answer(packet.bytes)) {
-		send_out(&packet, 0);
-		return;
-	}
 	if (tail == room && head > room / 2) {
 		memmove(queue, queue + head, (tail - head) * sizeof *queue);
 		tail -= head;
@@ -155,7 +147,33 @@ void queue_packet(const char *hex, unsigned lid)
 		room = room ? 2 * room : 1024;
 		queue = more(queue, room, sizeof *queue);
 	}
-	queue[tail++] = packet;
+	queue[tail++] = *packet;
+}
+
+void queue_packet(const char *hex, unsigned lid)
+{
+	struct packet packet = { .lid = lid };
+	int i;
+
+	for (i = 0; i < PACKET; i++)
+		packet.bytes[i] = digit(hex[2 * i]) << 4 | digit(hex[2 * i + 1]);
+	if (is_answer(packet.bytes))
+		send_out(&packet, 0);
+	else
+		add_to_queue(&packet);
+}
+
+void queue_handover(unsigned lid)
+{
+	struct packet packet = { .lid = lid, .is_own = 1, .bytes = { 1, LID_ROUTED_CLASS, 1, SET } };
+	uint8_t *info = packet.bytes + ATTRIBUTE;
+
+	put(packet.bytes + 16, 2, SM_INFO);
+	put(packet.bytes + 20, 4, HANDOVER);
+	put(info, 8, own_port.guid);
+	put(info + 8, 8, own_key());
+	info[20] = seat.priority << 4 | MASTER;
+	add_to_queue(&packet);
 }
 
 static void try_out(struct out *out)
@@ -167,9 +185,11 @@ static void try_out(struct out *out)
 	send_out(&out->packet, timeout);
 }
 
+/* Sends what is queued, as far as there is room. After a pause, another manager may be master: then the policy is first
+   to look at it. */
 static void fill_window(void)
 {
-	while (head < tail && out_count < options.outstanding) {
+	while (!pause_seen() && head < tail && out_count < options.outstanding) {
 		struct out *out = &outs[out_count++];
 
 		out->packet = queue[head++];
@@ -201,7 +221,8 @@ void give_up_queued(void)
 
 	while (head < tail) {
 		packet = queue[head++];
-		tell("timeout %016llx", (unsigned long long) get(packet.bytes + 8, 8));
+		if (!packet.is_own)
+			tell("timeout %016llx", (unsigned long long) get(packet.bytes + 8, 8));
 	}
 }
 
@@ -239,13 +260,22 @@ static void note_silent(const uint8_t *packet)
 /* Tells the manager that a request has no answer. A later answer finds no entry. */
 static void give_up(int place)
 {
-	unsigned long long tid = get(outs[place].tid, 8);
+	struct out out = outs[place];
 
-	note_silent(outs[place].packet.bytes);
 	outs[place] = outs[--out_count];
 	carried.given_up++;
+	if (out.packet.is_own)
+		return;
+	note_silent(out.packet.bytes);
 	heard_news();
-	tell("timeout %016llx", tid);
+	tell("timeout %016llx", (unsigned long long) get(out.tid, 8));
+}
+
+void give_up_all(void)
+{
+	while (out_count)
+		give_up(out_count - 1);
+	give_up_queued();
 }
 
 static void no_answer(int place)
@@ -365,7 +395,7 @@ static void on_answer(uint8_t *packet, unsigned lid)
 	if (is_poll(packet))
 		heard_poll((packet[ATTRIBUTE + 20] & 15) == MASTER);
 	outs[place] = outs[--out_count];
-	if (strncmp(give(packet, lid), "refused ", 8))
+	if (out.packet.is_own || strncmp(give(packet, lid), "refused ", 8))
 		return;
 	carried.refused++;
 	note_silent(out.packet.bytes);
@@ -380,6 +410,15 @@ static void on_trap(const uint8_t *packet, unsigned lid)
 		give(packet, lid);
 }
 
+/* Passes on a request of another manager. */
+static void on_request(const uint8_t *packet, unsigned lid)
+{
+	carried.requests++;
+	give(packet, lid);
+	if (packet[3] == SET && get(packet + 16, 2) == SM_INFO && get(packet + 20, 4) == HANDOVER)
+		heard_handover();
+}
+
 /* Takes a packet, or an unanswered request that the kernel returns with a status. */
 static void sort_in(uint8_t *packet, unsigned lid, int status)
 {
@@ -387,15 +426,14 @@ static void sort_in(uint8_t *packet, unsigned lid, int status)
 
 	if (status) {
 		place = place_of(packet);
-		if (place >= 0)
+		if (place >= 0 && !pause_seen())	/* after one, its deadline tells */
 			no_answer(place);
 	} else if (packet[3] & RESPONSE) {
 		on_answer(packet, lid);
 	} else if (packet[3] == TRAP) {
 		on_trap(packet, lid);
 	} else if (packet[3] != TRAP_REPRESS) {
-		carried.requests++;
-		give(packet, lid);
+		on_request(packet, lid);
 	}
 }
 
@@ -425,7 +463,7 @@ void carry(int wait_ms)
 	/* Takes all that is there before anything counts as late: the process may have planned for long. */
 	for (count = 0; count < AT_ONCE && receive(count ? 0 : wait_ms); count++)
 		fill_window();
-	for (i = 0; count < AT_ONCE && i < out_count; i++)
+	for (i = 0; count < AT_ONCE && i < out_count && !pause_seen(); i++)
 		if (outs[i].deadline < now())
 			no_answer(i--);
 	fill_window();

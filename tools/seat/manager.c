@@ -1,6 +1,7 @@
 /* The process of `ibsm serve` that decides: a line is written to it, and its answer is read up to the line with a
    dot. */
 #include <errno.h>
+#include <poll.h>
 #include <signal.h>
 #include <stdarg.h>
 #include <stdlib.h>
@@ -9,7 +10,7 @@
 #include <unistd.h>
 #include "seat.h"
 
-enum { LONGEST_LINE = 600, MOST_WORDS = 16, USAGE_STATUS = 2, REFUSED_STATUS = 3, NOT_FOUND = 127 };
+enum { LOOK_MS = 100, LONGEST_LINE = 600, MOST_WORDS = 16, USAGE_STATUS = 2, REFUSED_STATUS = 3, NOT_FOUND = 127 };
 
 static pid_t process;
 static int to = -1, from = -1, is_gone = 1;
@@ -124,6 +125,19 @@ static void write_line(const char *line, size_t length)
 	}
 }
 
+/* Waits until the process has printed something or is gone. Returns 0 if a signal ended the program meanwhile. */
+static int wait_for_output(void)
+{
+	struct pollfd file = { .fd = from, .events = POLLIN };
+	int ready;
+
+	do {
+		pause_seen();	/* the process may take long: that is no pause */
+		ready = poll(&file, 1, LOOK_MS);
+	} while (!ready || (ready < 0 && errno == EINTR && !is_ended()));
+	return ready > 0;
+}
+
 /* Returns the next line that the process printed, ended by 0, or NULL if it is gone. */
 static char *read_line(void)
 {
@@ -148,9 +162,7 @@ static char *read_line(void)
 			input_room = input_room ? 2 * input_room : 1 << 16;
 			input = more(input, input_room, 1);
 		}
-		count = read(from, input + input_end, input_room - input_end);
-		if (count < 0 && errno == EINTR && !is_ended())
-			continue;
+		count = wait_for_output() ? read(from, input + input_end, input_room - input_end) : 0;
 		if (count <= 0)
 			return NULL;
 		input_end += count;

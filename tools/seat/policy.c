@@ -2,7 +2,8 @@
  * When the process is told what: to sweep if there is news or it is time for it, to write after a sweep that has
  * every answer and whose plan is not what was written, and to poll while another manager is the master.
  *
- * Nothing is told while a packet is queued or out.
+ * Nothing is told while a packet is queued or out. While another master is seen, nothing is written: one of the two
+ * hands over first.
  */
 #include <stdlib.h>
 #include <string.h>
@@ -11,17 +12,19 @@
 
 enum phase { RESTS, SWEEPS, WRITES, HANDS_OVER };
 enum { LINK_STATE_CHANGED = 128, CAPABILITIES_CHANGED = 144, MOST_REPEATS = 3, MOST_POLLS = 3, MOST_WAIT = 10 };
-enum { OPENSM_KEY = 1 };	/* the process's SM_Key if none is given */
+enum { MOST_LOOKS = 3, MOST_HANDOVERS = 3 };	/* at another master, while nothing is written */
 #define SHORTEST 1.0	/* seconds from the beginning of one sweep to that of the next */
 #define ACKNOWLEDGED 1.0	/* seconds that a manager may take to acknowledge a handover, after its answer to it */
+#define MEETING 60.0	/* seconds from the first sight of another master until it gets more handovers */
 
 static enum phase phase;
 static struct standing status;
-static char state[16], *kept_plan, *managers;
+static char state[16], *kept_plan;
 static int has_news, is_wanted, repeats, faults, gaps, masterless, is_announced, has_master;
 static unsigned left_not_active;
 static uint32_t newest;
-static double earliest, next_sweep, next_poll, sweep_begun, began, handed_over;
+static double earliest, next_sweep, next_poll, sweep_begun, began, handed_over, resumed, met;
+static int looks, handovers;
 
 void heard_news(void)
 {
@@ -96,6 +99,7 @@ static void look_at_state(void)
 	strcpy(state, word);
 	forget_written();
 	is_announced = 0;
+	looks = 0;
 	next_poll = now();
 	is_wanted |= is_state("master") && phase == RESTS;
 	status.state_since = time(NULL);
@@ -138,16 +142,7 @@ static void read_progress(void)
 	sscanf(tell("silent"), "silent %lu", &status.silent);
 	status.is_whole &= status.unanswered == status.silent && !status.too_far;
 	status.sweep_ended = time(NULL);
-	keep_text(&managers, tell("managers"));
-	status.managers = managers;
-}
-
-/* Returns whether the process counts a manager with this SM_Key as one of its subnet. */
-static int is_heard(unsigned long long key)
-{
-	unsigned long long own = seat.sm_key ? strtoull(seat.sm_key, NULL, 16) : OPENSM_KEY;
-
-	return !own || key == own;
+	read_others(tell("managers"));
 }
 
 /* Notes whether the sweep saw a master, which a standby then polls. Counts sweeps in a row that saw none. If this
@@ -155,24 +150,16 @@ static int is_heard(unsigned long long key)
    is announced anew, once, and the master sweeps. */
 static void look_for_master(void)
 {
-	unsigned long long guid, key;
-	unsigned priority;
-	char word[sizeof state];
-	const char *line;
+	const struct other *master = greatest_heard("master", NULL);
 
-	for (line = managers; *line; line = strchr(line, '\n') + 1)
-		if (sscanf(line, "manager %*s guid %llx priority %u key %llu state %15s", &guid, &priority, &key,
-			   word) == 4 && !strcmp(word, "master") && is_heard(key))
-			break;
-	has_master = !!*line;
+	has_master = master != NULL;
 	if (!has_master) {
 		masterless += status.is_whole;
 		return;
 	}
 	masterless = 0;
-	if (!is_announced && ((int) priority < seat.priority ||
-			      ((int) priority == seat.priority && guid > own_port.guid))) {
-		note("the master %016llx, priority %u, is to hand over", guid, priority);
+	if (!is_announced && !wins(master)) {
+		note("the master %016" PRIx64 ", priority %u, is to hand over", master->guid, master->priority);
 		announce_manager();
 		is_announced = 1;
 	}
@@ -181,6 +168,15 @@ static void look_for_master(void)
 void heard_poll(int is_master)
 {
 	has_master &= is_master;
+}
+
+void heard_handover(void)
+{
+	if (!is_state("master"))
+		return;
+	/* Who hands over to a master was one too, and wrote. */
+	forget_written();
+	want_sweep();
 }
 
 /* Makes a standby discover anew, since nobody is master: all managers left may be standbys, and each of them answers
@@ -197,6 +193,71 @@ static void leave_standby(void)
 	}
 	masterless = 0;
 	heard_news();
+}
+
+/* Hands the subnet over to a manager that wins over this one, if the sweep saw one. */
+static void hand_over(void)
+{
+	if (strncmp(tell("handover"), "refused ", 8))
+		phase = HANDS_OVER;
+	handed_over = 0;
+}
+
+/* Returns the LID that a port reported, or 0. */
+static unsigned lid_of(const char *place)
+{
+	const char *line;
+	char port[sizeof ((struct other *) 0)->place];
+	unsigned lid;
+
+	for (line = tell("facts"); *line; line = strchr(line, '\n') + 1)
+		if (sscanf(line, "claim %27s %u", port, &lid) == 2 && !strcmp(port, place))
+			return lid;
+	return 0;
+}
+
+/* Sends a HANDOVER to a manager over which this one wins. If that is a master, it looks at the subnet then, and hands
+   over to this one. If it is a standby, it takes over. */
+static void yield_to(const struct other *lesser)
+{
+	unsigned lid = lid_of(lesser->place);
+
+	note("YIELDS to %016" PRIx64 " at LID %u", lesser->guid, lid);
+	if (lid)
+		queue_handover(lid);
+}
+
+/* Deals with another master that the sweep saw, and returns whether nothing is to be written now. A greater one gets a
+   handover. A lesser one is to hand over: this one is announced, so that the other's trap makes it look, and if that
+   does not help, the other gets a handover. A master that does not act on any of this is then ignored for a while. */
+static int meets_master(void)
+{
+	const struct other *master = greatest_heard("master", NULL);
+
+	if (!master) {
+		looks = 0;
+		return 0;
+	}
+	if (!met || now() > met + MEETING) {
+		met = now();
+		looks = handovers = 0;
+	}
+	note("ANOTHER MASTER: %016" PRIx64 ", priority %u", master->guid, master->priority);
+	if (handovers == MOST_HANDOVERS)
+		return 0;
+	forget_written();
+	want_sweep();
+	if (!wins(master) && looks < MOST_LOOKS) {
+		looks++;
+		announce_manager();
+		return 1;
+	}
+	handovers++;
+	if (wins(master))
+		hand_over();
+	else
+		yield_to(master);
+	return 1;
 }
 
 static void say_silent(void)
@@ -228,14 +289,6 @@ static void write_plan(const char *plan)
 	}
 	status.writings++;
 	phase = WRITES;
-}
-
-/* Hands the subnet over, once it is written, to a manager that wins over this one. */
-static void hand_over(void)
-{
-	if (strncmp(tell("handover"), "refused ", 8))
-		phase = HANDS_OVER;
-	handed_over = 0;
 }
 
 /* Returns whether the acknowledgement may still come: the answer to a handover comes first. */
@@ -296,6 +349,8 @@ static void end_dry_run(void)
 static void after_sweep(void)
 {
 	phase = RESTS;
+	if (sweep_begun < resumed)	/* others may have changed since what it read */
+		return;
 	read_progress();
 	if (manager_is_gone())	/* a new process begins anew */
 		return;
@@ -313,10 +368,16 @@ static void after_sweep(void)
 	if (gaps) {
 		say_silent();
 		wait_longer();
-		if (!seat.partial || gaps <= MOST_REPEATS)
-			return;
-		note("what is known is planned all the same, since --partial says so");
 	}
+	if (is_state("master") && meets_master())
+		return;
+	if (gaps && (!seat.partial || gaps <= MOST_REPEATS)) {
+		if (is_state("master"))
+			hand_over();
+		return;
+	}
+	if (gaps)
+		note("what is known is planned all the same, since --partial says so");
 	if (is_state("master"))
 		judge_plan();
 	else
@@ -347,22 +408,12 @@ static void after_writing(void)
 /* Notes the manager that got the subnet: the greatest that the sweep saw. */
 static void after_handover(void)
 {
-	unsigned long long guid, key, greatest = 0;
-	unsigned priority, most = 0;
-	char word[sizeof state];
-	const char *line;
+	const struct other *heir = greatest_heard("standby", "master");
 
 	phase = RESTS;
-	for (line = managers; *line; line = strchr(line, '\n') + 1)
-		if (sscanf(line, "manager %*s guid %llx priority %u key %llu state %15s", &guid, &priority, &key,
-			   word) == 4 && is_heard(key) &&
-		    (!strcmp(word, "standby") || !strcmp(word, "master")) &&
-		    (!greatest || priority > most || (priority == most && guid < greatest))) {
-			greatest = guid;
-			most = priority;
-		}
-	note("HANDOVER to %016llx, priority %u%s", greatest, most,
-	     is_state("master") ? ", which does not take over" : "");
+	if (heir)
+		note("HANDOVER to %016" PRIx64 ", priority %u%s", heir->guid, heir->priority,
+		     is_state("master") ? ", which does not take over" : "");
 }
 
 static void rest(void)
@@ -397,10 +448,24 @@ void begin_policy(void)
 		newest = newest_in(options.after);
 }
 
+/* Looks at the subnet anew after a pause: another manager may be master now. No Set from before it goes out. */
+static void after_pause(void)
+{
+	note("nothing was done for %.1f s", pause_seen());
+	end_pause();
+	resumed = now();
+	forget_written();
+	want_sweep();
+	if (phase == WRITES)
+		give_up_all();
+}
+
 void policy(void)
 {
 	enum phase was = phase;
 
+	if (pause_seen())
+		after_pause();
 	if (!is_at_rest())
 		return;
 	if (has_news || phase != RESTS)

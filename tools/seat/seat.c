@@ -15,12 +15,14 @@
 
 enum { WAIT_MS = 20, MOST_STARTS = 3 };
 #define SHORT_LIFE 5.0	/* seconds; a process that ends sooner will do so again */
+#define LONG_STEP 2.0	/* seconds; who does nothing for longer stood still, and was deaf */
 
 const char *tool = "seat";
 struct seat_options seat = { .program = "ibsm", .sweep_seconds = 10, .poll_ms = 1000 };
 struct own_port own_port;
 struct carried carried;
 static volatile sig_atomic_t ended_by, hung_up;
+static double seen_running, pause_length;
 
 static const char usage_text[] =
 " [OPTION]...\n"
@@ -58,6 +60,25 @@ static const char usage_text[] =
 int is_ended(void)
 {
 	return ended_by != 0;
+}
+
+double pause_seen(void)
+{
+	double time = now(), step = time - seen_running, longest = LONG_STEP;
+
+	/* Others wait longer too where answers take longer. */
+	if (longest < 3 * options.timeout_ms / 1000.0)
+		longest = 3 * options.timeout_ms / 1000.0;
+	if (step > longest)
+		pause_length += step;
+	seen_running = time;
+	return pause_length;
+}
+
+void end_pause(void)
+{
+	pause_length = 0;
+	seen_running = now();
 }
 
 void note(const char *format, ...)
@@ -172,6 +193,7 @@ static void start(void)
 	start_manager();
 	begin_policy();
 	tell("state");	/* waits until the process answers */
+	end_pause();
 	if (!seat.dry_run && !manager_is_gone())
 		be_manager();
 }

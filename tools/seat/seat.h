@@ -2,10 +2,11 @@
 #ifndef SEAT_H
 #define SEAT_H
 
+#include <inttypes.h>
 #include <time.h>
 #include "../record/record.h"
 
-enum { SM_INFO = 0x20, MASTER = 3, LID_ROUTED_CLASS = 0x01, DIRECTED_CLASS = 0x81, NO_LID = 0xffff };
+enum { SM_INFO = 0x20, MASTER = 3, HANDOVER = 1, LID_ROUTED_CLASS = 0x01, DIRECTED_CLASS = 0x81, NO_LID = 0xffff };
 enum method { GET = 1, SET = 2, TRAP = 5, TRAP_REPRESS = 7, RESPONSE = 0x80 };
 
 struct seat_options {
@@ -27,6 +28,10 @@ extern struct carried carried;
 void note(const char *format, ...) __attribute__((format(printf, 1, 2)));
 /* Returns whether a signal has ended the program. */
 int is_ended(void);
+/* Notes that the program runs, and returns the seconds that it stood still for, stopped or starved, since end_pause, or
+   0. Whoever waits for long calls it all the while. */
+double pause_seen(void);
+void end_pause(void);
 
 /* manager.c: the process that decides. */
 void start_manager(void);
@@ -52,8 +57,12 @@ void carry(int wait_ms);
 /* Returns whether nothing is queued or out. */
 int is_at_rest(void);
 void drop_all(void);
-/* Gives up the queued requests, none of which has gone out. */
+/* Gives up the queued requests, none of which has gone out, and those that are queued because of that. */
 void give_up_queued(void);
+/* Gives up the requests that are out, too. */
+void give_up_all(void);
+/* Queues a HANDOVER of this manager to the manager at a LID. The process neither printed it nor gets its answer. */
+void queue_handover(unsigned lid);
 /* Unanswered requests since a sweep began, as texts; at most MOST_SILENT are kept. */
 enum { MOST_SILENT = 20, SILENT_TEXT = 120 };
 void begin_silent(void);
@@ -75,6 +84,24 @@ int heard_trap(unsigned number, unsigned lid);
 void heard_hangup(void);
 /* Notes what the answer to a poll says: whether its sender is master. */
 void heard_poll(int is_master);
+/* Notes that a HANDOVER came. */
+void heard_handover(void);
+
+/* others.c: the managers that the last sweep saw. */
+struct other {
+	char place[28], state[16];	/* the node's GUID and its port; a word, or a number if it is no state */
+	uint64_t guid, key;
+	unsigned priority;
+};
+/* Takes the process's answer to `managers`. What other_at and greatest_heard returned before is gone then. */
+void read_others(const char *text);
+/* Returns a manager, or NULL after the last one. */
+const struct other *other_at(size_t place);
+uint64_t own_key(void);
+/* Returns whether a manager wins over this one. */
+int wins(const struct other *other);
+/* Returns the greatest manager that the process hears and that is in one of two states, or NULL. */
+const struct other *greatest_heard(const char *state, const char *or_state);
 
 /* status.c */
 struct standing {
@@ -84,7 +111,6 @@ struct standing {
 	unsigned long unanswered, silent, too_far, sweeps, writings;
 	int is_whole, is_written, is_settled;
 	size_t lids, switches;
-	const char *managers;
 };
 void write_status(const struct standing *status);
 

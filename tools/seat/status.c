@@ -1,6 +1,5 @@
 /* The state of seat, as a file of JSON that is whole at any time. */
 #include <errno.h>
-#include <inttypes.h>
 #include <stdlib.h>
 #include <string.h>
 #include <unistd.h>
@@ -30,17 +29,15 @@ static void print_sweep(FILE *file, const struct standing *status)
 	fprintf(file, "],\n");
 }
 
-static void print_managers(FILE *file, const char *line)
+static void print_managers(FILE *file)
 {
-	char guid[17], state[16];
-	unsigned priority;
-	int count = 0;
+	const struct other *it;
+	size_t i;
 
 	fprintf(file, " \"managers\": [");
-	for (; line && *line; line = strchr(line, '\n') + 1)
-		if (sscanf(line, "manager %*s guid %16s priority %u key %*u state %15s", guid, &priority, state) == 3)
-			fprintf(file, "%s{\"guid\": \"%s\", \"priority\": %u, \"state\": \"%s\"}",
-				count++ ? ", " : "", guid, priority, state);
+	for (i = 0; (it = other_at(i)); i++)
+		fprintf(file, "%s{\"guid\": \"%016" PRIx64 "\", \"priority\": %u, \"state\": \"%s\"}", i ? ", " : "",
+			it->guid, it->priority, it->state);
 	fprintf(file, "],\n");
 }
 
@@ -65,7 +62,7 @@ static void print_status(FILE *file, const struct standing *status)
 	fprintf(file, ", \"written\": %s, \"settled\": %s, \"lids\": %zu, \"switches\": %zu},\n",
 		status->is_written ? "true" : "false", status->is_settled ? "true" : "false", status->lids,
 		status->switches);
-	print_managers(file, status->managers);
+	print_managers(file);
 	print_counts(file);
 	fprintf(file, "}\n");
 }

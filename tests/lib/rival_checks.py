@@ -1,0 +1,173 @@
+"""What `tests/test` checks of `seat` over ibsim when two managers are master, when none is, and when a process hangs."""
+from __future__ import annotations
+
+import contextlib
+import os
+import re
+import signal
+import time
+from collections.abc import Callable, Iterator
+
+import live_checks
+import sample_fabrics
+from bench import Bench
+from seat_checks import Seat, held, manager, opensm, port_guid, seated, until
+
+# Seconds in which one master is to be left, and in which it is to have written.
+SOON = 12
+# How a seat polls and repeats requests in these trials.
+TIMING = ("-m", 200, "-r", 1)
+# Seconds for which no other state may come.
+STEADY = 4
+
+
+@contextlib.contextmanager
+def stopped(number: int) -> Iterator[None]:
+    """Stops a process, and lets it go on."""
+    os.kill(number, signal.SIGSTOP)
+    try:
+        yield
+    finally:
+        os.kill(number, signal.SIGCONT)
+
+
+def state_in(log: str) -> str | None:
+    """Returns the state that OpenSM's log reports last."""
+    states = re.findall(r"Entering (\w+) state", log)
+    return states[-1].lower() if states else None
+
+
+def master_lids(bench: Bench, name: str) -> set[int]:
+    """Returns the MasterSMLIDs of the end ports in a recording."""
+    infos = live_checks.port_infos(bench.path / f"{name}.reports").values()
+    return {int.from_bytes(info[18:20], "big") for info in infos if info[16:18] != b"\0\0"}
+
+
+def lid_of(bench: Bench, text: str, host: str) -> int:
+    """Returns the LID of an adapter in the text of a plan."""
+    return int(re.search(rf"^lid (\d+) {bench.fabric.guid(host):016x}/1$", text, re.M)[1])
+
+
+def one_master(bench: Bench, states: Callable[[], tuple[str | None, ...]], wanted: tuple[str, ...], what: str) -> None:
+    """Checks that the managers soon have the wanted states, and keep them."""
+    took = until(lambda: states() == wanted, SOON)
+    seen = set()
+    until(lambda: seen.add(states()), STEADY)
+    bench.check(took is not None and seen == {wanted}, f"{what}: {took if took is None else round(took, 1)} s, {seen}")
+
+
+def settled_anew(seat: Seat, since: float) -> bool:
+    """Waits until a seat has swept since a time with nothing left to write."""
+
+    def holds() -> bool:
+        told = seat.status()
+        return told["writing"]["settled"] and (told["sweep"]["began"] or 0) > since
+
+    return until(holds, SOON) is not None
+
+
+def ruled_by(bench: Bench, name: str, host: str, reader: str = "H3") -> None:
+    """Checks that the subnet holds the plan, and that each end port has the LID of the master at `host`."""
+    text = held(bench, name, reader)
+    lids = master_lids(bench, name)
+    bench.check(lids == {lid_of(bench, text, host)}, f"each end port names {host} as its master: {lids}")
+
+
+def paused_above_opensm(bench: Bench, name: str = "above", **how: bool) -> None:
+    """Checks that a seat that was stopped while a lesser OpenSM became master is the only master soon after."""
+    with seated(bench, "H1", "-p", 8, *TIMING) as seat, contextlib.ExitStack() as stack:
+        bench.check(seat.settles(), "a seat of priority 8 is master")
+        with stopped(seat.process.pid):
+            _, log = stack.enter_context(opensm(bench, "H2", 3, **how))
+            bench.check(until(lambda: "SUBNET UP" in log()) is not None, "it is stopped: OpenSM, priority 3, is master")
+            since = time.time()
+        one_master(bench, lambda: (seat.state(), state_in(log())), ("master", "standby"), "it goes on: one master")
+        bench.check(seat.count("ANOTHER MASTER") > 0, f"it saw two: {seat.said().splitlines()[-8:]}")
+        bench.check((seat.count("YIELDS") > 0) == ("is_deaf" in how), f"it yields {seat.count('YIELDS')} times")
+        bench.check(settled_anew(seat, since), "it writes, and sweeps once more")
+        ruled_by(bench, name, "H1")
+        bench.check(manager(bench, "H3") == (port_guid(bench, "H1"), 8, 3), f"sminfo: {manager(bench, 'H3')}")
+
+
+def paused_above_a_deaf_opensm(bench: Bench) -> None:
+    """Checks the same where no trap reaches OpenSM: the seat hands over to it, and it hands back."""
+    paused_above_opensm(bench, "deaf", is_deaf=True)
+
+
+def paused_below_opensm(bench: Bench) -> None:
+    """Checks that a seat that was stopped while a greater OpenSM became master hands over, and writes nothing."""
+    with seated(bench, "H1", "-p", 3, *TIMING) as seat, contextlib.ExitStack() as stack:
+        bench.check(seat.settles(), "a seat of priority 3 is master")
+        before = seat.status()["writing"]["count"]
+        with stopped(seat.process.pid):
+            _, log = stack.enter_context(opensm(bench, "H2", 8, "-R", "updn"))
+            bench.check(until(lambda: "SUBNET UP" in log()) is not None, "it is stopped: OpenSM, priority 8, is master")
+            bench.record("-q", "-g", 1, "-T", "theirs", "theirs.reports", seat="H3")
+        one_master(bench, lambda: (seat.state(), state_in(log())), ("standby", "master"), "it goes on: one master")
+        bench.check(seat.status()["writing"]["count"] == before, "the seat has written nothing")
+        bench.record("-q", "-g", 1, "-T", "still", "still.reports", seat="H3")
+        bench.check(bench.same("theirs", "still"), "tables are OpenSM's")
+        lids = master_lids(bench, "still")
+        bench.check(lids == {lid_of(bench, (bench.path / "still").read_text(), "H2")}, f"and so is MasterSMLID: {lids}")
+
+
+def opensm_paused(bench: Bench, ours: int, theirs: int) -> None:
+    """Checks that one master is left after OpenSM was stopped as master and a seat took over."""
+    wins = ours > theirs
+    with contextlib.ExitStack() as stack:
+        process, log = stack.enter_context(opensm(bench, "H2", theirs))
+        bench.check(until(lambda: "SUBNET UP" in log()) is not None, f"OpenSM, priority {theirs}, is master")
+        with stopped(process.pid):
+            seat = stack.enter_context(seated(bench, "H1", "-p", ours, "-s", 2, *TIMING))
+            bench.check(seat.settles(), f"it is stopped: a seat of priority {ours} is master")
+            since = time.time()
+        wanted = ("master", "standby") if wins else ("standby", "master")
+        one_master(bench, lambda: (seat.state(), state_in(log())), wanted, "it goes on: one master")
+        if wins:
+            bench.check(settled_anew(seat, since), "the seat writes, and sweeps once more")
+            ruled_by(bench, "paused", "H1")
+        bench.check(manager(bench, "H3")[1:] == (max(ours, theirs), 3), f"sminfo: {manager(bench, 'H3')}")
+
+
+def lesser_opensm_paused(bench: Bench) -> None:
+    """Checks an OpenSM of lesser priority than the seat's."""
+    opensm_paused(bench, 8, 3)
+
+
+def greater_opensm_paused(bench: Bench) -> None:
+    """Checks an OpenSM of greater priority than the seat's."""
+    opensm_paused(bench, 3, 8)
+
+
+def seats_paused(bench: Bench) -> None:
+    """Checks two seats with the default period: the greater one is stopped, the lesser one becomes master, and the
+    greater one goes on. It is the only master then, and each end port names it as such."""
+    with seated(bench, "H1", "-p", 8, *TIMING) as greater, seated(bench, "H2", "-p", 3, *TIMING) as lesser:
+        bench.check(greater.settles(), "a seat of priority 8 is master")
+        bench.check(until(lambda: lesser.state() == "standby", 20) is not None, "one of priority 3 stands by")
+        before = held(bench, "before", "H3")
+        with stopped(greater.process.pid):
+            took = until(lambda: lesser.state() == "master")
+            bench.check(took is not None and lesser.settles(), f"the greater one is stopped: {took or -1:.1f} s")
+            ruled_by(bench, "lesser", "H2")
+            since = time.time()
+        one_master(bench, lambda: (greater.state(), lesser.state()), ("master", "standby"), "it goes on: one master")
+        bench.check(settled_anew(greater, since), "it writes, and sweeps once more")
+        ruled_by(bench, "greater", "H1")
+        bench.check((bench.path / "greater").read_text() == before, "tables are as at first")
+
+
+def torus() -> sample_fabrics.Fabric:
+    """Returns the fabric of these trials."""
+    return sample_fabrics.torus(3, 3)
+
+
+# Each has its own fabric: ibsim clears a port's IsSM late, when it finds that an earlier process there is dead.
+SEATED = (
+    ("two masters, a seat paused above OpenSM", torus, (paused_above_opensm,)),
+    ("two masters, a seat paused above a deaf OpenSM", torus, (paused_above_a_deaf_opensm,)),
+    ("two masters, a seat paused below OpenSM", torus, (paused_below_opensm,)),
+    ("two masters, a lesser OpenSM paused", torus, (lesser_opensm_paused,)),
+    ("two masters, a greater OpenSM paused", torus, (greater_opensm_paused,)),
+    ("two masters, a seat paused above a seat", torus, (seats_paused,)),
+)
