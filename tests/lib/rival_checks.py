@@ -15,6 +15,8 @@ from seat_checks import Seat, held, manager, opensm, port_guid, seated, until
 
 # Seconds in which one master is to be left, and in which it is to have written.
 SOON = 12
+# Seconds in which one is to be left where sweeps lack answers: six of them, with waits up to two seconds.
+DEAF = 30
 # How a seat polls and repeats requests in these trials.
 TIMING = ("-m", 200, "-r", 1)
 # Seconds for which no other state may come.
@@ -157,6 +159,45 @@ def seats_paused(bench: Bench) -> None:
         bench.check((bench.path / "greater").read_text() == before, "tables are as at first")
 
 
+def without_a_master(bench: Bench) -> None:
+    """Checks that one of two seats becomes master although an adapter answers nothing and both stand by: the lesser one
+    was master, was killed, and started anew. Once the adapter answers, the master writes."""
+    deaf = 'Error "H6"[1]'
+    bench.tell(f"{deaf} 100")
+    with contextlib.ExitStack() as stack:
+        lesser = stack.enter_context(seated(bench, "H1", "-p", 3, *TIMING))
+        bench.check(until(lambda: lesser.state() == "master") is not None, "an adapter is deaf: a seat is master")
+        greater = stack.enter_context(seated(bench, "H2", "-p", 8, *TIMING))
+        bench.check(until(lambda: greater.state() == "standby") is not None, "a greater one stands by")
+        lesser.end(signal.SIGKILL)
+        lesser = stack.enter_context(seated(bench, "H1", "-p", 3, *TIMING))
+        took = until(lambda: (lesser.state(), greater.state()) == ("standby", "master"), DEAF)
+        bench.check(took is not None, f"the master is started anew: the greater one is master after {took or -1:.1f} s")
+        bench.check(greater.count("SUBNET UP") == 0 < greater.count("NOT WHOLE"), "it writes nothing")
+        bench.tell(f"{deaf} 0")
+        bench.check(greater.settles(), "the adapter answers: the subnet is up")
+        one_master(bench, lambda: (lesser.state(), greater.state()), ("standby", "master"), "one master")
+        ruled_by(bench, "found", "H2")
+
+
+def handed_over_with_gaps(bench: Bench) -> None:
+    """Checks that a master hands over to a greater seat although an adapter answers nothing."""
+    deaf = 'Error "H6"[1]'
+    with contextlib.ExitStack() as stack:
+        lesser = stack.enter_context(seated(bench, "H1", "-p", 3, *TIMING))
+        bench.check(lesser.settles(), "a seat is master")
+        before = held(bench, "before", "H3")
+        bench.tell(f"{deaf} 100")
+        greater = stack.enter_context(seated(bench, "H2", "-p", 8, *TIMING))
+        took = until(lambda: (lesser.state(), greater.state()) == ("standby", "master"), DEAF)
+        bench.check(took is not None, f"an adapter is deaf: a greater seat is master after {took or -1:.1f} s")
+        bench.check(greater.count("SUBNET UP") == 0, "it writes nothing")
+        bench.tell(f"{deaf} 0")
+        bench.check(greater.settles(), "the adapter answers: the subnet is up")
+        ruled_by(bench, "after", "H2")
+        bench.check((bench.path / "after").read_text() == before, "tables are as at first")
+
+
 def torus() -> sample_fabrics.Fabric:
     """Returns the fabric of these trials."""
     return sample_fabrics.torus(3, 3)
@@ -170,4 +211,6 @@ SEATED = (
     ("two masters, a lesser OpenSM paused", torus, (lesser_opensm_paused,)),
     ("two masters, a greater OpenSM paused", torus, (greater_opensm_paused,)),
     ("two masters, a seat paused above a seat", torus, (seats_paused,)),
+    ("no master, with a deaf adapter", torus, (without_a_master,)),
+    ("a greater seat, with a deaf adapter", torus, (handed_over_with_gaps,)),
 )

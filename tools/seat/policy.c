@@ -11,7 +11,8 @@
 #include "seat.h"
 
 enum phase { RESTS, SWEEPS, WRITES, HANDS_OVER };
-enum { LINK_STATE_CHANGED = 128, CAPABILITIES_CHANGED = 144, MOST_REPEATS = 3, MOST_POLLS = 3, MOST_WAIT = 10 };
+enum { LINK_STATE_CHANGED = 128, CAPABILITIES_CHANGED = 144, MOST_REPEATS = 3, MOST_POLLS = 3 };
+enum { MOST_WAIT = 10, SHORT_WAIT = 2 };	/* seconds */
 enum { MOST_LOOKS = 3, MOST_HANDOVERS = 3 };	/* at another master, while nothing is written */
 #define SHORTEST 1.0	/* seconds from the beginning of one sweep to that of the next */
 #define ACKNOWLEDGED 1.0	/* seconds that a manager may take to acknowledge a handover, after its answer to it */
@@ -101,7 +102,8 @@ static void look_at_state(void)
 	is_announced = 0;
 	looks = 0;
 	next_poll = now();
-	is_wanted |= is_state("master") && phase == RESTS;
+	if (is_state("discovering") || (is_state("master") && phase == RESTS))
+		want_sweep();
 	status.state_since = time(NULL);
 	write_status(&status);
 }
@@ -124,11 +126,14 @@ static void begin_sweep(void)
 	status.sweeps++;
 }
 
-/* Waits before going on, the longer the more failures came in a row. */
+/* Waits before going on, the longer the more failures came in a row, but not for long while nobody may be master. */
 static void wait_longer(void)
 {
-	double wait = faults < 4 ? 1 << faults : MOST_WAIT;
+	int most = is_state("master") ? MOST_WAIT : SHORT_WAIT;
+	int wait = faults < 4 ? 1 << faults : MOST_WAIT;
 
+	if (wait > most)
+		wait = most;
 	faults++;
 	is_wanted = 1;
 	earliest = now() + wait;
@@ -145,16 +150,17 @@ static void read_progress(void)
 	read_others(tell("managers"));
 }
 
-/* Notes whether the sweep saw a master, which a standby then polls. Counts sweeps in a row that saw none. If this
-   manager wins over the master, the master swept before this one stood by, or it would have handed over. So this one
-   is announced anew, once, and the master sweeps. */
+/* Notes whether the sweep saw a master, which a standby then polls. Counts sweeps in a row that saw none. The first few
+   that lack answers do not count, since the master may be among what did not answer. If this manager wins over the
+   master, the master swept before this one stood by, or it would have handed over. So this one is announced anew, once,
+   and the master sweeps. */
 static void look_for_master(void)
 {
 	const struct other *master = greatest_heard("master", NULL);
 
 	has_master = master != NULL;
 	if (!has_master) {
-		masterless += status.is_whole;
+		masterless += !gaps || gaps >= MOST_REPEATS;
 		return;
 	}
 	masterless = 0;
@@ -361,14 +367,16 @@ static void after_sweep(void)
 		return;
 	}
 	next_sweep = now() + seat.sweep_seconds;
-	has_master = 0;
-	if (is_state("standby"))
-		look_for_master();
 	gaps = status.is_whole ? 0 : gaps + 1;
 	if (gaps) {
 		say_silent();
 		wait_longer();
 	}
+	has_master = 0;
+	if (is_state("standby"))
+		look_for_master();
+	if (is_state("standby") && masterless > MOST_REPEATS)
+		leave_standby();
 	if (is_state("master") && meets_master())
 		return;
 	if (gaps && (!seat.partial || gaps <= MOST_REPEATS)) {
@@ -382,8 +390,6 @@ static void after_sweep(void)
 		judge_plan();
 	else
 		faults = 0;
-	if (is_state("standby") && masterless > MOST_REPEATS)
-		leave_standby();
 }
 
 /* Asks for another sweep after a writing, to see what moved meanwhile. */
