@@ -198,6 +198,28 @@ def handed_over_with_gaps(bench: Bench) -> None:
         bench.check((bench.path / "after").read_text() == before, "tables are as at first")
 
 
+def port_of_another(bench: Bench) -> None:
+    """Checks that a port whose MasterSMLID becomes another LID gets the master's again, though the plan is the same; but
+    not without end, since who changes it may be a master too."""
+    with seated(bench, "H1", "-p", 8, "-s", 1, *TIMING) as seat:
+        bench.check(seat.settles(), "a seat is master")
+        text = held(bench, "before", "H3")
+        own, other = lid_of(bench, text, "H1"), lid_of(bench, text, "H6")
+        for number in range(1, 5):
+            status = bench.run("ibportstate", other, 1, "smlid", other, simulated=True, seat="H3")
+            bench.check(status == 0, f"H6 names itself as master, {number}: {bench.said.strip()}")
+            if number == 4:
+                break
+            took = until(lambda: seat.count("SUBNET UP") == 1 + number, SOON)
+            bench.check(took is not None and seat.settles(), f"the plan is written again after {took or -1:.1f} s")
+            bench.check(seat.count(" 1 ports name another master") == number, "since the seat has seen that")
+            ruled_by(bench, f"again{number}", "H1")
+        time.sleep(STEADY)
+        bench.check(seat.count("SUBNET UP") == 4 and seat.state() == "master", "it is not written a fourth time")
+        bench.record("-q", "-g", 1, "-T", "left", "left.reports", seat="H3")
+        bench.check(master_lids(bench, "left") == {own, other}, f"H6 names itself still: {master_lids(bench, 'left')}")
+
+
 def torus() -> sample_fabrics.Fabric:
     """Returns the fabric of these trials."""
     return sample_fabrics.torus(3, 3)
@@ -211,6 +233,7 @@ SEATED = (
     ("two masters, a lesser OpenSM paused", torus, (lesser_opensm_paused,)),
     ("two masters, a greater OpenSM paused", torus, (greater_opensm_paused,)),
     ("two masters, a seat paused above a seat", torus, (seats_paused,)),
+    ("a port of another master", torus, (port_of_another,)),
     ("no master, with a deaf adapter", torus, (without_a_master,)),
     ("a greater seat, with a deaf adapter", torus, (handed_over_with_gaps,)),
 )

@@ -41,7 +41,8 @@ static int out_count;
 static uint32_t next_number;
 static char silent[MOST_SILENT][SILENT_TEXT];
 static size_t silent_count;
-static unsigned not_active;
+static unsigned not_active, end_ports, own_lid;
+static unsigned managed_by[NO_LID + 1];	/* by LID: the end ports whose MasterSMLID it is */
 
 /* Becomes the port's only subnet manager: the open file says so to the kernel. */
 void be_manager(void)
@@ -328,7 +329,8 @@ static void keep_manager(const uint8_t *packet)
 
 void begin_ports(void)
 {
-	not_active = 0;
+	not_active = end_ports = own_lid = 0;
+	memset(managed_by, 0, sizeof managed_by);
 }
 
 unsigned ports_not_active(void)
@@ -336,13 +338,27 @@ unsigned ports_not_active(void)
 	return not_active;
 }
 
-/* Counts a port that a sweep reads as Initialize or Armed. A sweep reads each port once. */
+unsigned ports_of_others(void)
+{
+	return end_ports - managed_by[own_lid];
+}
+
+/* Counts a port that a sweep reads: if it is Initialize or Armed, and if it has a LID, so that it is an end port, whose
+   MasterSMLID it has. A sweep reads each port once. */
 static void count_port(const uint8_t *packet)
 {
-	unsigned port_state = packet[ATTRIBUTE + 32] & 15;
+	const uint8_t *info = packet + ATTRIBUTE;
+	unsigned port_state = info[32] & 15, lid = get(info + 16, 2);
 
-	not_active += get(packet + 16, 2) == PORT_INFO && !(get(packet + 4, 2) & 0x7fff) &&
-		      (port_state == INITIALIZE || port_state == ARMED);
+	if (get(packet + 16, 2) != PORT_INFO || get(packet + 4, 2) & 0x7fff)
+		return;
+	not_active += port_state == INITIALIZE || port_state == ARMED;
+	if (!lid)
+		return;
+	if (is_directed(packet) && !packet[7])
+		own_lid = lid;
+	end_ports++;
+	managed_by[get(info + 18, 2)]++;
 }
 
 /* Returns whether an answer is to a poll: sweeps number their requests from 2^32 on, and controls have a modifier. */

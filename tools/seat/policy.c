@@ -16,16 +16,17 @@ enum { MOST_WAIT = 10, SHORT_WAIT = 2 };	/* seconds */
 enum { MOST_LOOKS = 3, MOST_HANDOVERS = 3 };	/* at another master, while nothing is written */
 #define SHORTEST 1.0	/* seconds from the beginning of one sweep to that of the next */
 #define ACKNOWLEDGED 1.0	/* seconds that a manager may take to acknowledge a handover, after its answer to it */
+#define TAKING 600.0	/* seconds in which ports that name another master are written MOST_REPEATS times */
 #define MEETING 60.0	/* seconds from the first sight of another master until it gets more handovers */
 
 static enum phase phase;
 static struct standing status;
 static char state[16], *kept_plan;
 static int has_news, is_wanted, repeats, faults, gaps, masterless, is_announced, has_master;
-static unsigned left_not_active;
+static unsigned left_not_active, left_of_others;
 static uint32_t newest;
-static double earliest, next_sweep, next_poll, sweep_begun, began, handed_over, resumed, met;
-static int looks, handovers;
+static double earliest, next_sweep, next_poll, sweep_begun, began, handed_over, resumed, met, took_ports;
+static int looks, handovers, takings;
 
 void heard_news(void)
 {
@@ -83,7 +84,7 @@ static void forget_written(void)
 	keep_text(&kept_plan, NULL);
 	status.is_settled = 0;
 	repeats = 0;
-	left_not_active = 0;
+	left_not_active = left_of_others = 0;
 }
 
 static void look_at_state(void)
@@ -307,12 +308,33 @@ static int may_be_acknowledged(void)
 	return now() < handed_over + ACKNOWLEDGED;
 }
 
+/* Returns whether a writing of the same plan may bring up a port. */
+static int may_bring_up(void)
+{
+	return ports_not_active() > left_not_active && repeats < MOST_REPEATS;
+}
+
+/* Returns whether ports are to name this manager as master that name another one. That one may write them too, so this
+   is not done without end. */
+static int may_take_ports(void)
+{
+	if (now() > took_ports + TAKING)
+		takings = 0;
+	return ports_of_others() && takings < MOST_REPEATS;
+}
+
+static void note_left(unsigned count, unsigned *left, const char *what)
+{
+	if (count > *left)
+		note("%u ports %s", count, what);
+	*left = count;
+}
+
 /* Settles, since nothing is left to write. */
 static void settle(void)
 {
-	if (ports_not_active() > left_not_active)
-		note("%u ports stay in Initialize or Armed", ports_not_active());
-	left_not_active = ports_not_active();
+	note_left(ports_not_active(), &left_not_active, "stay in Initialize or Armed");
+	note_left(ports_of_others(), &left_of_others, "name another master still");
 	repeats = 0;
 	faults = 0;
 	status.is_settled = 1;
@@ -320,7 +342,7 @@ static void settle(void)
 	hand_over();
 }
 
-/* Writes the plan, unless this process wrote it last and no ports have come up anew. */
+/* Writes the plan, unless this process wrote it last and all ports have it. */
 static void judge_plan(void)
 {
 	const char *plan = tell("plan");
@@ -329,9 +351,14 @@ static void judge_plan(void)
 	if (!strncmp(plan, "refused ", 8)) {
 		note("NOT WRITTEN: there is no plan: %.40s", plan + 8);
 		wait_longer();
-	} else if (is_same && (ports_not_active() <= left_not_active || repeats == MOST_REPEATS)) {
+	} else if (is_same && !may_bring_up() && !may_take_ports()) {
 		settle();
 	} else {
+		if (is_same && ports_of_others()) {
+			if (!takings++)
+				took_ports = now();
+			note("%u ports name another master", ports_of_others());
+		}
 		repeats = is_same ? repeats + 1 : 0;
 		write_plan(plan);
 	}

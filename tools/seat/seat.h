@@ -69,10 +69,13 @@ void begin_silent(void);
 size_t silent_requests(void);
 const char *silent_request(size_t place);
 
-/* Begins the count of ports_not_active anew. */
+/* Begins the counts of ports anew. */
 void begin_ports(void);
-/* Returns how many ports a sweep has read as Initialize or Armed since the count began. */
+/* Returns how many ports a sweep has read as Initialize or Armed since the counts began. */
 unsigned ports_not_active(void);
+/* Returns how many end ports a sweep has read whose MasterSMLID is not the LID of the own port: their traps go to another
+   manager. */
+unsigned ports_of_others(void);
 
 /* policy.c: when the process is told what. */
 void begin_policy(void);
