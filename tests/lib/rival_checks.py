@@ -11,12 +11,14 @@ from collections.abc import Callable, Iterator
 import live_checks
 import sample_fabrics
 from bench import Bench
-from seat_checks import Seat, held, manager, opensm, port_guid, seated, until
+from seat_checks import Seat, held, lids, manager, opensm, port_guid, seated, until
 
 # Seconds in which one master is to be left, and in which it is to have written.
 SOON = 12
 # Seconds in which one is to be left where sweeps lack answers: six of them, with waits up to two seconds.
 DEAF = 30
+# Seconds that a seat may take to leave.
+LEFT = 6
 # How a seat polls and repeats requests in these trials.
 TIMING = ("-m", 200, "-r", 1)
 # Seconds for which no other state may come.
@@ -71,8 +73,8 @@ def settled_anew(seat: Seat, since: float) -> bool:
 def ruled_by(bench: Bench, name: str, host: str, reader: str = "H3") -> None:
     """Checks that the subnet holds the plan, and that each end port has the LID of the master at `host`."""
     text = held(bench, name, reader)
-    lids = master_lids(bench, name)
-    bench.check(lids == {lid_of(bench, text, host)}, f"each end port names {host} as its master: {lids}")
+    named = master_lids(bench, name)
+    bench.check(named == {lid_of(bench, text, host)}, f"each end port names {host} as its master: {named}")
 
 
 def paused_above_opensm(bench: Bench, name: str = "above", **how: bool) -> None:
@@ -109,8 +111,9 @@ def paused_below_opensm(bench: Bench) -> None:
         bench.check(seat.status()["writing"]["count"] == before, "the seat has written nothing")
         bench.record("-q", "-g", 1, "-T", "still", "still.reports", seat="H3")
         bench.check(bench.same("theirs", "still"), "tables are OpenSM's")
-        lids = master_lids(bench, "still")
-        bench.check(lids == {lid_of(bench, (bench.path / "still").read_text(), "H2")}, f"and so is MasterSMLID: {lids}")
+        named = master_lids(bench, "still")
+        own = lid_of(bench, (bench.path / "still").read_text(), "H2")
+        bench.check(named == {own}, f"and so is MasterSMLID: {named}")
 
 
 def opensm_paused(bench: Bench, ours: int, theirs: int) -> None:
@@ -220,6 +223,80 @@ def port_of_another(bench: Bench) -> None:
         bench.check(master_lids(bench, "left") == {own, other}, f"H6 names itself still: {master_lids(bench, 'left')}")
 
 
+def hung(bench: Bench) -> None:
+    """Checks that a seat whose process is stopped has it killed, and that a new one brings the subnet up. A seat whose
+    process is stopped ends at SIGTERM all the same."""
+    with seated(bench, "H1", "-p", 8, "-s", 1, *TIMING) as seat:
+        bench.check(seat.settles(), "a seat is master")
+        before = held(bench, "before", "H3")
+        first = seat.children()
+        os.kill(first[0], signal.SIGSTOP)
+        took = until(lambda: seat.count("hangs, and is killed"), SOON)
+        bench.check(took is not None, f"its process is stopped: that is seen after {took or -1:.1f} s")
+        took = until(lambda: seat.count("SUBNET UP") == 2, SOON)
+        bench.check(took is not None and seat.settles(), f"a new one brings the subnet up after {took or -1:.1f} s")
+        bench.check(len(seat.children()) == 1 and seat.children() != first, "the stopped one is gone")
+        bench.check(held(bench, "after", "H3") == before, "tables are as they were")
+        os.kill(seat.children()[0], signal.SIGSTOP)
+        began = time.monotonic()
+        bench.check(seat.end() == 0, f"SIGTERM while it is stopped: status 0 after {time.monotonic() - began:.1f} s")
+        bench.check(seat.count("hangs, and is killed") == 1, "for which nothing more is said")
+
+
+def left_to_a_seat(bench: Bench) -> None:
+    """Checks that a seat that is ended hands over to a lesser one, which would otherwise poll for ten seconds."""
+    with seated(bench, "H1", "-p", 8) as greater, seated(bench, "H2", "-p", 3) as lesser:
+        bench.check(greater.settles(), "a seat is master")
+        bench.check(until(lambda: lesser.state() == "standby") is not None, "a lesser one stands by")
+        before = held(bench, "before", "H3")
+        # The master sees it as such in its next sweep.
+        since = time.time()
+        greater.process.send_signal(signal.SIGHUP)
+        bench.check(settled_anew(greater, since - 1), "the master has swept since")
+        began = time.monotonic()
+        bench.check(greater.end() == 0, f"SIGTERM: status 0 after {time.monotonic() - began:.1f} s")
+        heir = f"HANDOVER to {port_guid(bench, 'H2'):016x}, priority 3\n"
+        bench.check(heir in greater.said(), f"the other takes over: {greater.said().splitlines()[-4:]}")
+        took = until(lambda: "SUBNET UP" in lesser.said(), SOON)
+        took = time.monotonic() - began
+        bench.check(lesser.settles() and took < LEFT, f"and has written {took:.1f} s after the signal")
+        ruled_by(bench, "left", "H2")
+        bench.check((bench.path / "left").read_text() == before, "tables are as they were")
+        began = time.monotonic()
+        bench.check(lesser.end() == 0 and lesser.count("YIELDS") == 0, "SIGTERM with nobody beside it: status 0")
+        bench.check(time.monotonic() - began < 1, f"at once: {time.monotonic() - began:.1f} s")
+
+
+def left_to_a_dead_seat(bench: Bench) -> None:
+    """Checks that a seat ends soon although the standby that it hands over to is stopped."""
+    with seated(bench, "H1", "-p", 8) as greater, seated(bench, "H2", "-p", 3) as lesser:
+        bench.check(until(lambda: lesser.state() == "standby") is not None, "a lesser one stands by")
+        bench.check(until(lambda: greater.status()["managers"] and greater.settles()) is not None, "and is seen")
+        with stopped(lesser.process.pid):
+            began = time.monotonic()
+            status = greater.end()
+            took = time.monotonic() - began
+            bench.check(status == 0 and took < LEFT, f"SIGTERM while it is stopped: status {status} after {took:.1f} s")
+            bench.check(greater.count("does not take over") == 1, f"it is said: {greater.said().splitlines()[-3:]}")
+
+
+def left_to_opensm(bench: Bench) -> None:
+    """Checks that a seat that is ended hands over to a lesser OpenSM."""
+    with seated(bench, "H1", "-p", 8, "-s", 2) as seat, opensm(bench, "H2", 3, "-R", "updn") as (_, log):
+        bench.check(until(lambda: state_in(log()) == "standby") is not None, "OpenSM, priority 3, stands by")
+        bench.check(until(lambda: seat.status()["managers"] and seat.settles()) is not None, "and is seen")
+        before = held(bench, "before", "H3")
+        time.sleep(STEADY)
+        began = time.monotonic()
+        bench.check(seat.end() == 0, f"SIGTERM: status 0 after {time.monotonic() - began:.1f} s")
+        heir = f"HANDOVER to {port_guid(bench, 'H2'):016x}, priority 3\n"
+        bench.check(heir in seat.said(), f"OpenSM takes over: {seat.said().splitlines()[-4:]}")
+        bench.check(until(lambda: "SUBNET UP" in log(), SOON) is not None, "and has written")
+        bench.check(state_in(log()) == "master", f"it is {state_in(log())}")
+        bench.record("-q", "-g", 1, "-T", "theirs", "theirs.reports", seat="H3")
+        bench.check(lids((bench.path / "theirs").read_text()) == lids(before), "LIDs stay")
+
+
 def torus() -> sample_fabrics.Fabric:
     """Returns the fabric of these trials."""
     return sample_fabrics.torus(3, 3)
@@ -234,6 +311,10 @@ SEATED = (
     ("two masters, a greater OpenSM paused", torus, (greater_opensm_paused,)),
     ("two masters, a seat paused above a seat", torus, (seats_paused,)),
     ("a port of another master", torus, (port_of_another,)),
+    ("a process that hangs", torus, (hung,)),
+    ("an end beside a seat", torus, (left_to_a_seat,)),
+    ("an end beside a stopped seat", torus, (left_to_a_dead_seat,)),
+    ("an end beside OpenSM", torus, (left_to_opensm,)),
     ("no master, with a deaf adapter", torus, (without_a_master,)),
     ("a greater seat, with a deaf adapter", torus, (handed_over_with_gaps,)),
 )

@@ -37,7 +37,7 @@ static int umad = -1, directed, routed, issm = -1;
 static struct packet *queue;
 static size_t head, tail, room;
 static struct out outs[MOST_OUT];
-static int out_count;
+static int out_count, is_taken;
 static uint32_t next_number;
 static char silent[MOST_SILENT][SILENT_TEXT];
 static size_t silent_count;
@@ -59,12 +59,18 @@ void be_manager(void)
 		    errno == EAGAIN || errno == EBUSY ? ": another subnet manager is at this port" : "");
 }
 
+void be_no_manager(void)
+{
+	if (issm >= 0)
+		close(issm);
+	issm = -1;
+}
+
 void announce_manager(void)
 {
 	if (issm < 0)
 		return;
-	close(issm);
-	issm = -1;
+	be_no_manager();
 	be_manager();
 }
 
@@ -85,8 +91,7 @@ void open_seat(void)
 
 void close_seat(void)
 {
-	if (issm >= 0)
-		close(issm);
+	be_no_manager();
 	umad_unregister(umad, directed);
 	umad_unregister(umad, routed);
 	umad_close_port(umad);
@@ -164,6 +169,11 @@ void queue_packet(const char *hex, unsigned lid)
 		add_to_queue(&packet);
 }
 
+int handover_is_taken(void)
+{
+	return is_taken;
+}
+
 void queue_handover(unsigned lid)
 {
 	struct packet packet = { .lid = lid, .is_own = 1, .bytes = { 1, LID_ROUTED_CLASS, 1, SET } };
@@ -175,6 +185,7 @@ void queue_handover(unsigned lid)
 	put(info + 8, 8, own_key());
 	info[20] = seat.priority << 4 | MASTER;
 	add_to_queue(&packet);
+	is_taken = 0;
 }
 
 static void try_out(struct out *out)
@@ -411,6 +422,8 @@ static void on_answer(uint8_t *packet, unsigned lid)
 	if (is_poll(packet))
 		heard_poll((packet[ATTRIBUTE + 20] & 15) == MASTER);
 	outs[place] = outs[--out_count];
+	if (out.packet.is_own)
+		is_taken = !(get(packet + 4, 2) & 0x7fff);
 	if (out.packet.is_own || strncmp(give(packet, lid), "refused ", 8))
 		return;
 	carried.refused++;

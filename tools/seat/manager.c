@@ -1,5 +1,5 @@
 /* The process of `ibsm serve` that decides: a line is written to it, and its answer is read up to the line with a
-   dot. */
+   dot. A process that hangs is killed. */
 #include <errno.h>
 #include <poll.h>
 #include <signal.h>
@@ -10,10 +10,13 @@
 #include <unistd.h>
 #include "seat.h"
 
-enum { LOOK_MS = 100, LONGEST_LINE = 600, MOST_WORDS = 16, USAGE_STATUS = 2, REFUSED_STATUS = 3, NOT_FOUND = 127 };
+/* While an answer is waited for, it is looked each LOOK_MS milliseconds whether the process does anything. It hangs if it
+   has used no processor time for as many looks in a row, or does not answer for as many. */
+enum { LOOK_MS = 100, IDLE_LOOKS = 50, MOST_LOOKS = 3000, LAST_LOOKS = 30, END_LOOKS = 20 };
+enum { LONGEST_LINE = 600, MOST_WORDS = 16, USAGE_STATUS = 2, REFUSED_STATUS = 3, NOT_FOUND = 127 };
 
 static pid_t process;
-static int to = -1, from = -1, is_gone = 1;
+static int to = -1, from = -1, is_gone = 1, has_answered;
 static char *answer, *input;
 static size_t answer_length, answer_room, input_begin, input_end, input_room;
 
@@ -80,13 +83,26 @@ void start_manager(void)
 	to = in[1];
 	from = out[0];
 	input_begin = input_end = 0;
-	is_gone = 0;
+	is_gone = has_answered = 0;
+}
+
+/* Waits for the end of the process, and returns how it ended. One that goes on is killed. */
+static int status_at_end(void)
+{
+	int looks, status = 0;
+
+	for (looks = 0; !waitpid(process, &status, WNOHANG); looks++) {
+		if (looks == END_LOOKS)
+			kill(process, SIGKILL);
+		usleep(1000 * LOOK_MS);
+	}
+	return status;
 }
 
 /* Closes the process's input, which ends it, and waits for that. */
 void stop_manager(void)
 {
-	int status = 0;
+	int status;
 
 	if (!process)
 		return;
@@ -95,8 +111,7 @@ void stop_manager(void)
 	is_gone = 1;
 	if (is_ended())
 		kill(process, SIGTERM);
-	while (waitpid(process, &status, 0) < 0 && errno == EINTR)
-		;
+	status = status_at_end();
 	process = 0;
 	if (WIFEXITED(status) && (WEXITSTATUS(status) == USAGE_STATUS || WEXITSTATUS(status) == REFUSED_STATUS))
 		end(WEXITSTATUS(status), "%s serve takes none of these options, or not these files", seat.program);
@@ -114,7 +129,7 @@ static void write_line(const char *line, size_t length)
 
 	while (length && !is_gone) {
 		count = write(to, line, length);
-		if (count < 0 && errno == EINTR && !is_ended())
+		if (count < 0 && errno == EINTR)
 			continue;
 		if (count < 0) {
 			is_gone = 1;
@@ -125,17 +140,41 @@ static void write_line(const char *line, size_t length)
 	}
 }
 
-/* Waits until the process has printed something or is gone. Returns 0 if a signal ended the program meanwhile. */
+/* Returns the seconds of processor time that the process has used. */
+static double time_used(void)
+{
+	struct timespec used = { 0 };
+	clockid_t clock;
+
+	if (!clock_getcpuclockid(process, &clock))
+		clock_gettime(clock, &used);
+	return used.tv_sec + used.tv_nsec * 1e-9;
+}
+
+/* Waits until the process has printed something or is gone. Returns 0 if it hangs, or does not answer soon after a signal
+   has ended the program. Until its first answer it may be compiled, which others do in its place. */
 static int wait_for_output(void)
 {
 	struct pollfd file = { .fd = from, .events = POLLIN };
-	int ready;
+	int looks, idle = 0, last = 0, ready;
+	double used = time_used(), before;
 
-	do {
+	for (looks = 0; looks < MOST_LOOKS && last < LAST_LOOKS && (idle < IDLE_LOOKS || !has_answered); looks++) {
 		pause_seen();	/* the process may take long: that is no pause */
 		ready = poll(&file, 1, LOOK_MS);
-	} while (!ready || (ready < 0 && errno == EINTR && !is_ended()));
-	return ready > 0;
+		if (ready > 0)
+			return 1;
+		if (ready < 0 && errno != EINTR)
+			return 0;
+		before = used;
+		used = time_used();
+		idle = used > before ? 0 : idle + 1;
+		last += is_ended();
+	}
+	if (!is_ended())
+		note("the process of %s serve hangs, and is killed", seat.program);
+	kill(process, SIGKILL);
+	return 0;
 }
 
 /* Returns the next line that the process printed, ended by 0, or NULL if it is gone. */
@@ -203,12 +242,14 @@ const char *tell(const char *format, ...)
 	write_line(line, length);
 	while (!is_gone) {
 		told = read_line();
-		if (!told)
+		if (!told) {
 			is_gone = 1;
-		else if (!strcmp(told, "."))
+		} else if (!strcmp(told, ".")) {
+			has_answered = 1;
 			break;
-		else
+		} else {
 			take_line(told);
+		}
 	}
 	return answer_length ? answer : "";
 }

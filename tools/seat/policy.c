@@ -12,10 +12,12 @@
 
 enum phase { RESTS, SWEEPS, WRITES, HANDS_OVER };
 enum { LINK_STATE_CHANGED = 128, CAPABILITIES_CHANGED = 144, MOST_REPEATS = 3, MOST_POLLS = 3 };
+enum { LEAVING_MS = 20 };	/* for which a packet is waited meanwhile */
 enum { MOST_WAIT = 10, SHORT_WAIT = 2 };	/* seconds */
 enum { MOST_LOOKS = 3, MOST_HANDOVERS = 3 };	/* at another master, while nothing is written */
 #define SHORTEST 1.0	/* seconds from the beginning of one sweep to that of the next */
 #define ACKNOWLEDGED 1.0	/* seconds that a manager may take to acknowledge a handover, after its answer to it */
+#define LEAVING 3.0	/* seconds that a manager may take to take over from one that ends */
 #define TAKING 600.0	/* seconds in which ports that name another master are written MOST_REPEATS times */
 #define MEETING 60.0	/* seconds from the first sight of another master until it gets more handovers */
 
@@ -210,15 +212,17 @@ static void hand_over(void)
 	handed_over = 0;
 }
 
-/* Returns the LID that a port reported, or 0. */
+/* Returns the LID of a port: that which was written or, if nothing was, that which the port reported. It is 0 if neither
+   is known. */
 static unsigned lid_of(const char *place)
 {
-	const char *line;
+	const char *line = kept_plan ? kept_plan : tell("facts");
 	char port[sizeof ((struct other *) 0)->place];
 	unsigned lid;
 
-	for (line = tell("facts"); *line; line = strchr(line, '\n') + 1)
-		if (sscanf(line, "claim %27s %u", port, &lid) == 2 && !strcmp(port, place))
+	for (; *line; line = strchr(line, '\n') + 1)
+		if ((sscanf(line, "lid %u %27s", &lid, port) == 2 || sscanf(line, "claim %27s %u", port, &lid) == 2) &&
+		    !strcmp(port, place))
 			return lid;
 	return 0;
 }
@@ -516,4 +520,26 @@ void policy(void)
 		rest();
 	if (was != RESTS)
 		write_status(&status);
+}
+
+void leave(void)
+{
+	const struct other *heir = greatest_heard("standby", NULL);
+	double until = now() + LEAVING;
+
+	if (!is_state("master") || !heir || manager_is_gone() || pause_seen())
+		return;
+	drop_all();	/* the heir writes anew */
+	be_no_manager();	/* or else its first sweep would find a master here, and it would stand by again */
+	yield_to(heir);
+	while (is_state("master") && now() < until && !manager_is_gone()) {
+		carry(LEAVING_MS);
+		if (handover_is_taken() && until > now() + ACKNOWLEDGED)
+			until = now() + ACKNOWLEDGED;
+		if (has_news)
+			look_at_state();
+		has_news = 0;
+	}
+	note("HANDOVER to %016" PRIx64 ", priority %u%s", heir->guid, heir->priority,
+	     is_state("master") && !handover_is_taken() ? ", which does not take over" : "");
 }

@@ -217,6 +217,7 @@ int main(int count, char **texts)
 			start();
 		}
 	}
+	leave();
 	stop_manager();
 	close_seat();
 	note("ended by signal %d", ended_by);

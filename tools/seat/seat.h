@@ -46,6 +46,8 @@ void open_seat(void);
 void close_seat(void);
 /* Has the port say that a manager is here. Others ask it then, so the process has to answer. */
 void be_manager(void);
+/* Has the port not say so any more. */
+void be_no_manager(void);
 /* Has the port say anew that a manager is here: its agent then sends trap 144, and the master sweeps. */
 void announce_manager(void);
 /* Waits, and drops what comes, until no request of an earlier process can be answered any more. */
@@ -63,6 +65,8 @@ void give_up_queued(void);
 void give_up_all(void);
 /* Queues a HANDOVER of this manager to the manager at a LID. The process neither printed it nor gets its answer. */
 void queue_handover(unsigned lid);
+/* Returns whether the last one was answered with status 0. */
+int handover_is_taken(void);
 /* Unanswered requests since a sweep began, as texts; at most MOST_SILENT are kept. */
 enum { MOST_SILENT = 20, SILENT_TEXT = 120 };
 void begin_silent(void);
@@ -80,6 +84,9 @@ unsigned ports_of_others(void);
 /* policy.c: when the process is told what. */
 void begin_policy(void);
 void policy(void);
+/* As master, hands over to the greatest standby that the last sweep saw, and waits until it takes over, but not for
+   long. */
+void leave(void);
 /* Notes that the process got a line other than the policy's own. */
 void heard_news(void);
 /* Notes a trap, and returns whether this manager is master and so gets the trap. */
