@@ -7,6 +7,7 @@ import os
 import pathlib
 import random
 import re
+import shutil
 import signal
 import subprocess
 import sys
@@ -176,6 +177,33 @@ def dry_run(bench: Bench) -> None:
         bench.run(*words, "--lmc", 1, simulated=True) == 0 and " lmc 1\n" in bench.printed,
         "with --lmc 1 that of this LMC",
     )
+
+
+def own_program(bench: Bench) -> None:
+    """Checks that a seat runs the program of its checkout, or the one installed beside it, if none is on the path."""
+    path = os.environ["PATH"].split(":")
+    bench.check(not any(os.access(f"{folder}/ibsm", os.X_OK) for folder in path), "no ibsm is on the path")
+    bench.record("-q", "-g", 1, "-T", "none", "none.reports")
+    bench.texts("none")
+    for seat, program in (
+        ("a/tools/seat/out/seat", "a/ibsm"),
+        ("b/tools/record/out/seat", "b/ibsm"),
+        ("c/bin/ibsm-seat", "c/bin/ibsm"),
+    ):
+        (bench.path / seat).parent.mkdir(parents=True)
+        shutil.copy(bench.room / "out/seat", bench.path / seat)
+        bench.check(
+            bench.run(bench.path / seat, "-q", "--dry-run", simulated=True) == 4
+            and "there is no program ibsm: " in bench.said,
+            f"{seat} without a program: status 4: {bench.said.strip()}",
+        )
+        (bench.path / program).write_text(f'#!/bin/sh\nexec {bench.program} "$@"\n')
+        (bench.path / program).chmod(0o755)
+        status = bench.run(bench.path / seat, "-q", "--dry-run", simulated=True)
+        bench.check(
+            status == 0 and bench.printed == (bench.path / "none.plan").read_text(),
+            f"with {program}: the plan {bench.said.strip()}",
+        )
 
 
 def wrong_usage(bench: Bench) -> None:
@@ -902,6 +930,8 @@ TIMED = (
 # The fabrics, and the checks tried on each.
 SEATED = (
     ("triangle", sample_fabrics.triangle, (dry_run, wrong_usage, brought_up, two_seats)),
+    # It has its own fabric: ibsim has room for ten clients, and keeps for some time those that have ended.
+    ("a triangle with programs", sample_fabrics.triangle, (own_program,)),
     ("another triangle", sample_fabrics.triangle, (faithful, bent)),
     ("a third triangle", sample_fabrics.triangle, (images,)),
     ("a ring of 6 switches", lambda: sample_fabrics.ring(6), (by_options,)),

@@ -116,7 +116,7 @@ void stop_manager(void)
 	if (WIFEXITED(status) && (WEXITSTATUS(status) == USAGE_STATUS || WEXITSTATUS(status) == REFUSED_STATUS))
 		end(WEXITSTATUS(status), "%s serve takes none of these options, or not these files", seat.program);
 	if (WIFEXITED(status) && WEXITSTATUS(status) == NOT_FOUND)
-		end(NO_FABRIC, "there is no program %s; --ibsm names one", seat.program);
+		end(NO_FABRIC, "there is no program %s: build it by ./ibsm, or name one by --ibsm", seat.program);
 	if (!is_ended())
 		note("the process of %s serve has ended with %s %d", seat.program,
 		     WIFSIGNALED(status) ? "signal" : "status",

@@ -18,7 +18,7 @@ enum { WAIT_MS = 20, MOST_STARTS = 3 };
 #define LONG_STEP 2.0	/* seconds; who does nothing for longer stood still, and was deaf */
 
 const char *tool = "seat";
-struct seat_options seat = { .program = "ibsm", .sweep_seconds = 10, .poll_ms = 1000 };
+struct seat_options seat = { .sweep_seconds = 10, .poll_ms = 1000 };
 struct own_port own_port;
 struct carried carried;
 static volatile sig_atomic_t ended_by, hung_up;
@@ -35,7 +35,7 @@ static const char usage_text[] =
 "  -R, --routing RULE     the rule of routing, as of `ibsm plan` (updown)\n"
 "  -f, --roots FILE       with spread: the switches from which it counts distances\n"
 "  -o, --order FILE       with spread: the order by which it grows\n"
-"  -i, --ibsm PROGRAM     the program (ibsm)\n"
+"  -i, --ibsm PROGRAM     the program; else that of this checkout or beside this one, or ibsm on the path\n"
 "  -s, --sweep S          as master, a sweep each S seconds, 0 for none but by traps and SIGHUP (10)\n"
 "  -m, --poll MS          as standby, the master is polled each MS milliseconds (1000)\n"
 "  -a, --after FILE       number sweeps above the newest of this recording or store, and by the clock\n"
@@ -176,6 +176,8 @@ static void parse(int count, char **texts)
 		take_option(letter);
 	if (optind != count)
 		take_option('?');
+	if (!seat.program)
+		seat.program = the_program();
 }
 
 /* Starts the process. Packets of an earlier process are dropped before the new one gets its first line. */

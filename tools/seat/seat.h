@@ -33,6 +33,10 @@ int is_ended(void);
 double pause_seen(void);
 void end_pause(void);
 
+/* program.c: returns the path of the program that stands at the top of seat's checkout or beside the installed seat, or
+   its mere name, to be looked for on the path. */
+char *the_program(void);
+
 /* manager.c: the process that decides. */
 void start_manager(void);
 void stop_manager(void);
