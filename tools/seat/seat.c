@@ -2,7 +2,7 @@
  * seat: the port, the clock and the policy of a subnet manager whose decisions are those of `ibsm serve`.
  *
  * It carries packets between the two, byte for byte, and says when to sweep, to write and to poll. It is not a subnet
- * administration. The manual page, seat.1, has the options and exit statuses.
+ * administration, and while it is master no host has one. The manual page, seat.1, has the options and exit statuses.
  */
 #include <errno.h>
 #include <getopt.h>
@@ -27,10 +27,13 @@ static double seen_running, pause_length;
 static const char usage_text[] =
 " [OPTION]...\n"
 "Runs `ibsm serve` as subnet manager at a port: carries its packets, and says when it sweeps, writes and polls.\n"
-"It is no subnet administration: IPoIB and rdma_cm need OpenSM or another one.\n"
+"It is no subnet administration: while it is master, no host has one, whatever else runs, so IPoIB and rdma_cm do not\n"
+"work. Only OpenSM as master, with `send` or `round --direct`, keeps it. A whole plan is written at once, not by steps:\n"
+"meanwhile packets that arrived before can be lost or go round.\n"
 "\n"
 "  -p, --priority N       of this manager, 0 to 15 (0)\n"
-"      --sm-key HEX       its SM_Key, 1 to 16 hex digits (1, as OpenSM)\n"
+"      --sm-key HEX       its SM_Key, 1 to 16 hex digits: that of the other managers, and not 0 beside OpenSM (1, as\n"
+"                         OpenSM has it if its sm_key is not set)\n"
 "  -l, --lmc N            an adapter's port has 2^N LIDs, 0 to 7 (0)\n"
 "  -R, --routing RULE     the rule of routing, as of `ibsm plan` (updown)\n"
 "  -f, --roots FILE       with spread: the switches from which it counts distances\n"
@@ -51,7 +54,8 @@ static const char usage_text[] =
 "  -h, --help             this text\n"
 "  -V, --version          the version\n"
 "\n"
-"It goes on until SIGTERM or SIGINT. SIGHUP makes it sweep.\n"
+"It goes on until SIGTERM or SIGINT. As master it then hands over to a standby, if there is one. SIGHUP makes it\n"
+"sweep.\n"
 "\n"
 "The exit status is 0 where a signal ended it, or a dry run had every answer; 1 where a dry run had not; 2 where\n"
 "the command line is wrong; 3 where the program refuses a file; 4 without a subnet, the program, or the right to be\n"
