@@ -5,6 +5,7 @@ import contextlib
 import os
 import pathlib
 import re
+import shutil
 import signal
 import subprocess
 import sys
@@ -31,6 +32,11 @@ def wait_until(holds: Callable[[], object], seconds: float = SECONDS) -> bool:
 def text(path: pathlib.Path) -> str:
     """Returns the text of a file, or an empty one if there is no file."""
     return path.read_text(errors="replace") if path.exists() else ""
+
+
+def simulated_library() -> str:
+    """Returns the path of the library that stands for libibumad over ibsim."""
+    return re.search("^sim_so=(.*)", text(pathlib.Path(shutil.which("ibsim-run"))), re.M)[1].strip('"')
 
 
 @contextlib.contextmanager

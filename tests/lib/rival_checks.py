@@ -1,4 +1,4 @@
-"""What `tests/test` checks of `seat` over ibsim when two managers are master, when none is, and when a process hangs."""
+"""What `tests/test` checks of `seat` over ibsim: two masters and none, a process that hangs, the end of a master."""
 from __future__ import annotations
 
 import contextlib
@@ -144,11 +144,13 @@ def greater_opensm_paused(bench: Bench) -> None:
     opensm_paused(bench, 3, 8)
 
 
-def seats_paused(bench: Bench) -> None:
-    """Checks two seats with the default period: the greater one is stopped, the lesser one becomes master, and the
-    greater one goes on. It is the only master then, and each end port names it as such."""
-    with seated(bench, "H1", "-p", 8, *TIMING) as greater, seated(bench, "H2", "-p", 3, *TIMING) as lesser:
+def seats_paused(bench: Bench, *words: object, bend: str | None = None) -> None:
+    """Checks two seats: the greater one is stopped, the lesser one becomes master, and the greater one goes on. It is
+    the only master then, and each end port names it as such. `words` and `bend` are of the lesser one."""
+    with contextlib.ExitStack() as stack:
+        greater = stack.enter_context(seated(bench, "H1", "-p", 8, *TIMING))
         bench.check(greater.settles(), "a seat of priority 8 is master")
+        lesser = stack.enter_context(seated(bench, "H2", "-p", 3, *TIMING, *words, bend=bend))
         bench.check(until(lambda: lesser.state() == "standby", 20) is not None, "one of priority 3 stands by")
         before = held(bench, "before", "H3")
         with stopped(greater.process.pid):
@@ -157,14 +159,21 @@ def seats_paused(bench: Bench) -> None:
             ruled_by(bench, "lesser", "H2")
             since = time.time()
         one_master(bench, lambda: (greater.state(), lesser.state()), ("master", "standby"), "it goes on: one master")
+        bench.check((greater.count("YIELDS") > 0) == (bend is not None), f"it yields {greater.count('YIELDS')} times")
         bench.check(settled_anew(greater, since), "it writes, and sweeps once more")
         ruled_by(bench, "greater", "H1")
         bench.check((bench.path / "greater").read_text() == before, "tables are as at first")
 
 
+def paused_above_a_deaf_seat(bench: Bench) -> None:
+    """Checks the same where no trap reaches the lesser one, and it sweeps each minute: the greater one hands over to
+    it, and it hands back."""
+    seats_paused(bench, "-s", 60, bend="untrapped")
+
+
 def without_a_master(bench: Bench) -> None:
-    """Checks that one of two seats becomes master although an adapter answers nothing and both stand by: the lesser one
-    was master, was killed, and started anew. Once the adapter answers, the master writes."""
+    """Checks that one of two seats becomes master although an adapter answers nothing and both stand by: the lesser
+    one was master, was killed, and started anew. Once the adapter answers, the master writes."""
     deaf = 'Error "H6"[1]'
     bench.tell(f"{deaf} 100")
     with contextlib.ExitStack() as stack:
@@ -202,8 +211,8 @@ def handed_over_with_gaps(bench: Bench) -> None:
 
 
 def port_of_another(bench: Bench) -> None:
-    """Checks that a port whose MasterSMLID becomes another LID gets the master's again, though the plan is the same; but
-    not without end, since who changes it may be a master too."""
+    """Checks that a port whose MasterSMLID becomes another LID gets the master's again, though the plan is the same;
+    but not without end, since who changes it may be a master too."""
     with seated(bench, "H1", "-p", 8, "-s", 1, *TIMING) as seat:
         bench.check(seat.settles(), "a seat is master")
         text = held(bench, "before", "H3")
@@ -310,6 +319,7 @@ SEATED = (
     ("two masters, a lesser OpenSM paused", torus, (lesser_opensm_paused,)),
     ("two masters, a greater OpenSM paused", torus, (greater_opensm_paused,)),
     ("two masters, a seat paused above a seat", torus, (seats_paused,)),
+    ("two masters, a seat paused above a deaf seat", torus, (paused_above_a_deaf_seat,)),
     ("a port of another master", torus, (port_of_another,)),
     ("a process that hangs", torus, (hung,)),
     ("an end beside a seat", torus, (left_to_a_seat,)),

@@ -12,10 +12,12 @@
  *   stop      the fifth Set comes with an interrupt
  *   other     the answer to the fifth Set has another first entry
  *   refuse    the fifth Set is refused with status 0x001C
+ *   untrapped traps do not come
  * Each packet is appended to the file that the variable PACKETS names, as a line: `out` or `in`, and its hex digits.
  */
 #define _GNU_SOURCE
 #include <dlfcn.h>
+#include <errno.h>
 #include <signal.h>
 #include <stdint.h>
 #include <stdio.h>
@@ -24,7 +26,7 @@
 #include <unistd.h>
 #include <infiniband/umad.h>
 
-enum { SET = 2, FIFTH = 5, PACKET = 256 };
+enum { SET = 2, TRAP = 5, FIFTH = 5, PACKET = 256 };
 
 static int sets;
 static uint64_t fifth;	/* its TransactionID */
@@ -78,6 +80,10 @@ int umad_recv(int port, void *buffer, int *length, int timeout_ms)
 		keep_packet("in", packet);
 	if (agent < 0 || !bend)
 		return agent;
+	if (!strcmp(bend, "untrapped") && packet[1] == 1 && packet[3] == TRAP) {
+		errno = EAGAIN;
+		return -EAGAIN;
+	}
 	if (!strcmp(bend, "slow"))
 		usleep(100000);
 	if (!strcmp(bend, "pointer") && packet[7] == 0)

@@ -12,7 +12,7 @@
 
 /* While an answer is waited for, it is looked each LOOK_MS milliseconds whether the process does anything. It hangs if it
    has used no processor time for as many looks in a row, or does not answer for as many. */
-enum { LOOK_MS = 100, IDLE_LOOKS = 50, MOST_LOOKS = 3000, LAST_LOOKS = 30, END_LOOKS = 20 };
+enum { LOOK_MS = 100, IDLE_LOOKS = 50, ANSWER_LOOKS = 3000, LAST_LOOKS = 30, END_LOOKS = 20 };
 enum { LONGEST_LINE = 600, MOST_WORDS = 16, USAGE_STATUS = 2, REFUSED_STATUS = 3, NOT_FOUND = 127 };
 
 static pid_t process;
@@ -159,7 +159,7 @@ static int wait_for_output(void)
 	int looks, idle = 0, last = 0, ready;
 	double used = time_used(), before;
 
-	for (looks = 0; looks < MOST_LOOKS && last < LAST_LOOKS && (idle < IDLE_LOOKS || !has_answered); looks++) {
+	for (looks = 0; looks < ANSWER_LOOKS && last < LAST_LOOKS && (idle < IDLE_LOOKS || !has_answered); looks++) {
 		pause_seen();	/* the process may take long: that is no pause */
 		ready = poll(&file, 1, LOOK_MS);
 		if (ready > 0)
