@@ -1,8 +1,9 @@
 /*
  * seat: the port, the clock and the policy of a subnet manager whose decisions are those of `ibsm serve`.
  *
- * It carries packets between the two, byte for byte, and says when to sweep, to write and to poll. It is not a subnet
- * administration, and while it is master no host has one. The manual page, seat.1, has the options and exit statuses.
+ * It carries packets between the two, byte for byte, and says when to sweep, to write and to poll. It makes one packet
+ * itself: a HANDOVER to a lesser manager. It is not a subnet administration, and while it is master no host has one. The
+ * manual page, seat.1, has the options and exit statuses.
  */
 #include <errno.h>
 #include <getopt.h>
