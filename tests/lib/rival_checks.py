@@ -52,9 +52,15 @@ def lid_of(bench: Bench, text: str, host: str) -> int:
     return int(re.search(rf"^lid (\d+) {bench.fabric.guid(host):016x}/1$", text, re.M)[1])
 
 
-def one_master(bench: Bench, states: Callable[[], tuple[str | None, ...]], wanted: tuple[str, ...], what: str) -> None:
-    """Checks that the managers soon have the wanted states, and keep them."""
-    took = until(lambda: states() == wanted, SOON)
+def one_master(
+    bench: Bench,
+    states: Callable[[], tuple[str | None, ...]],
+    wanted: tuple[str, ...],
+    what: str,
+    seconds: float = SOON,
+) -> None:
+    """Checks that the managers have the wanted states in so many seconds, and keep them."""
+    took = until(lambda: states() == wanted, seconds)
     seen = set()
     until(lambda: seen.add(states()), STEADY)
     bench.check(took is not None and seen == {wanted}, f"{what}: {took if took is None else round(took, 1)} s, {seen}")
@@ -169,6 +175,28 @@ def paused_above_a_deaf_seat(bench: Bench) -> None:
     """Checks the same where no trap reaches the lesser one, and it sweeps each minute: the greater one hands over to
     it, and it hands back."""
     seats_paused(bench, "-s", 60, bend="untrapped")
+
+
+def cut_off(bench: Bench) -> None:
+    """Checks that a seat whose line lost all packets while OpenSM became master is the only master soon after, though
+    it was never stopped."""
+    line = 'Error "H1"[1]'
+    with contextlib.ExitStack() as stack:
+        seat = stack.enter_context(seated(bench, "H1", "-p", 8, *TIMING))
+        bench.check(seat.settles(), "a seat of priority 8 is master")
+        _, log = stack.enter_context(opensm(bench, "H2", 3))
+        bench.check(until(lambda: state_in(log()) == "standby") is not None, "OpenSM, priority 3, stands by")
+        bench.tell(f"{line} 100")
+        took = until(lambda: state_in(log()) == "master")
+        bench.check(took is not None, f"the seat's line loses all packets: OpenSM is master after {took or -1:.1f} s")
+        bench.check(until(lambda: "SUBNET UP" in log()) is not None, "and has written")
+        bench.check(seat.state() == "master", "the seat is master still")
+        bench.tell(f"{line} 0")
+        since = time.time()
+        states = ("master", "standby")
+        one_master(bench, lambda: (seat.state(), state_in(log())), states, "the line is whole: one master", DEAF)
+        bench.check(settled_anew(seat, since), "the seat writes, and sweeps once more")
+        ruled_by(bench, "cut", "H1")
 
 
 def without_a_master(bench: Bench) -> None:
@@ -321,6 +349,7 @@ SEATED = (
     ("two masters, a seat paused above a seat", torus, (seats_paused,)),
     ("two masters, a seat paused above a deaf seat", torus, (paused_above_a_deaf_seat,)),
     ("a port of another master", torus, (port_of_another,)),
+    ("two masters, a seat cut off beside OpenSM", torus, (cut_off,)),
     ("a process that hangs", torus, (hung,)),
     ("an end beside a seat", torus, (left_to_a_seat,)),
     ("an end beside a stopped seat", torus, (left_to_a_dead_seat,)),

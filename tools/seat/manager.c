@@ -10,8 +10,9 @@
 #include <unistd.h>
 #include "seat.h"
 
-/* While an answer is waited for, it is looked each LOOK_MS milliseconds whether the process does anything. It hangs if it
-   has used no processor time for as many looks in a row, or does not answer for as many. */
+/* While an answer is waited for, it is looked each LOOK_MS milliseconds whether the process does anything. It hangs if
+   IDLE_LOOKS in a row found that it had used no processor time, or if it has not answered after ANSWER_LOOKS. After a
+   signal it gets LAST_LOOKS, and once its input is closed END_LOOKS. */
 enum { LOOK_MS = 100, IDLE_LOOKS = 50, ANSWER_LOOKS = 3000, LAST_LOOKS = 30, END_LOOKS = 20 };
 enum { LONGEST_LINE = 600, MOST_WORDS = 16, USAGE_STATUS = 2, REFUSED_STATUS = 3, NOT_FOUND = 127 };
 
@@ -151,15 +152,22 @@ static double time_used(void)
 	return used.tv_sec + used.tv_nsec * 1e-9;
 }
 
+/* Returns whether the process hangs after so many looks, the last of which found it idle. Until its first answer it may
+   be compiled, which others do in its place. */
+static int hangs(int looks, int idle)
+{
+	return has_answered && (looks == ANSWER_LOOKS || idle == IDLE_LOOKS);
+}
+
 /* Waits until the process has printed something or is gone. Returns 0 if it hangs, or does not answer soon after a signal
-   has ended the program. Until its first answer it may be compiled, which others do in its place. */
+   has ended the program. */
 static int wait_for_output(void)
 {
 	struct pollfd file = { .fd = from, .events = POLLIN };
 	int looks, idle = 0, last = 0, ready;
 	double used = time_used(), before;
 
-	for (looks = 0; looks < ANSWER_LOOKS && last < LAST_LOOKS && (idle < IDLE_LOOKS || !has_answered); looks++) {
+	for (looks = 0; !hangs(looks, idle) && last < LAST_LOOKS; looks++) {
 		pause_seen();	/* the process may take long: that is no pause */
 		ready = poll(&file, 1, LOOK_MS);
 		if (ready > 0)
