@@ -54,7 +54,9 @@ def installed(room: Room, program: pathlib.Path) -> None:
     units = to / "lib/systemd/system"
     room.check(f"ExecStart={to}/bin/ibsm-round " in (units / "ibsm-round.service").read_text(), "the unit's path")
     seat = f"ExecStart={to}/bin/ibsm-seat --ibsm {to}/bin/ibsm "
-    room.check(seat in (units / "ibsm-seat.service").read_text(), "the paths of the seat's unit")
+    unit = (units / "ibsm-seat.service").read_text()
+    room.check(seat in unit, "the paths of the seat's unit")
+    room.check("\nKillMode=mixed\n" in unit, "the seat alone gets SIGTERM: its child answers until it has handed over")
     completed(room, to, program)
     taken_off(room, to, told)
 
