@@ -83,6 +83,17 @@ def ruled_by(bench: Bench, name: str, host: str, reader: str = "H3") -> None:
     bench.check(named == {lid_of(bench, text, host)}, f"each end port names {host} as its master: {named}")
 
 
+def ruled_by_opensm(bench: Bench, name: str) -> None:
+    """Checks that each end port soon has the LID of OpenSM's port as its master's."""
+
+    def holds() -> bool:
+        bench.record("-q", "-g", 1, "-T", name, f"{name}.reports", seat="H3")
+        return master_lids(bench, name) == {lid_of(bench, (bench.path / name).read_text(), "H2")}
+
+    took = until(holds, SOON)
+    bench.check(took is not None, f"each end port names OpenSM as its master: {master_lids(bench, name)}")
+
+
 def paused_above_opensm(bench: Bench, name: str = "above", **how: bool) -> None:
     """Checks that a seat that was stopped while a lesser OpenSM became master is the only master soon after."""
     with seated(bench, "H1", "-p", 8, *TIMING) as seat, contextlib.ExitStack() as stack:
@@ -115,11 +126,8 @@ def paused_below_opensm(bench: Bench) -> None:
             bench.record("-q", "-g", 1, "-T", "theirs", "theirs.reports", seat="H3")
         one_master(bench, lambda: (seat.state(), state_in(log())), ("standby", "master"), "it goes on: one master")
         bench.check(seat.status()["writing"]["count"] == before, "the seat has written nothing")
-        bench.record("-q", "-g", 1, "-T", "still", "still.reports", seat="H3")
+        ruled_by_opensm(bench, "still")
         bench.check(bench.same("theirs", "still"), "tables are OpenSM's")
-        named = master_lids(bench, "still")
-        own = lid_of(bench, (bench.path / "still").read_text(), "H2")
-        bench.check(named == {own}, f"and so is MasterSMLID: {named}")
 
 
 def opensm_paused(bench: Bench, ours: int, theirs: int) -> None:
@@ -137,6 +145,8 @@ def opensm_paused(bench: Bench, ours: int, theirs: int) -> None:
         if wins:
             bench.check(settled_anew(seat, since), "the seat writes, and sweeps once more")
             ruled_by(bench, "paused", "H1")
+        else:
+            ruled_by_opensm(bench, "paused")
         bench.check(manager(bench, "H3")[1:] == (max(ours, theirs), 3), f"sminfo: {manager(bench, 'H3')}")
 
 
@@ -330,7 +340,7 @@ def left_to_opensm(bench: Bench) -> None:
         bench.check(heir in seat.said(), f"OpenSM takes over: {seat.said().splitlines()[-4:]}")
         bench.check(until(lambda: "SUBNET UP" in log(), SOON) is not None, "and has written")
         bench.check(state_in(log()) == "master", f"it is {state_in(log())}")
-        bench.record("-q", "-g", 1, "-T", "theirs", "theirs.reports", seat="H3")
+        ruled_by_opensm(bench, "theirs")
         bench.check(lids((bench.path / "theirs").read_text()) == lids(before), "LIDs stay")
 
 
