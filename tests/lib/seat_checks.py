@@ -625,10 +625,11 @@ def equal_priorities(bench: Bench) -> None:
         took = until(lambda: late.state() == "master", 40)
         bench.check(took is not None and late.settles(), f"it is killed: the greater takes over: {took or -1:.1f} s")
         bench.check(held(bench, "taken", greater) == before, "tables are as they were")
+        earlier = late.count("HANDOVER to")  # if it came first, it has handed over before
         with seated(bench, lesser, *timing) as again:
             took = until(lambda: (again.state(), late.state()) == ("master", "standby"), 40)
             bench.check(took is not None and again.settles(), f"the lesser GUID comes back: {took or -1:.1f} s")
-            bench.check(late.count("HANDOVER to") == 1, "it was handed over to once")
+            bench.check(late.count("HANDOVER to") == earlier + 1, "it was handed over to once")
             bench.check(held(bench, "again", lesser) == before, "tables are as they were")
 
 
