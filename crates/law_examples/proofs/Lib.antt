@@ -1,3 +1,4 @@
+pub mod ByLane
 pub mod Changed
 pub mod Detour
 pub mod Travelled

@@ -21,10 +21,10 @@ pub some_fabric_is_seen : SomeFabricIsSeen
 unfolding part
 some_fabric_is_seen = (part, seen)
 
-abbrev first : Hop
+abbrev pub first : Hop
 first = record { out = port_at 0 1; into = port_at 1 1 }
 
-abbrev second : Hop
+abbrev pub second : Hop
 second = record { out = port_at 1 2; into = port_at 2 2 }
 
 travels : Travels (IsJoinedTo detour origin) detour (first ∷ second ∷ [])
@@ -39,7 +39,7 @@ travels = record {
 }
 
 -- a wire from one switch to the next, by the index of the first one
-on_channel : (n p m q g h : ℕ) → detour.across (port_at n p) ≡ Some (port_at m q) → (n ≡ m → ⊥) → slice_get detour.nodes n ≡ Some (switch g)
+pub on_channel : (n p m q g h : ℕ) → detour.across (port_at n p) ≡ Some (port_at m q) → (n ≡ m → ⊥) → slice_get detour.nodes n ≡ Some (switch g)
     → slice_get detour.nodes m ≡ Some (switch h) → index_in (switches cells) g ≡ Some n
     → IsChannel (cells_of facts) detour (record { out = port_at n p; into = port_at m q }) (256 * n + p)
 on_channel n p m q g h cable apart at_n at_m index = record {

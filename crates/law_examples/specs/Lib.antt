@@ -1,2 +1,3 @@
+pub mod ByLane
 pub mod Examples
 pub mod Weaker

@@ -1,4 +1,5 @@
 //! Fabrics, tables and packets that meet the premises of laws, and examples that distinguish laws from weaker ones.
+ghost use Rattle.law_examples.specs.ByLane.{SomePacketChangesLane};
 ghost use Rattle.law_examples.specs.Examples.{SomeFabricIsSeen, SomePacketTravels, SomeTablesChange};
 ghost use Rattle.law_examples.specs.Weaker.{FloorsStayInGroupings, NoSwitchTwice};
 
@@ -18,6 +19,13 @@ pub fn some_packet_travels()
 /// have its next entry yet.
 pub fn some_tables_change()
     ensures law { SomeTablesChange }
+{}
+
+/// In some part that facts describe and that holds tables and the lanes of a text, numbers of channels by lane rise, and
+/// a packet takes two channels by lane with different lanes one right after the other. The second lane depends on the
+/// port by which the packet comes to the switch.
+pub fn some_packet_changes_lane()
+    ensures law { SomePacketChangesLane }
 {}
 
 /// A fact that one store forgot is not brought back by another store that has this fact, whether the floor is raised
