@@ -59,7 +59,7 @@ held_by rows = record {
 -- LIDs ---------------------------------------------------------------------------------------------------
 
 -- what is so up to 7, and beyond
-lid_cases : (P : ℕ → Type 0) → P 0 → P 1 → P 2 → P 3 → P 4 → P 5 → P 6 → P 7 → ((lid : ℕ) → 8 ≤ lid → P lid) → (lid : ℕ) → P lid
+pub lid_cases : (P : ℕ → Type 0) → P 0 → P 1 → P 2 → P 3 → P 4 → P 5 → P 6 → P 7 → ((lid : ℕ) → 8 ≤ lid → P lid) → (lid : ℕ) → P lid
 lid_cases P a b c d e f g h more zero = a
 lid_cases P a b c d e f g h more (suc zero) = b
 lid_cases P a b c d e f g h more (suc (suc zero)) = c
@@ -77,7 +77,7 @@ above lid h = grind (arith, h)
 told_none : (k lid : ℕ) → k ≤ 7 → 8 ≤ lid → (k == lid) ≡ false
 told_none k lid low high = ne_eqb k lid (λ e. omega (arith, low, high, e))
 
-nobody : (lid : ℕ) → 8 ≤ lid → holders lines lid ≡ []
+pub nobody : (lid : ℕ) → 8 ≤ lid → holders lines lid ≡ []
 nobody lid h =
     rw (
       told_none 1 lid (omega arith) h,

@@ -1,3 +1,4 @@
 pub mod ByLane
 pub mod Examples
+pub mod Stages
 pub mod Weaker

@@ -1,6 +1,7 @@
 //! Fabrics, tables and packets that meet the premises of laws, and examples that distinguish laws from weaker ones.
 ghost use Rattle.law_examples.specs.ByLane.{SomePacketChangesLane};
 ghost use Rattle.law_examples.specs.Examples.{SomeFabricIsSeen, SomePacketTravels, SomeTablesChange};
+ghost use Rattle.law_examples.specs.Stages.{SomeStagesGo, SomeStepsAreHanded};
 ghost use Rattle.law_examples.specs.Weaker.{FloorsStayInGroupings, NoSwitchTwice};
 
 /// Some facts describe a whole fabric exactly, and also the part that is joined to one of its end ports, and the fabric
@@ -26,6 +27,18 @@ pub fn some_tables_change()
 /// port by which the packet comes to the switch.
 pub fn some_packet_changes_lane()
     ensures law { SomePacketChangesLane }
+{}
+
+/// Some handed steps go from tables that are right by the order that they imply and not by the plan's, and are goal
+/// steps for some LID, of which the first one changes an entry.
+pub fn some_steps_are_handed()
+    ensures law { SomeStepsAreHanded }
+{}
+
+/// Some stages go towards a whole plan from tables that are not right by the plan's order, and there are as many of
+/// them as `stages_are_few` (`between_orders`) asks for.
+pub fn some_stages_go()
+    ensures law { SomeStagesGo }
 {}
 
 /// A fact that one store forgot is not brought back by another store that has this fact, whether the floor is raised
