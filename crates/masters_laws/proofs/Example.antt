@@ -413,7 +413,7 @@ hold =
     by_two (λ which m. HoldsPlan (IsJoinedTo (fabric_of network) m.seat) (plan_by_it its_planning alone.swept.manager.store) (fabric_of network))
     (holds_by (IsJoinedTo (fabric_of network) (port 0 1))) (holds_by (IsJoinedTo (fabric_of network) (port 2 1)))
 
-share : ShareLids alone.swept.manager.store its_planning beginning
+pub share : ShareLids alone.swept.manager.store its_planning beginning
 share =
     record {
       starts = start;

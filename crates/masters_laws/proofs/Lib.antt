@@ -10,6 +10,7 @@ pub mod Runs
 pub mod Known
 pub mod SameParts
 pub mod Example
+pub mod ExampleRest
 pub mod Segments
 pub mod Written
 pub mod Rest

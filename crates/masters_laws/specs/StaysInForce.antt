@@ -7,6 +7,8 @@ use Rattle.fabric_model.specs.Fabric.{Fabric, range_at}
 use Rattle.fabric_model.specs.FabricWalks.{IsJoinedTo}
 use Rattle.fact_store.specs.View.{Facts, cells_of}
 use Rattle.fabric_sim.specs.Simulation.{fabric_of}
+use Rattle.subnet_view.specs.declared.end_port.EndPort.{EndPort}
+use Rattle.subnet_view.specs.EndPort.{IsEndPort}
 use Rattle.subnet_view.specs.FabricAgreement.{Part, IsEndPortIn, TellsEndPort, AgreesOn}
 use Rattle.lid_assign.specs.Lids.{IsNoRoom, range_of}
 use Rattle.lft_blocks.specs.Plan.{PlanValue}
@@ -194,3 +196,22 @@ pub record SomeMastersWriteAtOnce : Type 0 where
   -- neither writing is refused, and both plans are written in the end
   pub first : HasWritten masters sweeping (At 1 one.Write ∷ writing) 0
   pub second : HasWritten masters (sweeping ++ At 0 one.Write ∷ []) writing 1
+
+-- two new managers after a cut ---------------------------------------------------------------------
+
+-- an example: what is left of a subnet after a cut, and two new managers there. The earlier facts have an end port that
+-- is gone
+pub record SomeMastersShareRest : Type 0 where
+  pub masters : Masters
+  pub earlier : Facts
+  pub facts : Facts
+  pub planning : Planning
+  pub rest : ShareRest earlier facts planning masters
+  pub seat : NodePort
+  pub guid : ℕ
+  pub other_seat : NodePort
+  pub other_guid : ℕ
+  pub are_new : masters.managers ≡ new_at seat guid planning ∷ new_at other_seat other_guid planning ∷ []
+  pub gone : EndPort
+  pub was_there : IsEndPort (cells_of earlier) gone.node gone.port
+  pub is_gone : ¬ (IsEndPort (cells_of facts) gone.node gone.port)

@@ -1,6 +1,7 @@
 //! The laws of several managers on one fabric.
 ghost use Rattle.masters_laws.specs.StaysInForce.{MastersChangeNothing, MastersKeepLids, MastersWriteTheSame};
-ghost use Rattle.masters_laws.specs.StaysInForce.{RestSharesLids, SomeMastersWriteAtOnce, WrittenByOneIsHeld};
+ghost use Rattle.masters_laws.specs.StaysInForce.{RestSharesLids, SomeMastersShareRest, SomeMastersWriteAtOnce};
+ghost use Rattle.masters_laws.specs.StaysInForce.{WrittenByOneIsHeld};
 ghost use Rattle.masters_laws.specs.Known.{HasSweptMeans, KnowsOneSweepMeans};
 ghost use Rattle.masters_laws.specs.OwnRuns.{EachRunsOnItsOwn, WhatIsGivenOutCanBeSent};
 
@@ -74,4 +75,10 @@ pub fn masters_change_nothing()
 /// until each manager has written its plan.
 pub fn some_masters_write_at_once()
     ensures { SomeMastersWriteAtOnce }
+{}
+
+/// Some masters share the rest of a subnet after a cut: two new managers, and earlier facts with a third adapter, which
+/// is gone.
+pub fn some_masters_share_rest()
+    ensures { SomeMastersShareRest }
 {}

@@ -14,7 +14,7 @@ use Rattle.fact_store.specs.View.{cells_of, view}
 use Rattle.fact_store.proofs.Entries.{cells_of_view, entries-view}
 use Rattle.fabric_sim.specs.Simulation.{fabric_of}
 use Rattle.fabric_sim.specs.Changes.{cabled_at}
-use Rattle.subnet_view.specs.FabricAgreement.{IsEndPortIn, TellsEndPort}
+use Rattle.subnet_view.specs.FabricAgreement.{IsEndPortIn, Part, TellsEndPort}
 use Rattle.subnet_view.specs.Reading.{Cells}
 use Rattle.lid_assign.specs.Lids.{IsNoRoom, range_of}
 use Rattle.lft_blocks.specs.Plan.{plan_of}
@@ -30,21 +30,21 @@ use Rattle.takeover_laws.proofs.ExampleFabric.{at_end_ports, first_agent, last_a
 use Rattle.sm_state.specs.declared.conduct.Conduct.TheVariants.{Plain}
 
 -- of before the cut: an adapter that has LID 9
-abbrev before_cut : Sightings
+abbrev pub before_cut : Sightings
 before_cut =
     all_told ++ (one (NodeKey 64) (Kind ChannelAdapter 1) ∷ one (PortGuid 64 1) (Guid 65) ∷ one (PortKey 64 1) (Up true) ∷ one (Claim 64 1) (Lid 9) ∷ [])
 
-abbrev cells : Cells
+abbrev pub cells : Cells
 cells = cells_of_view before_cut
 
-known : cells_of (view before_cut) ≡ cells_of_view before_cut
+pub known : cells_of (view before_cut) ≡ cells_of_view before_cut
 known = entries-view before_cut
 
-has_room : ¬ (IsNoRoom 0 cells)
+pub has_room : ¬ (IsNoRoom 0 cells)
 has_room e = absurd (cc)
 
 -- what is known of an end port that is there, and that it holds the LID of the plan of before
-record IsTold (id p : ℕ) (node : fabric.Node) : Type 0 where
+pub record IsTold (id p : ℕ) (node : fabric.Node) : Type 0 where
   pub tells : TellsEndPort (cells_of_view before_cut) node p
   pub holds : range_of (plan_of up_and_down 0 (cells_of_view before_cut)).given (record { node = node.guid; port = p })
       ≡ Some (range_at (fabric_of network) (port id p))
@@ -61,8 +61,8 @@ told_last : IsTold 2 1 (node_of last_agent)
 unfolding cabled_at fresh_agent
 told_last = record { tells = record { kind = refl; port_guid = refl; cap = λ switch. absurd (cc) }; holds = refl }
 
-told : (q : NodePort) (node : fabric.Node) → IsEndPortIn (IsJoinedTo (fabric_of network) (port 0 1)) (fabric_of network) q node → IsTold q.node q.port node
-told = at_end_ports IsTold told_first told_switch told_last (IsJoinedTo (fabric_of network) (port 0 1))
+pub told : (part : Part) (q : NodePort) (node : fabric.Node) → IsEndPortIn part (fabric_of network) q node → IsTold q.node q.port node
+told part = at_end_ports IsTold told_first told_switch told_last part
 
 takes_rest : TakesRest (view before_cut) beginning [] between after
 takes_rest =
@@ -71,7 +71,7 @@ takes_rest =
       has_room = subst (λ (x : Managing). ¬ (IsNoRoom x.manager.planning.lmc (cells_of (view before_cut)))) (sym at_is)
           (subst (λ (p : Planning). ¬ (IsNoRoom p.lmc (cells_of (view before_cut)))) (sym has_swept.planning_is)
           (subst (λ c. ¬ (IsNoRoom 0 c)) (sym known) has_room));
-      tells = λ q node is. subst (λ c. TellsEndPort c node q.port) (sym known) (told q node is).tells;
+      tells = λ q node is. subst (λ c. TellsEndPort c node q.port) (sym known) (told (IsJoinedTo (fabric_of network) (port 0 1)) q node is).tells;
       holds = λ q node is.
           subst (λ (x : Managing). range_of (plan_by_it x.manager.planning (view before_cut)).given (record { node = node.guid; port = q.port })
           ≡ Some (range_at (fabric_of network) q)) (sym at_is)
@@ -79,7 +79,7 @@ takes_rest =
           ≡ Some (range_at (fabric_of network) q)) (sym has_swept.planning_is)
           (subst (λ c. range_of (plan_of up_and_down 0 c).given (record { node = node.guid; port = q.port })
           ≡ Some (range_at (fabric_of network) q)) (sym known)
-          (told q node is).holds));
+          (told (IsJoinedTo (fabric_of network) (port 0 1)) q node is).holds));
     }
 
 pub some_manager_serves_the_rest : SomeManagerServesTheRest
