@@ -44,29 +44,18 @@ use Rattle.takeover_laws.specs.Takeover.{plan_by_it}
 use Rattle.takeover_laws.proofs.ExampleFabric.{distinct, is_network, network}
 use Rattle.masters_laws.specs.Masters.{AllCanBe, Around, At, CanBe, IsAt, IsItsOwn, IsWholeSweep, Masters, MastersEvent, Seated, StartTogether}
 use Rattle.masters_laws.specs.Masters.{WritesWhole, acting, after_masters_event, after_masters_events, seated_after, seen_by}
-use Rattle.masters_laws.specs.StaysInForce.{AllHold, AllSweepWhole, HasWritten, ShareLids, SomeMastersWriteAtOnce, SweepsWhole, WriteNothing, WritesNothing}
+use Rattle.masters_laws.specs.StaysInForce.{AllHold, AllSweepWhole, HasWritten, ShareLids, MastersWriteAtOnce, SomeMastersWriteAtOnce, SweepsWhole, WriteNothing, WritesNothing}
 use Rattle.masters_laws.proofs.Known.{after_both}
 use Rattle.masters_laws.proofs.SameParts.{IsAtSwitch, agrees_too, joined_too}
 use Rattle.masters_laws.proofs.Together.{set_elsewhere}
-use Rattle.sm_state.specs.declared.conduct.Conduct.TheVariants.{Plain}
+use Rattle.sm_state.specs.declared.conduct.Conduct.TheVariants.{Plain, Live}
+use Rattle.sm_state.specs.declared.conduct.Conduct.{Conduct}
 
 -- a manager of a port GUID at port 1 of a node
 abbrev pub seated : ℕ → Manager → Bool → Seated
 seated node m swept = record { seat = port node 1; manager = m; out = []; has_swept = swept; knows_one_sweep = swept }
 
-abbrev pub fresh : ℕ → Manager
-fresh guid = managers.fresh guid Plain its_planning
-
-abbrev pub beginning : Masters
-beginning = record { scene = record { fabric = network; handed = [] }; managers = seated 0 (fresh 17) false ∷ seated 2 (fresh 49) false ∷ [] }
-
--- as it is when its first sweep has begun
-abbrev pub sweeper : ℕ → ℕ → Manager
-sweeper guid generation = managers.sweeper guid Plain its_planning generation
-
-abbrev pub sweeping_both : Masters
-sweeping_both =
-    record { scene = record { fabric = network; handed = [] }; managers = seated 0 (sweeper 17 1) true ∷ seated 2 (sweeper 49 1) true ∷ [] }
+-- what happens ---------------------------------------------------------------------------------------------------------
 
 -- a request of a manager, and its answer
 abbrev trip : ℕ → ℕ → ℕ → ℕ → ℕ → List MastersEvent
@@ -86,59 +75,25 @@ answering =
     trips 0 0 ++ (trips 1 0 ++ (trips 2 1 ++ (trips 3 1 ++ (trips 4 1 ++ (trips 5 1 ++ (trips 6 1 ++ (trips 7 2 ++ (trips 8 2
     ++ (gives_up 0 36 ++ gives_up 1 37)))))))))
 
-abbrev pub swept : Masters
-swept = after_masters_events answering sweeping_both
-
-abbrev pub seated_at : ℕ → Seated
-seated_at which = slice_index_or swept.managers which (seated 0 (fresh 17) false)
-
--- how they begin -------------------------------------------------------------------------------------------------------
-
-may_begin : (guid : ℕ) → begin_fault (fresh guid) ≡ None
-may_begin guid = managers.may_begin guid Plain its_planning
-
--- by what forbids their sweeps, and what is known at first
-abbrev begun_at : ℕ → Manager → Manager → Option ManagerFault → Cells → Seated
-begun_at node before after o known =
-    record {
-      seat = port node 1;
-      manager = if is_none o then after else before;
-      out = [];
-      has_swept = if is_none o then true else false;
-      knows_one_sweep = if is_none o then length known == 0 else false;
-    }
-
-abbrev begun_by : Option ManagerFault → Option ManagerFault → Cells → ℕ → Masters
-begun_by o q known newest =
-    record {
-      scene = record { fabric = network; handed = [] };
-      managers = begun_at 0 (fresh 17) (sweeper 17 (max (newest + 1) 1)) o known
-          ∷ begun_at 2 (fresh 49) (sweeper 49 (max (newest + 1) 1)) q known
-          ∷ [];
-    }
-
 abbrev pub begins : List MastersEvent
 begins = At 0 one.Begin ∷ At 1 one.Begin ∷ []
 
-begun : after_masters_events (At 0 one.Begin ∷ At 1 one.Begin ∷ []) beginning ≡ sweeping_both
-begun =
-    (λ j. begun_by (may_begin 17 j) (may_begin 49 j) (cells_of no_facts) (newest_held no_facts))
-    ∙ (λ j. begun_by None None (nothing_found j) (nothing_newest j))
+abbrev pub sweeping : List MastersEvent
+sweeping = At 0 one.Begin ∷ At 1 one.Begin ∷ answering
 
--- what their sweeps end with ----------------------------------------------------------------------------------------------
+-- each sends a step, of the one and then of the other
+abbrev steps : ℕ → ℕ → ℕ → ℕ → ℕ → List MastersEvent
+steps number hops other_hops serial heard = trip 0 number hops serial heard ++ trip 1 number other_hops (serial + 2) (heard + 1)
+
+-- the LIDs of three ports, the switch's block, and its top
+abbrev pub writing : List MastersEvent
+writing = steps 10 0 2 38 18 ++ (steps 11 1 1 42 20 ++ (steps 12 2 0 46 22 ++ (steps 13 1 1 50 24 ++ steps 14 1 1 54 26)))
+
+-- what their sweeps end with -------------------------------------------------------------------------------------------
 
 record HasAnswers (replies : List Sightings) (m : Seated) : Type 0 where
   pub swept : HasSwept its_planning replies m.manager
   pub knows : m.knows_one_sweep ≡ true
-
--- the one was told what a manager on its own is told
-first_answers : HasAnswers alone.replies (seated_at 0)
-unfolding cabled_at fresh_agent after_inject after_deliver after_lose outcome_of after_answer get_of set_of changed_port with_bytes
-first_answers =
-    record {
-      swept = record { whole = record { done = refl; answered = refl; near = refl }; swept = refl; planning_is = refl; store_is = refl; no_fault = refl };
-      knows = refl;
-    }
 
 -- the other one from its side
 abbrev replies : List Sightings
@@ -153,29 +108,7 @@ replies =
     ∷ (told (NodeKey 16) (Kind ChannelAdapter 1) ∷ told (PortGuid 16 1) (Guid 17) ∷ told (Link 16 1) (Peer 32 1) ∷ told (Link 32 1) (Peer 16 1) ∷ [])
     ∷ (told (PortKey 16 1) (Up true) ∷ told (Claim 16 1) (Lid 2) ∷ []) ∷ []
 
-second_answers : HasAnswers replies (seated_at 1)
-unfolding cabled_at fresh_agent after_inject after_deliver after_lose outcome_of after_answer get_of set_of changed_port with_bytes
-second_answers =
-    record {
-      swept = record { whole = record { done = refl; answered = refl; near = refl }; swept = refl; planning_is = refl; store_is = refl; no_fault = refl };
-      knows = refl;
-    }
-
-first_at : IsAt swept 0 (seated_at 0)
-unfolding cabled_at fresh_agent after_inject after_deliver after_lose outcome_of after_answer get_of set_of changed_port with_bytes
-first_at = refl
-
-second_at : IsAt swept 1 (seated_at 1)
-unfolding cabled_at fresh_agent after_inject after_deliver after_lose outcome_of after_answer get_of set_of changed_port with_bytes
-second_at = refl
-
-first_writes : writing_fault (seated_at 0).manager ≡ None
-first_writes = managers.may_write its_planning alone.replies (seated_at 0).manager first_answers.swept
-
-second_writes : writing_fault (seated_at 1).manager ≡ None
-second_writes = managers.may_write its_planning replies (seated_at 1).manager second_answers.swept
-
--- what may happen -----------------------------------------------------------------------------------------------------------
+-- what may happen ------------------------------------------------------------------------------------------------------
 
 -- nobody else sends, and a manager does nothing but begin a sweep, send and hear, and give requests up
 abbrev is_plain : MastersEvent → Bool
@@ -249,45 +182,11 @@ answers_may t which m replies there has = (
       (λ none. (has.knows, subst IsWholeSweep (sym (managers.sweep_is its_planning replies m.manager has.swept)) has.swept.whole)),
 )
 
-abbrev pub sweeping : List MastersEvent
-sweeping = At 0 one.Begin ∷ At 1 one.Begin ∷ answering
-
--- each sends a step, of the one and then of the other
-abbrev steps : ℕ → ℕ → ℕ → ℕ → ℕ → List MastersEvent
-steps number hops other_hops serial heard = trip 0 number hops serial heard ++ trip 1 number other_hops (serial + 2) (heard + 1)
-
--- the LIDs of three ports, the switch's block, and its top
-abbrev pub writing : List MastersEvent
-writing = steps 10 0 2 38 18 ++ (steps 11 1 1 42 20 ++ (steps 12 2 0 46 22 ++ (steps 13 1 1 50 24 ++ steps 14 1 1 54 26)))
-
-swept_is : after_masters_events sweeping beginning ≡ swept
-swept_is = ap (after_masters_events answering) begun
-
--- the one writes, and the other one is as it was
-abbrev first_writing : Masters
-first_writing = after_masters_event swept (At 0 one.Write)
-
-second_still : IsAt first_writing 1 (seated_at 1)
-second_still = by_first (slice_get swept.managers 0)
-  where
-    by_first : (o : Option Seated) → IsAt (acting swept 0 one.Write o) 1 (seated_at 1)
-    by_first None = second_at
-    by_first (Some m) =
-        set_elsewhere swept.managers 0 1 (seated_after m one.Write (after_manager_event (seen_by swept.scene m) one.Write)) (λ e. cc) ∙ second_at
-
--- each by the phases of its plan
-abbrev first_phases : List Phase
-first_phases = managers.phases_then its_planning alone.replies (seated_at 0).manager
-
-abbrev second_phases : List Phase
-second_phases = managers.phases_then its_planning replies (seated_at 1).manager
+-- how they write -------------------------------------------------------------------------------------------------------
 
 -- a manager whose writing by these phases has begun
 abbrev writer : Seated → List Phase → Seated
 writer m phases = record m { manager = begun_with m.manager phases }
-
-abbrev both_writing : Masters
-both_writing = record { scene = swept.scene; managers = writer (seated_at 0) first_phases ∷ writer (seated_at 1) second_phases ∷ [] }
 
 -- as it writes
 writes_at : (t : Masters) (which : ℕ) (m : Seated) (phases : List Phase) → IsAt t which m
@@ -297,16 +196,6 @@ writes_at t which m phases there is =
     ap (acting t which one.Write) there
     ∙ ap (λ (w : Managing). record { scene = w.scene; managers = slice_set t.managers which (seated_after m one.Write w) }) is
 
-both_write : after_masters_event (after_masters_event swept (At 0 one.Write)) (At 1 one.Write)
-    ≡ record { scene = swept.scene; managers = slice_set (slice_set swept.managers 0 (writer (seated_at 0) first_phases)) 1 (writer (seated_at 1) second_phases) }
-both_write =
-    ap (λ t. after_masters_event t (At 1 one.Write))
-    (writes_at swept 0 (seated_at 0) first_phases first_at
-    (managers.writes its_planning alone.replies (seen_by swept.scene (seated_at 0)) first_answers.swept))
-    ∙ writes_at (record { scene = swept.scene; managers = slice_set swept.managers 0 (writer (seated_at 0) first_phases) }) 1 (seated_at 1) second_phases
-    (set_elsewhere swept.managers 0 1 (writer (seated_at 0) first_phases) (λ e. absurd (omega (arith, e))) ∙ second_at)
-    (managers.writes its_planning replies (seen_by swept.scene (seated_at 1)) second_answers.swept)
-
 -- both are there
 two_there : (xs : List Seated) (a b c d : Seated) → slice_get xs 0 ≡ Some a → slice_get xs 1 ≡ Some b → length xs ≡ 2
     → slice_set (slice_set xs 0 c) 1 d ≡ c ∷ d ∷ []
@@ -315,48 +204,7 @@ two_there (x ∷ []) a b c d first second two = absurd (omega (arith, two))
 two_there (x ∷ (y ∷ [])) a b c d first second two = refl
 two_there (x ∷ (y ∷ (z ∷ xs))) a b c d first second two = absurd (omega (arith, two))
 
-two_managers : length swept.managers ≡ 2
-unfolding cabled_at fresh_agent after_inject after_deliver after_lose outcome_of after_answer get_of set_of changed_port with_bytes
-two_managers = refl
-
-writing_is : after_masters_events (At 0 one.Write ∷ At 1 one.Write ∷ []) swept ≡ both_writing
-writing_is =
-    both_write
-    ∙ ap (λ ms. record { scene = swept.scene; managers = ms })
-    (two_there swept.managers (seated_at 0) (seated_at 1) (writer (seated_at 0) first_phases) (writer (seated_at 1) second_phases) first_at second_at
-    two_managers)
-
-abbrev pub ended : Masters
-ended = after_masters_events writing both_writing
-
-abbrev ended_at : ℕ → Seated
-ended_at which = slice_index_or ended.managers which (seated 0 (fresh 17) false)
-
-record HasEnded (which : ℕ) : Type 0 where
-  pub there : IsAt ended which (ended_at which)
-  pub written : is_written (ended_at which).manager ≡ true
-
-first_ends : HasEnded 0
-unfolding cabled_at fresh_agent after_inject after_deliver after_lose outcome_of after_answer get_of set_of changed_port with_bytes
-first_ends = record { there = refl; written = refl }
-
-second_ends : HasEnded 1
-unfolding cabled_at fresh_agent after_inject after_deliver after_lose outcome_of after_answer get_of set_of changed_port with_bytes
-second_ends = record { there = refl; written = refl }
-
-all_may : AllMay (sweeping ++ At 0 one.Write ∷ At 1 one.Write ∷ writing) beginning
-all_may =
-    may_append sweeping (At 0 one.Write ∷ At 1 one.Write ∷ writing) beginning (all_plain_may sweeping beginning refl)
-    (subst (AllMay (At 0 one.Write ∷ At 1 one.Write ∷ writing)) (sym swept_is) writes)
-  where
-    writes : AllMay (At 0 one.Write ∷ At 1 one.Write ∷ writing) swept
-    writes =
-        let first = answers_may swept 0 (seated_at 0) alone.replies first_at first_answers in
-        let second = answers_may first_writing 1 (seated_at 1) replies second_still second_answers in
-        let later = all_plain_may writing (after_masters_event first_writing (At 1 one.Write)) refl in
-        ((first.0, (second.0, later.0)), (first.1, (second.1, later.1)))
-
--- the plan that is held ------------------------------------------------------------------------------------------------------
+-- where they are -------------------------------------------------------------------------------------------------------
 
 -- ports of two nodes
 two_nodes : (i j p q : ℕ) → i ≢ j → port i p ≢ port j q
@@ -385,102 +233,277 @@ holds_by part =
     subst (λ c. HoldsPlan part (plan_of up_and_down 0 c) (fabric_of network)) (sym alone.known_is)
     (alone.holds_in part)
 
-starts_second : Starts (seen_by beginning.scene (seated 2 (fresh 49) false))
-unfolding cabled_at fresh_agent
-starts_second = managers.new_starts 49 Plain its_planning network 2 is_network refl distinct refl (omega arith)
+-- two managers of a conduct --------------------------------------------------------------------------------------------
 
--- of one of two
-by_two : (P : ℕ → Seated → Type 0) → P 0 (seated 0 (fresh 17) false) → P 1 (seated 2 (fresh 49) false) → (which : ℕ) (m : Seated)
-    → IsAt beginning which m → P which m
-by_two P one two zero m there = subst (P 0) (same_Some _ _ there) one
-by_two P one two (suc zero) m there = subst (P 1) (same_Some _ _ there) two
-by_two P one two (suc (suc which)) m there = absurd (cc)
+module _ (conduct : Conduct) where
+  abbrev pub fresh : ℕ → Manager
+  fresh guid = managers.fresh guid conduct its_planning
 
-start : StartTogether beginning
-start =
+  abbrev pub beginning : Masters
+  beginning = record { scene = record { fabric = network; handed = [] }; managers = seated 0 (fresh 17) false ∷ seated 2 (fresh 49) false ∷ [] }
+
+  -- as it is when its first sweep has begun
+  abbrev pub sweeper : ℕ → ℕ → Manager
+  sweeper guid generation = managers.sweeper guid conduct its_planning generation
+
+  abbrev pub sweeping_both : Masters
+  sweeping_both =
+      record { scene = record { fabric = network; handed = [] }; managers = seated 0 (sweeper 17 1) true ∷ seated 2 (sweeper 49 1) true ∷ [] }
+
+  abbrev pub swept : Masters
+  swept = after_masters_events answering sweeping_both
+
+  abbrev pub seated_at : ℕ → Seated
+  seated_at which = slice_index_or swept.managers which (seated 0 (fresh 17) false)
+
+  may_begin : (guid : ℕ) → begin_fault (fresh guid) ≡ None
+  may_begin guid = managers.may_begin guid conduct its_planning
+
+  -- by what forbids their sweeps, and what is known at first
+  abbrev begun_at : ℕ → Manager → Manager → Option ManagerFault → Cells → Seated
+  begun_at node before after o known =
+      record {
+        seat = port node 1;
+        manager = if is_none o then after else before;
+        out = [];
+        has_swept = if is_none o then true else false;
+        knows_one_sweep = if is_none o then length known == 0 else false;
+      }
+
+  abbrev begun_by : Option ManagerFault → Option ManagerFault → Cells → ℕ → Masters
+  begun_by o q known newest =
+      record {
+        scene = record { fabric = network; handed = [] };
+        managers = begun_at 0 (fresh 17) (sweeper 17 (max (newest + 1) 1)) o known
+            ∷ begun_at 2 (fresh 49) (sweeper 49 (max (newest + 1) 1)) q known
+            ∷ [];
+      }
+
+  begun : after_masters_events (At 0 one.Begin ∷ At 1 one.Begin ∷ []) beginning ≡ sweeping_both
+  begun =
+      (λ j. begun_by (may_begin 17 j) (may_begin 49 j) (cells_of no_facts) (newest_held no_facts))
+      ∙ (λ j. begun_by None None (nothing_found j) (nothing_newest j))
+
+  -- each by the phases of its plan
+  abbrev first_phases : List Phase
+  first_phases = managers.phases_then its_planning alone.replies (seated_at 0).manager
+
+  abbrev second_phases : List Phase
+  second_phases = managers.phases_then its_planning replies (seated_at 1).manager
+
+  abbrev both_writing : Masters
+  both_writing = record { scene = swept.scene; managers = writer (seated_at 0) first_phases ∷ writer (seated_at 1) second_phases ∷ [] }
+
+  abbrev pub ended : Masters
+  ended = after_masters_events writing both_writing
+
+  abbrev ended_at : ℕ → Seated
+  ended_at which = slice_index_or ended.managers which (seated 0 (fresh 17) false)
+
+  record HasEnded (which : ℕ) : Type 0 where
+    pub there : IsAt ended which (ended_at which)
+    pub written : is_written (ended_at which).manager ≡ true
+
+  -- what is computed of the run
+  record Computed : Type 0 where
+    pub first_answers : HasAnswers alone.replies (seated_at 0)
+    pub second_answers : HasAnswers replies (seated_at 1)
+    pub first_at : IsAt swept 0 (seated_at 0)
+    pub second_at : IsAt swept 1 (seated_at 1)
+    pub two_managers : length swept.managers ≡ 2
+    pub first_ends : HasEnded 0
+    pub second_ends : HasEnded 1
+
+  starts_first : Starts (seen_by beginning.scene (seated 0 (fresh 17) false))
+  unfolding cabled_at fresh_agent
+  starts_first = managers.new_starts 17 conduct its_planning network 0 is_network refl distinct refl (omega arith)
+
+  starts_second : Starts (seen_by beginning.scene (seated 2 (fresh 49) false))
+  unfolding cabled_at fresh_agent
+  starts_second = managers.new_starts 49 conduct its_planning network 2 is_network refl distinct refl (omega arith)
+
+  -- of one of two
+  by_two : (P : ℕ → Seated → Type 0) → P 0 (seated 0 (fresh 17) false) → P 1 (seated 2 (fresh 49) false) → (which : ℕ) (m : Seated)
+      → IsAt beginning which m → P which m
+  by_two P one two zero m there = subst (P 0) (same_Some _ _ there) one
+  by_two P one two (suc zero) m there = subst (P 1) (same_Some _ _ there) two
+  by_two P one two (suc (suc which)) m there = absurd (cc)
+
+  start : StartTogether beginning
+  start =
+      record {
+        quiet = starts_second.quiet;
+        each = by_two (λ which m. Starts (seen_by beginning.scene m)) starts_first starts_second;
+        none_swept = by_two (λ which m. (m.has_swept ≡ false) × (m.knows_one_sweep ≡ false)) (refl, refl) (refl, refl);
+        apart = λ which other m n one two same.
+            by_two (λ k x. (j : ℕ) (y : Seated) → IsAt beginning j y → x.seat ≡ y.seat → k ≡ j)
+            (by_two (λ j y. port 0 1 ≡ y.seat → 0 ≡ j) (λ e. refl) (λ e. absurd (two_nodes 0 2 1 1 (λ k. omega (arith, k)) e)))
+            (by_two (λ j y. port 2 1 ≡ y.seat → 1 ≡ j) (λ e. absurd (two_nodes 2 0 1 1 (λ k. omega (arith, k)) e)) (λ e. refl)) which m one other n two same;
+      }
+
+  hold : AllHold alone.swept.manager.store its_planning beginning
+  hold =
+      by_two (λ which m. HoldsPlan (IsJoinedTo (fabric_of network) m.seat) (plan_by_it its_planning alone.swept.manager.store) (fabric_of network))
+      (holds_by (IsJoinedTo (fabric_of network) (port 0 1))) (holds_by (IsJoinedTo (fabric_of network) (port 2 1)))
+
+  pub share : ShareLids alone.swept.manager.store its_planning beginning
+  share =
+      record {
+        starts = start;
+        has_room = alone.has_room;
+        plans = by_two (λ which m. m.manager.planning ≡ its_planning) refl refl;
+        agrees = by_two (λ which m. AgreesOn (IsJoinedTo (fabric_of network) m.seat) (cells_of alone.swept.manager.store) (fabric_of network))
+            alone.agrees agrees_second;
+        lids = λ which m there q node is. (hold which m there q node is).lids;
+      }
+
+  module _ (computed : Computed) where
+    first_writes : writing_fault (seated_at 0).manager ≡ None
+    first_writes = managers.may_write its_planning alone.replies (seated_at 0).manager computed.first_answers.swept
+
+    second_writes : writing_fault (seated_at 1).manager ≡ None
+    second_writes = managers.may_write its_planning replies (seated_at 1).manager computed.second_answers.swept
+
+    swept_is : after_masters_events sweeping beginning ≡ swept
+    swept_is = ap (after_masters_events answering) begun
+
+    -- the one writes, and the other one is as it was
+    abbrev first_writing : Masters
+    first_writing = after_masters_event swept (At 0 one.Write)
+
+    second_still : IsAt first_writing 1 (seated_at 1)
+    second_still = by_first (slice_get swept.managers 0)
+      where
+        by_first : (o : Option Seated) → IsAt (acting swept 0 one.Write o) 1 (seated_at 1)
+        by_first None = computed.second_at
+        by_first (Some m) =
+            set_elsewhere swept.managers 0 1 (seated_after m one.Write (after_manager_event (seen_by swept.scene m) one.Write)) (λ e. cc) ∙ computed.second_at
+
+    both_write : after_masters_event (after_masters_event swept (At 0 one.Write)) (At 1 one.Write)
+        ≡ record { scene = swept.scene; managers = slice_set (slice_set swept.managers 0 (writer (seated_at 0) first_phases)) 1 (writer (seated_at 1) second_phases) }
+    both_write =
+        ap (λ t. after_masters_event t (At 1 one.Write))
+        (writes_at swept 0 (seated_at 0) first_phases computed.first_at
+        (managers.writes its_planning alone.replies (seen_by swept.scene (seated_at 0)) computed.first_answers.swept))
+        ∙ writes_at (record { scene = swept.scene; managers = slice_set swept.managers 0 (writer (seated_at 0) first_phases) }) 1 (seated_at 1) second_phases
+        (set_elsewhere swept.managers 0 1 (writer (seated_at 0) first_phases) (λ e. absurd (omega (arith, e))) ∙ computed.second_at)
+        (managers.writes its_planning replies (seen_by swept.scene (seated_at 1)) computed.second_answers.swept)
+
+    writing_is : after_masters_events (At 0 one.Write ∷ At 1 one.Write ∷ []) swept ≡ both_writing
+    writing_is =
+        both_write
+        ∙ ap (λ ms. record { scene = swept.scene; managers = ms })
+        (two_there swept.managers (seated_at 0) (seated_at 1) (writer (seated_at 0) first_phases) (writer (seated_at 1) second_phases) computed.first_at computed.second_at
+        computed.two_managers)
+
+    all_may : AllMay (sweeping ++ At 0 one.Write ∷ At 1 one.Write ∷ writing) beginning
+    all_may =
+        may_append sweeping (At 0 one.Write ∷ At 1 one.Write ∷ writing) beginning (all_plain_may sweeping beginning refl)
+        (subst (AllMay (At 0 one.Write ∷ At 1 one.Write ∷ writing)) (sym swept_is) writes)
+      where
+        writes : AllMay (At 0 one.Write ∷ At 1 one.Write ∷ writing) swept
+        writes =
+            let first = answers_may swept 0 (seated_at 0) alone.replies computed.first_at computed.first_answers in
+            let second = answers_may first_writing 1 (seated_at 1) replies second_still computed.second_answers in
+            let later = all_plain_may writing (after_masters_event first_writing (At 1 one.Write)) refl in
+            ((first.0, (second.0, later.0)), (first.1, (second.1, later.1)))
+
+    ended_is : after_masters_events (sweeping ++ At 0 one.Write ∷ At 1 one.Write ∷ writing) beginning ≡ ended
+    ended_is =
+        after_both sweeping (At 0 one.Write ∷ At 1 one.Write ∷ writing) beginning
+        ∙ ap (after_masters_events (At 0 one.Write ∷ At 1 one.Write ∷ writing)) swept_is
+        ∙ ap (after_masters_events writing) writing_is
+
+    after_first : after_masters_events (sweeping ++ At 0 one.Write ∷ []) beginning ≡ first_writing
+    after_first = after_both sweeping (At 0 one.Write ∷ []) beginning ∙ ap (λ t. after_masters_event t (At 0 one.Write)) swept_is
+
+    first_written : HasWritten beginning sweeping (At 1 one.Write ∷ writing) 0
+    first_written =
+        record {
+          writer = seated_at 0;
+          there = subst (λ t. IsAt t 0 (seated_at 0)) (sym swept_is) computed.first_at;
+          begins = first_writes;
+          no_other = (
+            λ same. absurd (omega (arith, same)),
+            plain_writes_nothing 0 writing
+                (after_masters_event (after_masters_events (sweeping ++ At 0 one.Write ∷ []) beginning) (At 1 one.Write)) refl,
+          );
+          later = ended_at 0;
+          there_later = subst (λ t. IsAt t 0 (ended_at 0)) (sym ended_is) computed.first_ends.there;
+          written = computed.first_ends.written;
+        }
+
+    second_written : HasWritten beginning (sweeping ++ At 0 one.Write ∷ []) writing 1
+    second_written =
+        record {
+          writer = seated_at 1;
+          there = subst (λ t. IsAt t 1 (seated_at 1)) (sym after_first) second_still;
+          begins = second_writes;
+          no_other = plain_writes_nothing 1 writing
+              (after_masters_events ((sweeping ++ At 0 one.Write ∷ []) ++ At 1 one.Write ∷ []) beginning) refl;
+          later = ended_at 1;
+          there_later = subst (λ es. IsAt (after_masters_events es beginning) 1 (ended_at 1))
+              (sym (append_assoc sweeping (At 0 one.Write ∷ []) (At 1 one.Write ∷ writing)))
+              (subst (λ t. IsAt t 1 (ended_at 1)) (sym ended_is) computed.second_ends.there);
+          written = computed.second_ends.written;
+        }
+
+    their_run : MastersWriteAtOnce conduct
+    their_run =
+        record {
+          masters = beginning;
+          held = alone.swept.manager.store;
+          planning = its_planning;
+          share = share;
+          hold = hold;
+          seat = port 0 1;
+          guid = 17;
+          other_seat = port 2 1;
+          other_guid = 49;
+          are_new = refl;
+          sweeping = sweeping;
+          writing = writing;
+          can_be = all_may.0;
+          whole = all_may.1;
+          first = first_written;
+          second = second_written;
+        }
+
+-- the run is the same under either conduct
+computed : (conduct : Conduct) → Computed conduct
+unfolding cabled_at fresh_agent after_inject after_deliver after_lose outcome_of after_answer get_of set_of changed_port with_bytes
+computed Plain =
     record {
-      quiet = starts_second.quiet;
-      each = by_two (λ which m. Starts (seen_by beginning.scene m)) alone.starts starts_second;
-      none_swept = by_two (λ which m. (m.has_swept ≡ false) × (m.knows_one_sweep ≡ false)) (refl, refl) (refl, refl);
-      apart = λ which other m n one two same.
-          by_two (λ k x. (j : ℕ) (y : Seated) → IsAt beginning j y → x.seat ≡ y.seat → k ≡ j)
-          (by_two (λ j y. port 0 1 ≡ y.seat → 0 ≡ j) (λ e. refl) (λ e. absurd (two_nodes 0 2 1 1 (λ k. omega (arith, k)) e)))
-          (by_two (λ j y. port 2 1 ≡ y.seat → 1 ≡ j) (λ e. absurd (two_nodes 2 0 1 1 (λ k. omega (arith, k)) e)) (λ e. refl)) which m one other n two same;
+      first_answers = record {
+        swept = record { whole = record { done = refl; answered = refl; near = refl }; swept = refl; planning_is = refl; store_is = refl; no_fault = refl };
+        knows = refl;
+      };
+      second_answers = record {
+        swept = record { whole = record { done = refl; answered = refl; near = refl }; swept = refl; planning_is = refl; store_is = refl; no_fault = refl };
+        knows = refl;
+      };
+      first_at = refl;
+      second_at = refl;
+      two_managers = refl;
+      first_ends = record { there = refl; written = refl };
+      second_ends = record { there = refl; written = refl };
     }
-
-hold : AllHold alone.swept.manager.store its_planning beginning
-hold =
-    by_two (λ which m. HoldsPlan (IsJoinedTo (fabric_of network) m.seat) (plan_by_it its_planning alone.swept.manager.store) (fabric_of network))
-    (holds_by (IsJoinedTo (fabric_of network) (port 0 1))) (holds_by (IsJoinedTo (fabric_of network) (port 2 1)))
-
-pub share : ShareLids alone.swept.manager.store its_planning beginning
-share =
+computed (Live key) =
     record {
-      starts = start;
-      has_room = alone.has_room;
-      plans = by_two (λ which m. m.manager.planning ≡ its_planning) refl refl;
-      agrees = by_two (λ which m. AgreesOn (IsJoinedTo (fabric_of network) m.seat) (cells_of alone.swept.manager.store) (fabric_of network))
-          alone.agrees agrees_second;
-      lids = λ which m there q node is. (hold which m there q node is).lids;
-    }
-
-ended_is : after_masters_events (sweeping ++ At 0 one.Write ∷ At 1 one.Write ∷ writing) beginning ≡ ended
-ended_is =
-    after_both sweeping (At 0 one.Write ∷ At 1 one.Write ∷ writing) beginning
-    ∙ ap (after_masters_events (At 0 one.Write ∷ At 1 one.Write ∷ writing)) swept_is
-    ∙ ap (after_masters_events writing) writing_is
-
-after_first : after_masters_events (sweeping ++ At 0 one.Write ∷ []) beginning ≡ first_writing
-after_first = after_both sweeping (At 0 one.Write ∷ []) beginning ∙ ap (λ t. after_masters_event t (At 0 one.Write)) swept_is
-
-first_written : HasWritten beginning sweeping (At 1 one.Write ∷ writing) 0
-first_written =
-    record {
-      writer = seated_at 0;
-      there = subst (λ t. IsAt t 0 (seated_at 0)) (sym swept_is) first_at;
-      begins = first_writes;
-      no_other = (
-        λ same. absurd (omega (arith, same)),
-        plain_writes_nothing 0 writing
-            (after_masters_event (after_masters_events (sweeping ++ At 0 one.Write ∷ []) beginning) (At 1 one.Write)) refl,
-      );
-      later = ended_at 0;
-      there_later = subst (λ t. IsAt t 0 (ended_at 0)) (sym ended_is) first_ends.there;
-      written = first_ends.written;
-    }
-
-second_written : HasWritten beginning (sweeping ++ At 0 one.Write ∷ []) writing 1
-second_written =
-    record {
-      writer = seated_at 1;
-      there = subst (λ t. IsAt t 1 (seated_at 1)) (sym after_first) second_still;
-      begins = second_writes;
-      no_other = plain_writes_nothing 1 writing
-          (after_masters_events ((sweeping ++ At 0 one.Write ∷ []) ++ At 1 one.Write ∷ []) beginning) refl;
-      later = ended_at 1;
-      there_later = subst (λ es. IsAt (after_masters_events es beginning) 1 (ended_at 1))
-          (sym (append_assoc sweeping (At 0 one.Write ∷ []) (At 1 one.Write ∷ writing)))
-          (subst (λ t. IsAt t 1 (ended_at 1)) (sym ended_is) second_ends.there);
-      written = second_ends.written;
+      first_answers = record {
+        swept = record { whole = record { done = refl; answered = refl; near = refl }; swept = refl; planning_is = refl; store_is = refl; no_fault = refl };
+        knows = refl;
+      };
+      second_answers = record {
+        swept = record { whole = record { done = refl; answered = refl; near = refl }; swept = refl; planning_is = refl; store_is = refl; no_fault = refl };
+        knows = refl;
+      };
+      first_at = refl;
+      second_at = refl;
+      two_managers = refl;
+      first_ends = record { there = refl; written = refl };
+      second_ends = record { there = refl; written = refl };
     }
 
 pub some_masters_write_at_once : SomeMastersWriteAtOnce
-some_masters_write_at_once =
-    record {
-      masters = beginning;
-      held = alone.swept.manager.store;
-      planning = its_planning;
-      share = share;
-      hold = hold;
-      seat = port 0 1;
-      guid = 17;
-      other_seat = port 2 1;
-      other_guid = 49;
-      are_new = refl;
-      sweeping = sweeping;
-      writing = writing;
-      can_be = all_may.0;
-      whole = all_may.1;
-      first = first_written;
-      second = second_written;
-    }
+some_masters_write_at_once conduct = their_run conduct (computed conduct)

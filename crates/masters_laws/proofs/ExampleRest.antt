@@ -22,6 +22,7 @@ use Rattle.takeover_laws.proofs.Example as alone
 use Rattle.takeover_laws.proofs.Example.{its_planning}
 use Rattle.takeover_laws.proofs.ExampleFabric.{at_end_ports, network}
 use Rattle.takeover_laws.proofs.ExampleRest.{before_cut, has_room, known, told}
+use Rattle.sm_state.specs.declared.conduct.Conduct.TheVariants.{Plain}
 use Rattle.masters_laws.specs.StaysInForce.{ShareRest, SomeMastersShareRest}
 use Rattle.masters_laws.proofs.Example.{beginning, share}
 
@@ -33,14 +34,14 @@ claimed part =
     (at_end_ports (λ id p node. claim_of (cells_of_view alone.all_told) node.guid p ≡ Some ((fabric_of network).base_lid (port id p)))
     refl refl refl part)
 
-rest : ShareRest (view before_cut) alone.swept.manager.store its_planning beginning
+rest : ShareRest (view before_cut) alone.swept.manager.store its_planning (beginning Plain)
 rest =
     record {
-      starts = share.starts;
+      starts = (share Plain).starts;
       had_room = subst (λ c. ¬ (IsNoRoom 0 c)) (sym known) has_room;
-      has_room = share.has_room;
-      plans = share.plans;
-      agrees = share.agrees;
+      has_room = (share Plain).has_room;
+      plans = (share Plain).plans;
+      agrees = (share Plain).agrees;
       claims = λ which m there. claimed (IsJoinedTo (fabric_of network) m.seat);
       tells = λ which m there q node is.
           subst (λ c. TellsEndPort c node q.port) (sym known) (told (IsJoinedTo (fabric_of network) m.seat) q node is).tells;
@@ -59,7 +60,7 @@ is_gone end = let none : ◌≡◌ {A = Option (NodeType × ℕ)} None (Some (en
 pub some_masters_share_rest : SomeMastersShareRest
 some_masters_share_rest =
     record {
-      masters = beginning;
+      masters = beginning Plain;
       earlier = view before_cut;
       facts = alone.swept.manager.store;
       planning = its_planning;

@@ -24,6 +24,7 @@ use Rattle.takeover_laws.specs.Claims.{HasLidsOf}
 use Rattle.takeover_laws.specs.Takeover.{IsInUse, plan_by_it}
 use Rattle.masters_laws.specs.Masters.{Seated, Masters, MastersEvent, Around, At, IsAt, seen_by, after_masters_event, after_masters_events}
 use Rattle.masters_laws.specs.Masters.{SetsInfoOnly, WritesWhole, IsWholeSweep, AllCanBe, StartTogether}
+use Rattle.sm_state.specs.declared.conduct.Conduct.{Conduct}
 use Rattle.sm_state.specs.declared.conduct.Conduct.TheVariants.{Plain}
 
 -- on a subnet that holds LIDs ----------------------------------------------------------------------
@@ -165,19 +166,19 @@ MastersChangeNothing =
 
 -- two new managers that write one subnet at once ---------------------------------------------------
 
--- a new manager at its seat, with the lowest priority and the plain conduct, which has done nothing yet
-abbrev pub new_at : NodePort → ℕ → Planning → Seated
-new_at seat port_guid planning =
+-- a new manager at its seat, with the lowest priority, which has done nothing yet
+abbrev pub new_at : Conduct → NodePort → ℕ → Planning → Seated
+new_at conduct seat port_guid planning =
     record {
       seat = seat;
-      manager = new_manager port_guid seat.port 0 Plain planning;
+      manager = new_manager port_guid seat.port 0 conduct planning;
       out = [];
       has_swept = false;
       knows_one_sweep = false;
     }
 
--- an example: two new managers that write the same subnet at the same time, and what happens to them
-pub record SomeMastersWriteAtOnce : Type 0 where
+-- an example: two new managers of a conduct that write the same subnet at the same time, and what happens to them
+pub record MastersWriteAtOnce (conduct : Conduct) : Type 0 where
   pub masters : Masters
   pub held : Facts
   pub planning : Planning
@@ -187,7 +188,7 @@ pub record SomeMastersWriteAtOnce : Type 0 where
   pub guid : ℕ
   pub other_seat : NodePort
   pub other_guid : ℕ
-  pub are_new : masters.managers ≡ new_at seat guid planning ∷ new_at other_seat other_guid planning ∷ []
+  pub are_new : masters.managers ≡ new_at conduct seat guid planning ∷ new_at conduct other_seat other_guid planning ∷ []
   -- the events until the managers are called to write, and those after that
   pub sweeping : List MastersEvent
   pub writing : List MastersEvent
@@ -196,6 +197,10 @@ pub record SomeMastersWriteAtOnce : Type 0 where
   -- neither writing is refused, and both plans are written in the end
   pub first : HasWritten masters sweeping (At 1 one.Write ∷ writing) 0
   pub second : HasWritten masters (sweeping ++ At 0 one.Write ∷ []) writing 1
+
+-- under each conduct, there are two new managers that write the same subnet at the same time
+abbrev pub SomeMastersWriteAtOnce : Type 0
+SomeMastersWriteAtOnce = (conduct : Conduct) → MastersWriteAtOnce conduct
 
 -- two new managers after a cut ---------------------------------------------------------------------
 
@@ -211,7 +216,7 @@ pub record SomeMastersShareRest : Type 0 where
   pub guid : ℕ
   pub other_seat : NodePort
   pub other_guid : ℕ
-  pub are_new : masters.managers ≡ new_at seat guid planning ∷ new_at other_seat other_guid planning ∷ []
+  pub are_new : masters.managers ≡ new_at Plain seat guid planning ∷ new_at Plain other_seat other_guid planning ∷ []
   pub gone : EndPort
   pub was_there : IsEndPort (cells_of earlier) gone.node gone.port
   pub is_gone : ¬ (IsEndPort (cells_of facts) gone.node gone.port)

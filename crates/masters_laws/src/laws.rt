@@ -69,10 +69,10 @@ pub fn masters_change_nothing()
     ensures { MastersChangeNothing }
 {}
 
-/// Some masters write at once: two new managers, each on an adapter that is wired to the same switch. The adapters and
-/// the switch hold LIDs of their own choice, and the switch holds a table. The sweeps of the two managers go on at
-/// once, and neither manager answers the other. Then both managers are asked to write, and their Sets are sent in turn,
-/// until each manager has written its plan.
+/// Under either conduct, some masters write at once: two new managers, each on an adapter that is wired to the same
+/// switch. The adapters and the switch hold LIDs of their own choice, and the switch holds a table. The sweeps of the
+/// two managers go on at once, and neither manager answers the other. Then both managers are asked to write, and their
+/// Sets are sent in turn, until each manager has written its plan.
 pub fn some_masters_write_at_once()
     ensures { SomeMastersWriteAtOnce }
 {}
