@@ -80,7 +80,7 @@ fn write_each_channel<W: Sink>(
 }
 
 /// Writes a space, the switch and the outgoing port of `channel` and, by lane, its lane.
-fn write_channel<W: Sink>(
+pub fn write_channel<W: Sink>(
     sink: &mut W,
     network: &Network,
     kind: ChannelKind,

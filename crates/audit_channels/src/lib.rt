@@ -16,7 +16,7 @@ mod shortest_cycle;
 mod waits;
 
 pub use column::{add_across, add_column, edge_of, is_same_column};
-pub use cycle_text::{ChannelKind, write_cycle};
+pub use cycle_text::{ChannelKind, write_channel, write_cycle};
 pub use network_order::channel_order;
 pub use network_waits::channel_waits;
 pub use order::{ChannelOrder, order_channels};

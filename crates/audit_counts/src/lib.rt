@@ -12,7 +12,10 @@ mod site;
 mod unmatched;
 
 pub use all_packets::{PacketSurvey, survey};
-pub use audit_ways::{Figures, WayFigures, figures_of_ways_known};
+pub use audit_ways::{
+    Figures, LoadedChannel, PacketWay, WayFigures, figures_of_ways_known, loaded_channels,
+    packet_way,
+};
 pub use cause_counts::Causes;
 pub use disputed_facts::disputed;
 pub use first_few::FirstFew;

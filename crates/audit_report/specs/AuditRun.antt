@@ -1,10 +1,11 @@
 -- What an audit of tables and files does: it reads all of them and writes what happens to packets, or returns the fault
 -- of an input.
-use Rattle.std.specs.Prelude.{◌↔◌, ◌⊎◌, ℕ, Bool, List, IsTrue, if◌then◌else◌}
+use Rattle.std.specs.Prelude.{◌↔◌, ◌⊎◌, ◌++◌, ℕ, Bool, List, IsTrue, if◌then◌else◌}
 use Rattle.byte_io.specs.Source.{SourceState}
 use Rattle.fact_store.specs.View.{Facts, cells_of}
 use Rattle.held_tables.specs.Held.{HeldPlan}
 use Rattle.audit_channels.specs.Waiting.{NoneShorter}
+use Rattle.audit_report.specs.Appendix.{appendix_text}
 use Rattle.audit_report.specs.AuditText.{audit_text}
 use Rattle.audit_report.specs.Passing.{IsCycle, PassesWithin}
 use Rattle.sm_cli.specs.declared.audit_asked.AuditAsked.{AuditAsked}
@@ -17,15 +18,16 @@ use Rattle.sm_cli.specs.declared.input_tables.TablesAndFacts.{TablesAndFacts}
 abbrev pub most_lines : Bool → ℕ
 most_lines all = if all then 18446744073709551615 else 20
 
--- the audit's text is printed, as `prints` says, with a shortest credit loop if there is one. `passed` says whether
--- the tables pass and, if `asked` has a maximum load, no channel has a greater load
+-- the audit's text and the lines that `asked` asks for are printed, as `prints` says, with a shortest credit loop if
+-- there is one. `passed` says whether the tables pass and, if `asked` has a maximum load, no channel has a greater load
 pub record IsAudited (asked : AuditAsked) (facts : Facts) (held : HeldPlan) (prints : List ℕ → Type 0) (passed : Bool)
     : Type 0 where
   pub cycle : List ℕ
   pub waits : IsCycle (cells_of facts) held cycle
   pub shortest : NoneShorter (cells_of facts) held cycle
   pub answered : prints
-      (audit_text (record { most = most_lines asked.all; facts = facts; held = held; cycle = cycle }))
+      (audit_text (record { most = most_lines asked.all; facts = facts; held = held; cycle = cycle })
+      ++ appendix_text asked (cells_of facts) held)
   pub judged : IsTrue passed ↔ PassesWithin asked.max_load (cells_of facts) held
 
 -- the tables and then the files were read, and the text of their audit is printed, as `prints` says. `passed` says

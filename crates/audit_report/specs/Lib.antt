@@ -1,5 +1,6 @@
 pub mod AuditText
 pub mod Passing
+pub mod Appendix
 pub mod AuditRun
 pub use Rattle.audit_counts.specs.Packets
 pub use Rattle.audit_counts.specs.Site

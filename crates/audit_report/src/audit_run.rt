@@ -1,13 +1,14 @@
 //! An audit of tables and files of records.
-ghost use Rattle.std.specs.Prelude.{◌≡◌, ◌≤◌, ◌↔◌, ◌⊎◌, Err, IfErr, IfOk, IsTrue, OnErr, OnOk, false, length};
+ghost use Rattle.std.specs.Prelude.{◌≡◌, ◌≤◌, ◌↔◌, ◌⊎◌, ◌++◌, Err, IfErr, IfOk, IsTrue, OnErr, OnOk, false, length};
 ghost use Rattle.std.specs.Io.KnownBytes.{Appends};
 ghost use Rattle.fact_store.specs.View.{cells_of};
+ghost use Rattle.audit_report.specs.Appendix.{shown};
 ghost use Rattle.audit_report.specs.AuditText.{audit_text};
 ghost use Rattle.audit_report.specs.Passing.{PassesWithin};
 ghost use Rattle.audit_report.specs.AuditRun.{HasAudited, IsAuditFault, IsAudited, most_lines};
 ghost use Rattle.sm_cli.specs.Fault.{IsOutputFault};
 
-use crate::{Audit, write_audit};
+use crate::{Appendix, Audit, write_audit};
 use byte_io::{Sink, Source};
 use fact_store::Store;
 use held_tables::{Held, Subnet};
@@ -66,8 +67,11 @@ fn answer<W: Sink>(
     let Ok(subnet) = Subnet::of(alloc, store) else {
         return Err(Fault::Memory);
     };
-    match Audit::of(alloc, most_lines(asked.all), &subnet, held) {
-        Ok(audit) => tell(sink, asked.max_load, &audit),
+    let Ok(audit) = Audit::of(alloc, most_lines(asked.all), &subnet, held) else {
+        return Err(Fault::Memory);
+    };
+    match Appendix::of(alloc, &asked, audit.network()) {
+        Ok(appendix) => tell(sink, asked.max_load, &audit, &appendix),
         Err(_) => Err(Fault::Memory),
     }
 }
@@ -79,11 +83,17 @@ pub fn most_lines(all: bool) -> usize
     if all { usize::MAX } else { MOST_TOLD }
 }
 
-/// Writes what `audit` found, and flushes. Returns whether the tables pass and, if there is a `max_load`, no channel
+/// Writes what `audit` found and the lines of `appendix`, and flushes. Returns whether the tables pass and, if there is a `max_load`, no channel
 /// has a greater load. If the fault is not `Write`, nothing was written.
-fn tell<W: Sink>(sink: &mut W, max_load: Option<u64>, audit: &Audit) -> Result<bool, Fault>
+fn tell<W: Sink>(
+    sink: &mut W,
+    max_load: Option<u64>,
+    audit: &Audit,
+    appendix: &Appendix,
+) -> Result<bool, Fault>
     ensures told { IfOk result (λ passed.
-        Appends (W.written sink.old) (W.written sink.new) (audit_text audit.now)
+        Appends (W.written sink.old) (W.written sink.new)
+        (audit_text audit.now ++ shown (cells_of audit.now.facts) audit.now.held appendix.now)
         × (IsTrue passed ↔ PassesWithin max_load (cells_of audit.now.facts) audit.now.held)) }
     ensures flushed { OnOk result (IsTrue (W.is_flushed sink.new)) }
     ensures sink_works { OnOk result (W.has_failed sink.new ≡ false) }
@@ -91,6 +101,6 @@ fn tell<W: Sink>(sink: &mut W, max_load: Option<u64>, audit: &Audit) -> Result<b
     ensures nothing_written { OnErr result ((result ≡ Err Fault.Write) ⊎ (sink.new ≡ sink.old)) }
 {
     let passed = audit.passes_within(max_load);
-    write_audit(sink, audit)?;
+    write_audit(sink, audit, appendix)?;
     Ok(passed)
 }

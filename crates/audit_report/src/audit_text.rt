@@ -1,9 +1,10 @@
 //! An audit as text.
-ghost use Rattle.std.specs.Prelude.{◌-◌, IsTrue, OnOk, codes};
+ghost use Rattle.std.specs.Prelude.{◌-◌, ◌++◌, IsTrue, OnOk, codes};
 ghost use Rattle.std.specs.List.{flat_map};
 ghost use Rattle.fact_store.specs.View.{cells_of};
 ghost use Rattle.byte_io.specs.Writes.{Writes};
 ghost use Rattle.byte_io.specs.WritesPart.{WritesPart};
+ghost use Rattle.audit_report.specs.Appendix.{shown};
 ghost use Rattle.audit_report.specs.AuditText.{audit_text, disputed_line};
 ghost use Rattle.audit_report.specs.AuditText.{cause_text, causes_text, count_text, counts_line, findings_text};
 ghost use Rattle.audit_report.specs.AuditText.{listed_text, missed_line};
@@ -14,6 +15,7 @@ ghost use Rattle.audit_report.specs.AuditText.{port_line, kind_text};
 ghost use Rattle.audit_report.specs.AuditText.{lost_text, missed_text, sent_text, switch_line, taken_text};
 ghost use Rattle.audit_report.specs.AuditText.{unmatched_text};
 
+use crate::appendix::Appendix;
 use crate::findings::Audit;
 use audit_channels::{ChannelKind, write_cycle};
 use audit_counts::{
@@ -37,11 +39,17 @@ use subnet_view::EndPort;
 /// - how many facts are disputed, if any are;
 /// - the greatest and the mean number of wires that packets between adapter ports take, and the greatest and the mean
 ///   load of a channel;
-/// - the channels of a credit loop, or that there is none.
+/// - the channels of a credit loop, or that there is none;
+/// - the lines of `appendix`.
 ///
 /// Does not allocate.
-pub fn write_audit<W: Sink>(sink: &mut W, audit: &Audit) -> Result<(), WriteFault>
-    ensures writes { Writes W.written W.has_failed result sink.old sink.new (audit_text audit.now) }
+pub fn write_audit<W: Sink>(
+    sink: &mut W,
+    audit: &Audit,
+    appendix: &Appendix,
+) -> Result<(), WriteFault>
+    ensures writes { Writes W.written W.has_failed result sink.old sink.new
+        (audit_text audit.now ++ shown (cells_of audit.now.facts) audit.now.held appendix.now) }
     ensures flushed { OnOk result (IsTrue (W.is_flushed sink.new)) }
 {
     write_findings(sink, audit)?;
@@ -51,6 +59,7 @@ pub fn write_audit<W: Sink>(sink: &mut W, audit: &Audit) -> Result<(), WriteFaul
         ChannelKind::OnOneLane,
         &audit.findings.cycle,
     )?;
+    appendix.write(sink, &audit.network)?;
     sink.flush()
 }
 
@@ -243,7 +252,7 @@ fn write_sent<W: Sink>(sink: &mut W, word: &str, packet: &SentPacket) -> Result<
 }
 
 /// Writes `end`, where a packet for `lid` ends. Writes nothing if `end` is `None`, which means that the packet loops.
-fn write_end<W: Sink>(
+pub(crate) fn write_end<W: Sink>(
     sink: &mut W,
     network: &Network,
     lid: Lid,

@@ -48,7 +48,7 @@ pub(crate) fn load_channel(loads: &mut [u64], channel: usize, times: u64) -> Res
 }
 
 /// Returns the edge of `switch` in `edges`, or `None` if there is none.
-fn edge_of(edges: &[Option<Edge>], switch: usize) -> Option<Edge>
+pub(crate) fn edge_of(edges: &[Option<Edge>], switch: usize) -> Option<Edge>
     ensures { result ≡ slice_index_or edges.now switch None }
 {
     edges.get(switch).copied().flatten()
@@ -56,7 +56,7 @@ fn edge_of(edges: &[Option<Edge>], switch: usize) -> Option<Edge>
 
 /// Returns the number of the channel of `edge`, an edge of `switch`. The numbers of all channels of `switch` must fit
 /// in 64 bits.
-fn number_of(switch: usize, edge: Edge) -> usize
+pub(crate) fn number_of(switch: usize, edge: Edge) -> usize
     requires { 256 * switch + 256 < 2 ^ 64 + 1 }
     ensures is { result ≡ number_of switch edge }
     ensures within { result < 256 * switch + 256 }

@@ -57,7 +57,7 @@ pub fn figures_of_ways_known(
 
 /// Counts the routes of the delivered packets between adapter ports. If `told` is true at the index of a line, all
 /// packets for the line's LID must be delivered at the line's port.
-fn tally_of(alloc: Global, network: &Network, told: &[bool]) -> Result<WayTally, AllocError>
+pub(crate) fn tally_of(alloc: Global, network: &Network, told: &[bool]) -> Result<WayTally, AllocError>
     requires { AreKnownToArrive (cells_of network.now.facts) network.now.held told.now }
     ensures { IfOk result (IsCounted (256 * length (switches (cells_of network.now.facts)))
         (λ number. sum_by number (ways_of (cells_of network.now.facts) network.now.held))) }
@@ -163,7 +163,7 @@ fn loads_of(network: &Network, loads: &[u64]) -> Result<Total, AllocError>
 }
 
 /// Returns whether `far` is a usable switch.
-fn is_to_switch(far: Far) -> bool
+pub(crate) fn is_to_switch(far: Far) -> bool
     ensures { result ≡ is_to_switch far }
 {
     matches!(far, Far::Switch(_))

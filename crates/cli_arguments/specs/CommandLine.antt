@@ -58,9 +58,13 @@ of_step = told_order_rule ∷ option_rule (codes "last-order") ∷ []
 abbrev pub max_load_rule : Rule
 max_load_rule = record (option_rule (codes "max-load")) { parser = Some (Signed (pos 0) (pos 4294967295)) }
 
--- the options of an audit: how much the audit prints, and the load that it lets pass
+-- the option `--loads`, with no word after it: the load of each channel is printed
+abbrev pub loads_rule : Rule
+loads_rule = flag_rule (codes "loads")
+
+-- the options of an audit: how much the audit prints, the load that it lets pass, and what it also prints
 abbrev pub of_report : List Rule
-of_report = all_rule ∷ max_load_rule ∷ []
+of_report = all_rule ∷ max_load_rule ∷ loads_rule ∷ option_rule (codes "way") ∷ []
 
 -- the option `--answers-as-asked`, with no word after it: answers have the service level of the packets that they
 -- answer
@@ -188,8 +192,8 @@ AddsRules rules old new =
 
 -- words --------------------------------------------------------------------------------------------------
 
--- the subcommand that `words` name has options that contradict each other, or is `serve` with a GUID or an SM_Key that
--- is not 1 to 16 hex digits; false if `words` name no subcommand
+-- the subcommand that `words` name has options that contradict each other or a wrong word (`has_conflict`); false if
+-- `words` name no subcommand
 abbrev pub conflict_of : App → List Text → Bool
 conflict_of app words = has_conflict_behind (subcommand_of app words)
 

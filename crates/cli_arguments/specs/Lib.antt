@@ -1,3 +1,4 @@
 pub mod CommandLine
+pub mod WayWord
 pub mod WellFormed
 pub mod Words

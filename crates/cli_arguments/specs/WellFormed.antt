@@ -5,6 +5,7 @@ use Rattle.clap.specs.Matches.{subcommand_name_of}
 use Rattle.clap.specs.Values.{IsSignedIn}
 use Rattle.clap.specs.Walk.{Text}
 use Rattle.clap.specs.declared.parser.matches.ArgMatches.{ArgMatches}
+use Rattle.cli_arguments.specs.WayWord.{is_way}
 use Rattle.cli_arguments.specs.Words.{files_named, has_conflict_of, is_guid, is_key, lacks_lanes, order_rule, word_named}
 
 -- the word, if any, is a number from `least` to `most`
@@ -58,7 +59,8 @@ pub data HasItsWords (word : Text → Option Text) (files : Option (List Text)) 
   plan : name ≡ codes "plan" → NamesFiles word files → NamesPlanning word → HasItsWords word files name
   order : name ≡ codes "order" → NamesFiles word files → NamesOrder word → HasItsWords word files name
   audit : name ≡ codes "audit" → IsGiven (word (codes "TABLES")) → NamesFiles word files
-      → IsNumberWithin 0 4294967295 (word (codes "max-load")) → lacks_lanes word ≡ false → HasItsWords word files name
+      → IsNumberWithin 0 4294967295 (word (codes "max-load")) → lacks_lanes word ≡ false
+      → is_way (word (codes "way")) ≡ true → HasItsWords word files name
   order_of : name ≡ codes "order-of" → IsGiven (word (codes "TABLES")) → NamesFiles word files
       → HasItsWords word files name
   next : name ≡ codes "next" → IsGiven (word (codes "TABLES")) → NamesFiles word files → NamesPlanning word

@@ -7,6 +7,7 @@ use Rattle.std.specs.Str.{bytes_eq}
 use Rattle.clap.specs.Simple.{subcommand_rows_of}
 use Rattle.clap.specs.Walk.{Row}
 use Rattle.clap.specs.declared.parser.matches.ArgMatches.{ArgMatches}
+use Rattle.cli_arguments.specs.WayWord.{is_way}
 
 -- the values of the argument `name` among `rows`; None if no row has this name
 abbrev pub values_in : List ℕ → List Row → Option (List (List ℕ))
@@ -78,14 +79,15 @@ abbrev pub lacks_lanes : (List ℕ → Option (List ℕ)) → Bool
 lacks_lanes word = is_set (word (codes "answers-as-asked")) && not (is_some (word (codes "lanes")))
 
 -- options contradict each other in the subcommand `name`, or it is `serve` and its GUID or SM_Key is not 1 to 16 hex
--- digits
+-- digits, or it is `audit` and does not name a packet as it has to be named
 abbrev pub has_conflict : List ℕ → (List ℕ → Option (List ℕ)) → Bool
 has_conflict name word =
     if bytes_eq name (codes "serve") then planning_conflict name word || is_wrong_seat word
-    else (if bytes_eq name (codes "audit") then lacks_lanes word else planning_conflict name word)
+    else (if bytes_eq name (codes "audit") then lacks_lanes word || not (is_way (word (codes "way")))
+    else planning_conflict name word)
 
--- the subcommand has options that contradict each other, or is `serve` with a GUID or an SM_Key that is not 1 to 16 hex
--- digits; false if no subcommand was named
+-- the subcommand has options that contradict each other or a wrong word (`has_conflict`); false if no subcommand was
+-- named
 abbrev pub has_conflict_behind : Option (List ℕ × List Row) → Bool
 has_conflict_behind None = false
 has_conflict_behind (Some s) = has_conflict s.0 (word_behind (Some s))

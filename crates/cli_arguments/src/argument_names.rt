@@ -51,6 +51,12 @@ pub const ALL: &str = "all";
 /// The option for the greatest load of a channel with which tables pass.
 pub const MAX_LOAD: &str = "max-load";
 
+/// The flag that makes an audit print the load of each channel.
+pub const LOADS: &str = "loads";
+
+/// The option for the packet whose way an audit prints.
+pub const WAY: &str = "way";
+
 /// The option that names a file of lanes. If it is given, `audit` and `next` judge credit loops lane by lane.
 pub const LANES: &str = "lanes";
 

@@ -2,12 +2,12 @@
 ghost use Rattle.std.specs.Prelude.{◌≡◌, codes, false};
 ghost use Rattle.clap.specs.Walk.{rule_of};
 ghost use Rattle.cli_arguments.specs.CommandLine.{all_rule, answers_rule, files_rule, flag_rule, floor_rule};
-ghost use Rattle.cli_arguments.specs.CommandLine.{lmc_rule, max_load_rule, option_rule, port_rule, priority_rule};
+ghost use Rattle.cli_arguments.specs.CommandLine.{lmc_rule, loads_rule, max_load_rule, option_rule, port_rule, priority_rule};
 ghost use Rattle.cli_arguments.specs.CommandLine.{routing_rule, text_rule, told_order_rule};
 
 use crate::argument_names::{
-    ALL, ANSWERS_AS_ASKED, FILE, FLOOR, GUID, LANES, LAST_ORDER, LMC, MAX_LOAD, ORDER, PORT,
-    PRIORITY, ROOTS, ROUTING, SM_KEY, TOLD_ORDER,
+    ALL, ANSWERS_AS_ASKED, FILE, FLOOR, GUID, LANES, LAST_ORDER, LMC, LOADS, MAX_LOAD, ORDER, PORT,
+    PRIORITY, ROOTS, ROUTING, SM_KEY, TOLD_ORDER, WAY,
 };
 use clap::{Arg, ArgAction, value_parser};
 use std::alloc::Global;
@@ -145,6 +145,31 @@ pub(crate) fn max_load<'a>(alloc: Global) -> Arg<'a>
          LID, N from 0 to 4294967295",
     )
     .value_parser(value_parser!(u32).range(0..))
+}
+
+/// Builds the flag for the load of each channel.
+pub(crate) fn loads<'a>(alloc: Global) -> Arg<'a>
+    ensures rule { rule_of result ≡ loads_rule }
+    ensures own { result.global ≡ false }
+{
+    flag(
+        alloc,
+        LOADS,
+        "Also prints the load of each channel: how many pairs of an adapter port and another one's LID it carries",
+    )
+}
+
+/// Builds the option for the packet whose way is printed.
+pub(crate) fn way<'a>(alloc: Global) -> Arg<'a>
+    ensures rule { rule_of result ≡ option_rule (codes "way") }
+    ensures own { result.global ≡ false }
+{
+    option(
+        alloc,
+        WAY,
+        "G/p,L",
+        "Also prints the way of the packet that port p of node G sends to the LID L, switch by switch",
+    )
 }
 
 /// Builds the option for the file of lanes.

@@ -14,8 +14,8 @@ use crate::argument_names::{
     TABLES, TOPOLOGY, UPDOWN,
 };
 use crate::arguments::{
-    all, answers_as_asked, files, floor, lanes, last_order, lmc, max_load, order_file, port,
-    priority, roots, routing, sm_key, text, told_order,
+    all, answers_as_asked, files, floor, lanes, last_order, lmc, loads, max_load, order_file, port,
+    priority, roots, routing, sm_key, text, told_order, way,
 };
 use crate::conflicts::{conflict, has_conflict};
 use clap::{ArgMatches, Command, Error};
@@ -93,7 +93,8 @@ const ORDER_ROUTING_HELP: &str =
 ///
 /// - `command_line` refuses the words, or the words ask for help or the version;
 /// - options contradict each other;
-/// - a manager's GUID or SM_Key is not 1 to 16 hex digits;
+/// - a manager's GUID or SM_Key is not 1 to 16 hex digits, or the packet whose way is asked for is not a port and a
+///   LID;
 /// - memory was refused.
 ///
 /// Returns an outer `Err` only if memory was refused.
@@ -319,11 +320,15 @@ fn of_tables<'a>(alloc: Global, command: Command<'a>) -> Result<Command<'a>, All
     of_files(alloc, command)
 }
 
-/// Adds the options of an audit: how much the audit prints, and which load passes.
+/// Adds the options of an audit: how much the audit prints, which load passes, and what is also printed.
 fn with_report<'a>(alloc: Global, command: Command<'a>) -> Result<Command<'a>, AllocError>
     ensures { IfOk result (AddsRules of_report command.entry) }
 {
-    command.arg(all(alloc))?.arg(max_load(alloc))
+    command
+        .arg(all(alloc))?
+        .arg(max_load(alloc))?
+        .arg(loads(alloc))?
+        .arg(way(alloc))
 }
 
 /// Adds the options for judging by lane: the file of lanes, and which service levels answers have.
@@ -352,7 +357,7 @@ fn with_planning<'a>(
     with_routing(alloc, routings, PLAN_ROUTING_HELP, command)
 }
 
-/// Adds the options for a rule of routing, of which `help` tells, and for its roots or its order.
+/// Adds the options that choose a rule of routing (`help` says which), its roots and its order.
 fn with_routing<'a>(
     alloc: Global,
     routings: &'a [&'a str],

@@ -6,21 +6,24 @@ ghost use Rattle.std.specs.Str.{bytes_eq};
 ghost use Rattle.clap.specs.Matches.{first_value, found_of};
 ghost use Rattle.clap.specs.Simple.{subcommand_rows_of};
 ghost use Rattle.clap.specs.Values.{kind_of};
+ghost use Rattle.cli_arguments.specs.WayWord.{is_way};
 ghost use Rattle.cli_arguments.specs.Words.{has_conflict, has_conflict_behind, is_guid, is_guid_word, is_key, is_set};
 ghost use Rattle.cli_arguments.specs.Words.{is_wrong_seat, lacks_lanes, lacks_rule, order_rule, planning_conflict};
 
 use crate::arg_matches::{is_named, is_set};
 use crate::argument_names::{
     ANSWERS_AS_ASKED, AUDIT, BALANCE, GUID, LANES, NEXT, ORDER, ROOTS, ROUTING, SERVE, SM_KEY,
-    SPREAD,
+    SPREAD, WAY,
 };
 use crate::arguments::all;
 use crate::command_line::subcommand;
+use crate::way_word::packet_named;
 use clap::error::ErrorKind;
 use clap::{ArgMatches, Error};
 use std::alloc::{AllocError, Global};
 
-/// Returns whether options contradict each other, or the GUID or the SM_Key of `serve` is wrong. Options contradict
+/// Returns whether options contradict each other, or the GUID or the SM_Key of `serve`, or the packet that `audit`
+/// names, is wrong. Options contradict
 /// each other if roots and an order are both named, if roots or an order are named without a rule of routing that
 /// takes them, or if `--answers-as-asked` is set without a file of lanes. The subcommand `order` needs no rule. The
 /// GUID must be 1 to 16 hex digits, and so must the SM_Key if one is named.
@@ -34,13 +37,13 @@ pub(crate) fn has_conflict(matches: &ArgMatches<'_>) -> bool
 }
 
 /// Returns whether the options of the subcommand `name` contradict each other, or `name` is `serve` and the GUID or the
-/// SM_Key is not 1 to 16 hex digits.
+/// SM_Key is not 1 to 16 hex digits, or `name` is `audit` and does not name a packet as `packet_named` reads it.
 fn has_conflict_in(name: &str, words: &ArgMatches<'_>) -> bool
     ensures { result ≡ has_conflict name.now (first_value (found_of words.now)) }
 {
     match name {
         SERVE => planning_conflict(name, words) || has_wrong_seat(words),
-        AUDIT => lacks_lanes(words),
+        AUDIT => lacks_lanes(words) || !has_way(words),
         _ => planning_conflict(name, words),
     }
 }
@@ -76,6 +79,16 @@ fn has_key(words: &ArgMatches<'_>) -> bool
 {
     match words.get_str(SM_KEY) {
         Some(word) => is_guid_word(word.as_bytes()),
+        None => true,
+    }
+}
+
+/// Returns whether the packet of `--way` is named as `packet_named` reads it. Returns true if no packet is named.
+fn has_way(words: &ArgMatches<'_>) -> bool
+    ensures { result ≡ is_way (first_value (found_of words.now) (codes "way")) }
+{
+    match words.get_str(WAY) {
+        Some(word) => packet_named(word.as_bytes()).is_some(),
         None => true,
     }
 }
@@ -118,8 +131,7 @@ fn lacks_rule(name: &str, words: &ArgMatches<'_>, rooted: bool, ordered: bool) -
     }
 }
 
-/// Returns the error for a command line for which `has_conflict` returns true: options contradict each other, or a GUID
-/// or an SM_Key is not 1 to 16 hex digits. Returns an outer `Err` if memory is refused.
+/// Returns the error for a command line for which `has_conflict` returns true. Returns an outer `Err` if memory is refused.
 pub(crate) fn conflict(alloc: Global, matches: &ArgMatches<'_>) -> Result<Error, AllocError>
     ensures { IfOk result (λ error. kind_of error ≡ ErrorKind.ArgumentConflict) }
 {
@@ -127,8 +139,7 @@ pub(crate) fn conflict(alloc: Global, matches: &ArgMatches<'_>) -> Result<Error,
     command.error(ErrorKind::ArgumentConflict, conflict_text(matches))
 }
 
-/// Returns the text of the error for options that contradict each other, or for a GUID or an SM_Key that is not 1 to
-/// 16 hex digits. Returns an empty text if there is no subcommand.
+/// Returns the text of the error for options that contradict each other, or for a wrong GUID, SM_Key or packet. Returns an empty text if there is no subcommand.
 fn conflict_text(matches: &ArgMatches<'_>) -> &'static str {
     let Some((_, words)) = matches.subcommand() else {
         return "";
@@ -138,6 +149,9 @@ fn conflict_text(matches: &ArgMatches<'_>) -> &'static str {
     }
     if !has_key(words) {
         return "invalid value for '--sm-key <HEX>': 1 to 16 hex digits are wanted";
+    }
+    if !has_way(words) {
+        return "invalid value for '--way <G/p,L>': a port and a LID are wanted, as 0000000000000100/1,5";
     }
     if lacks_lanes(words) {
         return "the argument '--answers-as-asked' cannot be used without '--lanes <FILE>'";

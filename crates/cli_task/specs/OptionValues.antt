@@ -3,11 +3,13 @@ use Rattle.std.specs.Prelude.{ℕ, Bool, true, false, List, Option, None, Some, 
 use Rattle.std.specs.Prelude.{option_map, option_and_then, ◌&&◌, ◌||◌, if◌then◌else◌}
 use Rattle.std.specs.Str.{bytes_eq}
 use Rattle.std.specs.Str.Parse.{starts_with_minus, without_leading_plus}
+use Rattle.cli_arguments.specs.WayWord.{packet_named}
 use Rattle.cli_arguments.specs.Words.{order_rule}
 use Rattle.text_words.specs.Numbers.{number_of}
 use Rattle.sm_cli.specs.declared.asked.RuleAsked.{RuleAsked}
 use Rattle.sm_cli.specs.declared.asked.RuleAsked.TheVariants.{UpDown, Spread, SpreadFromRoots, SpreadInOrder, Balance}
 use Rattle.sm_cli.specs.declared.asked.RuleAsked.TheVariants.{BalanceInOrder}
+use Rattle.sm_cli.specs.declared.audit_asked.WayAsked.{WayAsked}
 use Rattle.serve_lines.specs.ServeLine.{hex_number}
 
 -- `n` if it is from `least` to `most`, and otherwise None
@@ -72,6 +74,13 @@ order_asked word =
 abbrev pub max_load_asked : Option (List ℕ) → Option (Option ℕ)
 max_load_asked None = Some None
 max_load_asked (Some word) = option_map Some (option_and_then (within 0 4294967295) (number_in word))
+
+-- the packet whose way is printed, as the word names it; the inner value is None if there is no word. None if the word
+-- does not name a packet
+abbrev pub way_asked : Option (List ℕ) → Option (Option WayAsked)
+way_asked None = Some None
+way_asked (Some word) =
+    option_map (λ packet. Some (record { node = packet.0; port = packet.1.0; lid = packet.1.1 })) (packet_named word)
 
 -- the GUID that 1 to 16 hex digits write; None if the word is missing or wrong
 abbrev pub guid_asked : Option (List ℕ) → Option ℕ

@@ -16,13 +16,17 @@ use Rattle.sm_cli.specs.declared.step_asked.StepAsked.{StepAsked}
 use Rattle.cli_task.specs.declared.task.Task.{Task}
 use Rattle.cli_task.specs.declared.task.Task.TheVariants.{Answer, Audit, AuditByLane, OrderOf, Next, Run, Serve}
 use Rattle.cli_task.specs.OptionValues.{floor_asked, planning_asked, order_asked, max_load_asked, guid_asked}
-use Rattle.cli_task.specs.OptionValues.{port_asked, priority_asked, sm_key_asked}
+use Rattle.cli_task.specs.OptionValues.{port_asked, priority_asked, sm_key_asked, way_asked}
 
 -- the audit that the words ask for; None if one of them is wrong
 abbrev pub audit_asked : (List ℕ → Option (List ℕ)) → Option AuditAsked
-audit_asked word = option_and_then (λ floor. option_map
-    (λ max_load. record { floor = floor; all = is_set (word (codes "all")); max_load = max_load })
-    (max_load_asked (word (codes "max-load")))) (floor_asked (word (codes "floor")))
+audit_asked word = option_and_then (λ floor. option_and_then (λ max_load. option_map (λ way. record {
+  floor = floor;
+  all = is_set (word (codes "all"));
+  max_load = max_load;
+  loads = is_set (word (codes "loads"));
+  way = way;
+}) (way_asked (word (codes "way")))) (max_load_asked (word (codes "max-load")))) (floor_asked (word (codes "floor")))
 
 -- the task of an audit, lane by lane if the first argument is true; None if `answers`, which is about lanes, is true
 -- and the first argument is false

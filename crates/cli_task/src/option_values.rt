@@ -3,16 +3,17 @@ ghost use Rattle.std.specs.Prelude.{◌≡◌, codes, is_some, option_and_then};
 ghost use Rattle.clap.specs.Matches.{first_value, found_of};
 ghost use Rattle.cli_task.specs.OptionValues.{floor_asked, lmc_asked, max_load_asked, number_in, number_or, planning_asked};
 ghost use Rattle.cli_task.specs.OptionValues.{rule_asked, order_asked, within, balance_asked, spread_asked, guid_asked};
-ghost use Rattle.cli_task.specs.OptionValues.{port_asked, priority_asked, sm_key_asked};
+ghost use Rattle.cli_task.specs.OptionValues.{port_asked, priority_asked, sm_key_asked, way_asked};
 
 use attr_codec::{Lmc, Priority};
 use clap::ArgMatches;
 use cli_arguments::argument_names::{
     BALANCE, FLOOR, GUID, LMC, MAX_LOAD, ORDER, PORT, PRIORITY, ROOTS, ROUTING, SM_KEY, SPREAD,
-    UPDOWN,
+    UPDOWN, WAY,
 };
+use cli_arguments::packet_named;
 use serve_lines::hex_number;
-use sm_cli::RuleAsked;
+use sm_cli::{RuleAsked, WayAsked};
 use smp_bytes::{Generation, Guid, PortNum};
 
 /// The SM_Key that OpenSM has unless its options set another.
@@ -170,6 +171,20 @@ pub(crate) fn max_load_of(words: &ArgMatches<'_>) -> Option<Option<u64>>
 {
     match words.get_str(MAX_LOAD) {
         Some(text) => Some(Some(u64::from(number_in(text)?))),
+        None => Some(None),
+    }
+}
+
+/// Returns the packet whose way is printed, as asked by `words`, which are those after a subcommand. Returns
+/// `Some(None)` if the words name no packet. Returns `None` if they do not name it as `packet_named` reads it.
+pub(crate) fn way_of(words: &ArgMatches<'_>) -> Option<Option<WayAsked>>
+    ensures { result ≡ way_asked (first_value (found_of words.now) (codes "way")) }
+{
+    match words.get_str(WAY) {
+        Some(word) => {
+            let (node, port, lid) = packet_named(word.as_bytes())?;
+            Some(Some(WayAsked { node, port, lid }))
+        }
         None => Some(None),
     }
 }

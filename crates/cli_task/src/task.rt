@@ -8,13 +8,13 @@ ghost use Rattle.cli_task.specs.Task.{serving_asked};
 ghost use Rattle.cli_task.specs.InputNames.{takes_files, texts_asked, texts_of_rule};
 
 use crate::option_values::{
-    floor_of, guid_of, max_load_of, order_of, planning_of, port_of, priority_of, sm_key_of,
+    floor_of, guid_of, max_load_of, order_of, planning_of, port_of, priority_of, sm_key_of, way_of,
 };
 use arrayvec::ArrayVec;
 use attr_codec::Lmc;
 use clap::ArgMatches;
 use cli_arguments::argument_names::{
-    ALL, ANSWERS_AS_ASKED, AUDIT, FACTS, FILE, GUID, JOIN, LANES, LAST_ORDER, NEXT, ORDER,
+    ALL, ANSWERS_AS_ASKED, AUDIT, FACTS, FILE, GUID, JOIN, LANES, LAST_ORDER, LOADS, NEXT, ORDER,
     ORDER_OF, PLAN, ROOTS, RUN, SCHEDULE, SERVE, TABLES, TOLD_ORDER, TOPOLOGY,
 };
 use cli_arguments::is_set;
@@ -130,10 +130,13 @@ fn audit_of(words: &ArgMatches<'_>) -> Option<AuditAsked>
 {
     let floor = floor_of(words)?;
     let max_load = max_load_of(words)?;
+    let way = way_of(words)?;
     Some(AuditAsked {
         floor,
         all: is_set(words, ALL),
         max_load,
+        loads: is_set(words, LOADS),
+        way,
     })
 }
 

@@ -5,6 +5,7 @@ use Rattle.byte_io.specs.Source.{SourceState}
 use Rattle.fact_store.specs.View.{Facts, cells_of}
 use Rattle.held_tables.specs.Held.{HeldPlan}
 use Rattle.audit_counts.specs.FirstFew.{Listed, all_listed}
+use Rattle.audit_report.specs.Appendix.{appendix_text}
 use Rattle.audit_report.specs.AuditText.{findings_text}
 use Rattle.audit_report.specs.Passing.{DeliversWithin}
 use Rattle.audit_report.specs.AuditRun.{most_lines}
@@ -50,12 +51,13 @@ pub record PassesByLane (bound : Option ℕ) (s : SeenByLane) (answers : Bool) :
   pub carried : (dropped : Dropped) → IsDroppedByLane s answers dropped → ⊥
   pub rise : RiseByLane s answers
 
--- the text of an audit with what was found by lane is printed, as `prints` says. `passed` says whether the tables
--- pass by lane and, if `asked` has a maximum load, no channel has a greater load
+-- the text of an audit with what was found by lane, and the lines that `asked` asks for, are printed, as `prints` says.
+-- `passed` says whether the tables pass by lane and, if `asked` has a maximum load, no channel has a greater load
 pub record IsLaneAnswer (asked : LaneAuditAsked) (most : ℕ) (s : SeenByLane) (missing : Listed PacketPair)
     (dropped : Option Dropped) (cycle : List ℕ) (prints : List ℕ → Type 0) (passed : Bool) : Type 0 where
   pub answered : prints (findings_text most (cells_of s.seen.facts) s.seen.held
-      ++ lanes_text (cells_of s.seen.facts) missing dropped cycle)
+      ++ lanes_text (cells_of s.seen.facts) missing dropped cycle
+      ++ appendix_text asked.audit (cells_of s.seen.facts) s.seen.held)
   pub judged : IsTrue passed ↔ PassesByLane asked.audit.max_load s asked.answers
 
 -- the text of the audit by lane is printed, as `prints` says, with a shortest credit loop if there is one. `passed`

@@ -2,6 +2,7 @@
 ghost use Rattle.std.specs.Prelude.{◌≡◌, ◌≤◌, ◌⊎◌, ◌++◌, Err, IfErr, IfOk, IsTrue, OnErr, OnOk, false, length};
 ghost use Rattle.std.specs.Io.KnownBytes.{Appends};
 ghost use Rattle.fact_store.specs.View.{cells_of};
+ghost use Rattle.audit_report.specs.Appendix.{appendix_text, shown};
 ghost use Rattle.audit_report.specs.AuditText.{findings_text};
 ghost use Rattle.sm_cli.specs.Fault.{IsOutputFault};
 ghost use Rattle.lane_report.specs.LaneText.{lanes_text};
@@ -13,7 +14,7 @@ ghost use Rattle.sm_cli.specs.InputLanes.{AreLanesAndFiles, AreNoLanesAndFiles};
 
 use crate::lane_findings::LaneFindings;
 use crate::levels_missing::pairs_without_level;
-use audit_report::{Audit, most_lines, write_findings};
+use audit_report::{Appendix, Audit, most_lines, write_findings};
 use byte_io::{Sink, Source, WriteFault};
 use fact_store::Refused;
 use held_tables::Subnet;
@@ -104,7 +105,10 @@ fn answer<W: Sink>(
     let Ok(found) = findings(alloc, most, &audit, lanes, asked.answers) else {
         return Err(Fault::Memory);
     };
-    tell(sink, asked, &audit, lanes, &found)
+    let Ok(appendix) = Appendix::of(alloc, &asked.audit, audit.network()) else {
+        return Err(Fault::Memory);
+    };
+    tell(sink, asked, &audit, lanes, &found, &appendix)
 }
 
 /// Finds the packets between adapter ports that have no service level, a packet that is dropped for want of a lane,
@@ -152,18 +156,22 @@ fn order_by_lane(
     Ok(lane_order(alloc, &by_lane, answers)?)
 }
 
-/// Writes what `audit` and `found` found, and flushes. Returns whether the tables pass by lane and, if there is an
+/// Writes what `audit` and `found` found and the lines of `appendix`, and flushes. Returns whether the tables pass by lane and, if there is an
 /// `asked.audit.max_load`, no channel has a greater load. If the fault is not `Write`, nothing was written. `found`
-/// must be the findings according to `lanes` and `asked.answers` in the network of `audit`.
+/// must be the findings according to `lanes` and `asked.answers` in the network of `audit`, and `appendix` must be what
+/// `asked` asks for there.
 fn tell<W: Sink>(
     sink: &mut W,
     asked: &LaneAuditAsked,
     audit: &Audit,
     lanes: &Lanes,
     found: &LaneFindings,
+    appendix: &Appendix,
 ) -> Result<bool, Fault>
-    requires { IsFoundByLane audit.now.most (seen_of audit.now.facts audit.now.held lanes.now)
+    requires found { IsFoundByLane audit.now.most (seen_of audit.now.facts audit.now.held lanes.now)
         asked.now.answers found.now.missing found.now.order.dropped found.now.order.cycle.items }
+    requires appendix { shown (cells_of audit.now.facts) audit.now.held appendix.now
+        ≡ appendix_text asked.now.audit (cells_of audit.now.facts) audit.now.held }
     ensures told { IfOk result (λ passed. IsLaneAnswer asked.now audit.now.most
         (seen_of audit.now.facts audit.now.held lanes.now)
         found.now.missing found.now.order.dropped found.now.order.cycle.items
@@ -174,19 +182,25 @@ fn tell<W: Sink>(
     ensures nothing_written { OnErr result ((result ≡ Err Fault.Write) ⊎ (sink.new ≡ sink.old)) }
 {
     let passed = audit.delivers_within(asked.audit.max_load) && found.is_sound();
-    write_all(sink, audit, found)?;
+    write_all(sink, audit, found, appendix)?;
     Ok(passed)
 }
 
-/// Writes `audit` with `found` in place of its credit loop, and flushes.
-fn write_all<W: Sink>(sink: &mut W, audit: &Audit, found: &LaneFindings) -> Result<(), WriteFault>
+/// Writes `audit` with `found` in place of its credit loop, and the lines of `appendix`, and flushes.
+fn write_all<W: Sink>(
+    sink: &mut W,
+    audit: &Audit,
+    found: &LaneFindings,
+    appendix: &Appendix,
+) -> Result<(), WriteFault>
     ensures writes { Writes W.written W.has_failed result sink.old sink.new
         (findings_text audit.now.most (cells_of audit.now.facts) audit.now.held
         ++ lanes_text (cells_of audit.now.facts) found.now.missing found.now.order.dropped
-        found.now.order.cycle.items) }
+        found.now.order.cycle.items ++ shown (cells_of audit.now.facts) audit.now.held appendix.now) }
     ensures flushed { OnOk result (IsTrue (W.is_flushed sink.new)) }
 {
     write_findings(sink, audit)?;
     found.write(sink, audit.network())?;
+    appendix.write(sink, audit.network())?;
     sink.flush()
 }

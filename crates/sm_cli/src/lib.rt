@@ -19,7 +19,7 @@ mod step_asked;
 mod text_fault;
 
 pub use asked::{Invocation, Output, RuleAsked, texts_if};
-pub use audit_asked::{AuditAsked, LaneAuditAsked};
+pub use audit_asked::{AuditAsked, LaneAuditAsked, WayAsked};
 pub use exit_status::ExitStatus;
 pub use fault::Fault;
 pub use fault_line::write_fault;
