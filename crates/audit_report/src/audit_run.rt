@@ -2,7 +2,7 @@
 ghost use Rattle.std.specs.Prelude.{◌≡◌, ◌≤◌, ◌↔◌, ◌⊎◌, ◌++◌, Err, IfErr, IfOk, IsTrue, OnErr, OnOk, false, length};
 ghost use Rattle.std.specs.Io.KnownBytes.{Appends};
 ghost use Rattle.fact_store.specs.View.{cells_of};
-ghost use Rattle.audit_report.specs.Appendix.{shown};
+ghost use Rattle.audit_report.specs.Appendix.{appendix_text, shown};
 ghost use Rattle.audit_report.specs.AuditText.{audit_text};
 ghost use Rattle.audit_report.specs.Passing.{PassesWithin};
 ghost use Rattle.audit_report.specs.AuditRun.{HasAudited, IsAuditFault, IsAudited, most_lines};
@@ -71,7 +71,7 @@ fn answer<W: Sink>(
         return Err(Fault::Memory);
     };
     match Appendix::of(alloc, &asked, audit.network()) {
-        Ok(appendix) => tell(sink, asked.max_load, &audit, &appendix),
+        Ok(appendix) => tell(sink, &asked, &audit, &appendix),
         Err(_) => Err(Fault::Memory),
     }
 }
@@ -83,24 +83,27 @@ pub fn most_lines(all: bool) -> usize
     if all { usize::MAX } else { MOST_TOLD }
 }
 
-/// Writes what `audit` found and the lines of `appendix`, and flushes. Returns whether the tables pass and, if there is a `max_load`, no channel
-/// has a greater load. If the fault is not `Write`, nothing was written.
+/// Writes what `audit` found and the lines of `appendix`, which must be those that `asked` asks for, and flushes.
+/// Returns whether the tables pass and, if there is an `asked.max_load`, no channel has a greater load. If the fault is
+/// not `Write`, nothing was written.
 fn tell<W: Sink>(
     sink: &mut W,
-    max_load: Option<u64>,
+    asked: &AuditAsked,
     audit: &Audit,
     appendix: &Appendix,
 ) -> Result<bool, Fault>
+    requires { shown (cells_of audit.now.facts) audit.now.held appendix.now
+        ≡ appendix_text asked.now (cells_of audit.now.facts) audit.now.held }
     ensures told { IfOk result (λ passed.
         Appends (W.written sink.old) (W.written sink.new)
-        (audit_text audit.now ++ shown (cells_of audit.now.facts) audit.now.held appendix.now)
-        × (IsTrue passed ↔ PassesWithin max_load (cells_of audit.now.facts) audit.now.held)) }
+        (audit_text audit.now ++ appendix_text asked.now (cells_of audit.now.facts) audit.now.held)
+        × (IsTrue passed ↔ PassesWithin asked.now.max_load (cells_of audit.now.facts) audit.now.held)) }
     ensures flushed { OnOk result (IsTrue (W.is_flushed sink.new)) }
     ensures sink_works { OnOk result (W.has_failed sink.new ≡ false) }
     ensures refused { IfErr result (IsOutputFault (W.has_failed sink.new)) }
     ensures nothing_written { OnErr result ((result ≡ Err Fault.Write) ⊎ (sink.new ≡ sink.old)) }
 {
-    let passed = audit.passes_within(max_load);
+    let passed = audit.passes_within(asked.max_load);
     write_audit(sink, audit, appendix)?;
     Ok(passed)
 }

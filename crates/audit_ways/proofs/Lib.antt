@@ -1,8 +1,10 @@
 pub mod Added
+pub mod ChannelList
 pub mod Counted
 pub mod Grouped
 pub mod Loads
 pub mod Once
+pub mod PacketWays
 pub mod Rosters
 pub mod Senders
 pub mod Surveyed

@@ -38,7 +38,7 @@ range_more a (suc n) =
     ap (range_with_len a) e ∙ ap (λ xs. a ∷ xs) (range_more (a + 1) n ∙ ap (λ (m : ℕ). range_with_len (a + 1) n ++ m ∷ []) k)
 
 module _ (cells : Cells) (loads : List ℕ) where
-  abbrev is_channel : ℕ → Bool
+  abbrev pub is_channel : ℕ → Bool
   is_channel n = is_to_switch (far_by cells n)
 
   abbrev load : ℕ → ℕ
@@ -51,14 +51,14 @@ module _ (cells : Cells) (loads : List ℕ) where
   pub none_so_far : (total : Total) → IsTotal [] total → LoadsSoFar 0 total
   none_so_far total h = record { counted = h }
 
-  loads_more : (n : ℕ) → map load (filter is_channel (range_with_len 0 (n + 1)))
-      ≡ map load (filter is_channel (range_with_len 0 n)) ++ cond (is_channel n) (load n ∷ []) []
-  loads_more n =
-      ap (λ xs. map load (filter is_channel xs)) (range_more 0 n ∙ ap (λ (k : ℕ). range_with_len 0 n ++ k ∷ []) (let e : 0 + n ≡ n = omega arith in e))
-      ∙ ap (map load) (filter-append is_channel (range_with_len 0 n) (n ∷ []))
-      ∙ map-append load (filter is_channel (range_with_len 0 n)) (cond (is_channel n) (n ∷ []) [])
-      ∙ ap (λ xs. map load (filter is_channel (range_with_len 0 n))
-      ++ xs) (elim (is_channel n) as (λ t. map load (cond t (n ∷ []) []) ≡ cond t (load n ∷ []) []) [
+  pub channels_more : {X : Type 0} (f : ℕ → X) (n : ℕ) → map f (filter is_channel (range_with_len 0 (n + 1)))
+      ≡ map f (filter is_channel (range_with_len 0 n)) ++ cond (is_channel n) (f n ∷ []) []
+  channels_more f n =
+      ap (λ xs. map f (filter is_channel xs)) (range_more 0 n ∙ ap (λ (k : ℕ). range_with_len 0 n ++ k ∷ []) (let e : 0 + n ≡ n = omega arith in e))
+      ∙ ap (map f) (filter-append is_channel (range_with_len 0 n) (n ∷ []))
+      ∙ map-append f (filter is_channel (range_with_len 0 n)) (cond (is_channel n) (n ∷ []) [])
+      ∙ ap (λ xs. map f (filter is_channel (range_with_len 0 n))
+      ++ xs) (elim (is_channel n) as (λ t. map f (cond t (n ∷ []) []) ≡ cond t (f n ∷ []) []) [
         | true ↦ refl
         | false ↦ refl
       ])
@@ -69,7 +69,7 @@ module _ (cells : Cells) (loads : List ℕ) where
     counted =
         subst (λ xs. IsTotal xs new)
         (ap (λ (k : ℕ). map load (filter is_channel (range_with_len 0 n)) ++ k ∷ []) is
-        ∙ sym (loads_more n ∙ ap (λ t. map load (filter is_channel (range_with_len 0 n)) ++ cond t (load n ∷ []) []) does))
+        ∙ sym (channels_more load n ∙ ap (λ t. map load (filter is_channel (range_with_len 0 n)) ++ cond t (load n ∷ []) []) does))
         (total_more (map load (filter is_channel (range_with_len 0 n))) total new number h.counted w);
   }
 
@@ -77,7 +77,7 @@ module _ (cells : Cells) (loads : List ℕ) where
   none_more n total h not_it = record {
     counted =
         subst (λ xs. IsTotal xs total)
-        (sym (loads_more n ∙ ap (λ t. map load (filter is_channel (range_with_len 0 n)) ++ cond t (load n ∷ []) []) not_it
+        (sym (channels_more load n ∙ ap (λ t. map load (filter is_channel (range_with_len 0 n)) ++ cond t (load n ∷ []) []) not_it
         ∙ append-nil (map load (filter is_channel (range_with_len 0 n)))))
         h.counted;
   }
@@ -87,7 +87,7 @@ module _ (cells : Cells) (loads : List ℕ) where
 
 -- both are what is told of ways -------------------------------------------------------------
 
-same_map : (f g : ℕ → ℕ) (ns : List ℕ) → ((n : ℕ) → f n ≡ g n) → map f ns ≡ map g ns
+pub same_map : {X : Type 0} (f g : ℕ → X) (ns : List ℕ) → ((n : ℕ) → f n ≡ g n) → map f ns ≡ map g ns
 same_map f g [] h = refl
 same_map f g (n ∷ ns) h = λ i. h n i ∷ same_map f g ns h i
 

@@ -15,11 +15,11 @@ abbrev pub times_in : ℕ → List ℕ → ℕ
 times_in channel channels = count_by (λ x. x == channel) channels
 
 module _ (edges : List (Option Edge)) where
-  one_channel : (n switch : ℕ) (edge : Edge) → slice_index_or edges switch None ≡ Some edge
+  pub one_channel : (n switch : ℕ) (edge : Edge) → slice_index_or edges switch None ≡ Some edge
       → channels_from (suc n) edges switch ≡ number_of switch edge ∷ channels_from n edges edge.to
   one_channel n switch edge e = ap (λ o. option_map_or (λ (x : Edge). number_of switch x ∷ channels_from n edges x.to) o []) e
 
-  no_channel : (n switch : ℕ) → slice_index_or edges switch None ≡ None → channels_from n edges switch ≡ []
+  pub no_channel : (n switch : ℕ) → slice_index_or edges switch None ≡ None → channels_from n edges switch ≡ []
   no_channel zero switch e = refl
   no_channel (suc n) switch e = ap (λ o. option_map_or (λ (x : Edge). number_of switch x ∷ channels_from n edges x.to) o []) e
 

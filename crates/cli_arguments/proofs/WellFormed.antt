@@ -30,6 +30,10 @@ neither : (a b : Bool) → (a || b) ≡ false → (a ≡ false) × (b ≡ false)
 neither false b e = (refl, e)
 neither true b e = absurd (cc)
 
+is_so : (b : Bool) → not b ≡ false → b ≡ true
+is_so true e = refl
+is_so false e = absurd (cc)
+
 module _ (routings : Bor (List (Bor Text))) (known : AreRoutings routings) (c : List Rule) (name : Text) (rows : List Row) (taken : AreTaken c rows) where
   abbrev word : Text → Option Text
   word = word_behind (Some (name, rows))
@@ -123,10 +127,6 @@ module _ (routings : Bor (List (Bor Text))) (known : AreRoutings routings) (c : 
     priority = number_read 0 15 q parser_q (word (codes "PRIORITY")) (word_passes c name (codes "PRIORITY") q rows is_q taken);
     sm_key = is_so (is_key (word (codes "sm-key"))) (neither _ _ right).1;
   }
-    where
-      is_so : (b : Bool) → not b ≡ false → b ≡ true
-      is_so true e = refl
-      is_so false e = absurd (cc)
 
 -- subcommands ---------------------------------------------------------------------------------------------
 
@@ -156,7 +156,10 @@ all_plain routings = (
       (
         ((refl, refl), ((refl, refl), ((refl, refl), ((refl, refl), ((refl, refl), ((refl, refl), tt)))))),
         (
-          ((refl, refl), ((refl, refl), ((refl, refl), ((refl, refl), ((refl, refl), ((refl, refl), ((refl, refl), ((refl, refl), tt)))))))),
+          (
+            (refl, refl),
+            ((refl, refl), ((refl, refl), ((refl, refl), ((refl, refl), ((refl, refl), ((refl, refl), ((refl, refl), ((refl, refl), ((refl, refl), tt))))))))),
+          ),
           (
             ((refl, refl), ((refl, refl), ((refl, refl), ((refl, refl), tt)))),
             (
@@ -194,7 +197,7 @@ all_fit routings known = (
         (
           λ other differs is rows t e apart. audit refl (text_given routings known _ (codes "audit") rows t (codes "TABLES") _ refl refl (given_first _ _ e).0)
               (names_files routings known _ (codes "audit") rows t _ refl refl (given_first _ _ (given_first _ _ e).1).0)
-              (names_load routings known _ (codes "audit") rows t _ refl refl) apart,
+              (names_load routings known _ (codes "audit") rows t _ refl refl) (neither _ _ apart).0 (is_so _ (neither _ _ apart).1),
           (
             λ other differs is rows t e apart. order_of refl (text_given routings known _ (codes "order-of") rows t (codes "TABLES") _ refl refl (given_first _ _ e).0)
                 (names_files routings known _ (codes "order-of") rows t _ refl refl (given_first _ _ (given_first _ _ e).1).0),

@@ -5,15 +5,17 @@ use Rattle.clap.specs.Matches.{subcommand_name_of}
 use Rattle.clap.specs.declared.parser.matches.ArgMatches.{ArgMatches}
 use Rattle.cli_arguments.specs.WellFormed.{HasItsWords, IsGiven, IsNumberWithin, IsRouting, IsWellFormed, NamesFiles, NamesOrder, NamesPlanning, NamesSeat}
 use Rattle.cli_arguments.specs.WellFormed.{facts, join, plan, order, audit, order_of, next, run, serve}
+use Rattle.cli_arguments.specs.WayWord.{is_way, packet_named}
 use Rattle.cli_arguments.specs.Words.{files_named, has_conflict_of, is_guid, is_key, is_set, lacks_lanes, order_rule, word_named}
 use Rattle.sm_cli.specs.declared.audit_asked.AuditAsked.{AuditAsked}
+use Rattle.sm_cli.specs.declared.audit_asked.WayAsked.{WayAsked}
 use Rattle.sm_cli.specs.declared.asked.RuleAsked.{RuleAsked}
 use Rattle.sm_cli.specs.declared.asked.RuleAsked.TheVariants.{UpDown, Spread, SpreadFromRoots, SpreadInOrder, Balance, BalanceInOrder}
 use Rattle.sm_cli.specs.StepAsked.{is_named}
 use Rattle.cli_task.specs.Task.{audit_by, held_order_asked}
 use Rattle.cli_task.specs.InputNames.{followed_by, names_in, text_if, texts_of_rule}
 use Rattle.cli_task.specs.OptionValues.{floor_asked, guid_asked, lmc_asked, max_load_asked, number_in, port_asked}
-use Rattle.cli_task.specs.OptionValues.{priority_asked, sm_key_asked, within, planning_asked, rule_asked}
+use Rattle.cli_task.specs.OptionValues.{priority_asked, sm_key_asked, within, planning_asked, rule_asked, way_asked}
 use Rattle.cli_task.specs.Task.{task_behind}
 use Rattle.cli_task.proofs.Guids.{guid_is_read}
 use Rattle.cli_task.proofs.Within.{number_within}
@@ -26,6 +28,15 @@ known (Some x) e = (x, refl)
 floor_there : (o : Option (List ℕ)) → IsNumberWithin 1 4294967295 o → is_some (floor_asked o) ≡ true
 floor_there None h = refl
 floor_there (Some word) h = number_within 1 4294967295 word h
+
+way_there : (o : Option (List ℕ)) → is_way o ≡ true → is_some (way_asked o) ≡ true
+way_there None e = refl
+way_there (Some word) e = mapped (packet_named word) e
+  where
+    mapped : (o : Option (ℕ × ℕ × ℕ)) → is_some o ≡ true
+        → is_some (option_map {U = Option WayAsked} (λ packet. Some (record { node = packet.0; port = packet.1.0; lid = packet.1.1 })) o) ≡ true
+    mapped None e = absurd (cc)
+    mapped (Some packet) e = refl
 
 max_load_there : (o : Option (List ℕ)) → IsNumberWithin 0 4294967295 o → is_some (max_load_asked o) ≡ true
 max_load_there None h = refl
@@ -180,11 +191,12 @@ module _ (word : List ℕ → Option (List ℕ)) (files : Option (List (List ℕ
   asks_by asked None true is apart t h = absurd (cc)
 
   audit_asks : IsGiven (word (codes "TABLES")) → NamesFiles word files → IsNumberWithin 0 4294967295 (word (codes "max-load")) → lacks_lanes word ≡ false
-      → Asks (codes "audit")
-  audit_asks t h m apart =
+      → is_way (word (codes "way")) ≡ true → Asks (codes "audit")
+  audit_asks t h m apart w =
       let floor = known (floor_asked (word (codes "floor"))) (floor_there (word (codes "floor")) h.floor) in
       let load = known (max_load_asked (word (codes "max-load"))) (max_load_there (word (codes "max-load")) m) in
-      rw floor.1 rw load.1 (asks_by _ (word (codes "lanes")) (is_set (word (codes "answers-as-asked"))) refl apart t h)
+      let way = known (way_asked (word (codes "way"))) (way_there (word (codes "way")) w) in
+      rw floor.1 rw load.1 rw way.1 (asks_by _ (word (codes "lanes")) (is_set (word (codes "answers-as-asked"))) refl apart t h)
 
   order_of_asks : IsGiven (word (codes "TABLES")) → NamesFiles word files → Asks (codes "order-of")
   order_of_asks t h =
@@ -225,7 +237,7 @@ module _ (word : List ℕ → Option (List ℕ)) (files : Option (List (List ℕ
   words_ask name (join is h) = subst Asks (sym is) (join_ask h)
   words_ask name (plan is h p) = subst Asks (sym is) (plan_asks h p)
   words_ask name (order is h p) = subst Asks (sym is) (order_asks h p)
-  words_ask name (audit is t h m apart) = subst Asks (sym is) (audit_asks t h m apart)
+  words_ask name (audit is t h m apart w) = subst Asks (sym is) (audit_asks t h m apart w)
   words_ask name (order_of is t h) = subst Asks (sym is) (order_of_asks t h)
   words_ask name (next is t h p) = subst Asks (sym is) (next_asks t h p)
   words_ask name (run is t s p) = subst Asks (sym is) (run_asks t s p)

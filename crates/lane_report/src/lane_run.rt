@@ -199,8 +199,9 @@ fn write_all<W: Sink>(
         found.now.order.cycle.items ++ shown (cells_of audit.now.facts) audit.now.held appendix.now) }
     ensures flushed { OnOk result (IsTrue (W.is_flushed sink.new)) }
 {
+    let network = audit.network();
     write_findings(sink, audit)?;
-    found.write(sink, audit.network())?;
-    appendix.write(sink, audit.network())?;
+    found.write(sink, network)?;
+    appendix.write(sink, network)?;
     sink.flush()
 }

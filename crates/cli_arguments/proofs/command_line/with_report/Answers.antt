@@ -1,11 +1,15 @@
-use Rattle.std.proofs.Common.{[], ◌∷◌}
+use Rattle.std.proofs.Common.{[], ◌∷◌, codes}
 use Rattle.std.proofs.lemmas.Result.{IfOk-weaker}
-use Rattle.cli_arguments.specs.CommandLine.{all_rule, max_load_rule}
+use Rattle.cli_arguments.specs.CommandLine.{all_rule, loads_rule, max_load_rule, option_rule}
 use Rattle.cli_arguments.proofs.Commands.{adds_both, adds_rule}
 use Rattle.cli_arguments.proofs.command_line.with_report.Goals as goal
 
 pub returns : goal.returns
 returns c =
-    IfOk-weaker c.arg-2.result _ _ (λ new h. adds_both c.args.command c.in_ok-arg.field-0 new (all_rule ∷ []) (max_load_rule ∷ [])
-    (adds_rule _ _ c.all.result _ c.in_ok-arg.ensures c.all.ensures.rule c.all.ensures.own)
-    (adds_rule _ _ c.max_load.result _ h c.max_load.ensures.rule c.max_load.ensures.own)) c.arg-2.ensures
+    let two = adds_both _ _ _ _ _ (adds_rule _ _ c.all.result _ c.in_ok-arg.ensures c.all.ensures.rule c.all.ensures.own)
+    (adds_rule _ _ c.max_load.result _ c.in_ok-arg-2.ensures c.max_load.ensures.rule c.max_load.ensures.own) in
+    let three = adds_both _ _ _ (all_rule ∷ max_load_rule ∷ []) (loads_rule ∷ []) two
+    (adds_rule _ _ c.loads.result _ c.in_ok-arg-3.ensures c.loads.ensures.rule c.loads.ensures.own) in
+    IfOk-weaker c.arg-4.result _ _ (λ new h. adds_both c.args.command c.in_ok-arg-3.field-0 new
+    (all_rule ∷ max_load_rule ∷ loads_rule ∷ []) (option_rule (codes "way") ∷ []) three
+    (adds_rule _ _ c.way.result _ h c.way.ensures.rule c.way.ensures.own)) c.arg-4.ensures

@@ -1,5 +1,9 @@
 -- What was written, and whether the tables pass.
-use Rattle.std.proofs.Common.{◌∙◌, sym}
+use Rattle.std.proofs.Common.{◌∙◌, ◌++◌, ℕ, List, subst, sym}
+use Rattle.std.specs.Io.KnownBytes.{Appends}
+use Rattle.fact_store.specs.View.{cells_of}
+use Rattle.audit_report.specs.AuditText.{findings_text}
+use Rattle.lane_report.specs.LaneText.{lanes_text}
 use Rattle.lane_report.specs.LaneRun.{seen_of}
 use Rattle.lane_report.proofs.Judged.{is_sound, passes}
 use Rattle.lane_report.proofs.lane_run.tell.Goals as goal
@@ -16,12 +20,14 @@ returns-clause-told g c =
     let dropped = found.order.dropped in
     let cycle = found.order.cycle.items in
     record {
-      answered = c.in_ok-write_all.ensures.writes.ok;
+      answered = subst (λ (more : List ℕ). Appends (g.W.Sink.written a.sink.now) (g.W.Sink.written c.write_all.new.sink)
+          (findings_text audit.most (cells_of audit.facts) audit.held ++ (lanes_text (cells_of audit.facts) missing dropped cycle ++ more)))
+          c.requires.appendix c.in_ok-write_all.ensures.writes.ok;
       judged = elim c.if-delivers_within.branch [
         | then-delivers_within w ↦ (
-          λ t. passes s a.asked.now.answers bound audit.most missing dropped cycle c.requires (c.delivers_within.ensures.0 w.if-delivers_within.true)
+          λ t. passes s a.asked.now.answers bound audit.most missing dropped cycle c.requires.found (c.delivers_within.ensures.0 w.if-delivers_within.true)
               (w.is_sound-passed.ensures.0 (sym w.passed-is ∙ t)),
-          λ p. w.passed-is ∙ w.is_sound-passed.ensures.1 (is_sound s a.asked.now.answers bound audit.most missing dropped cycle c.requires p),
+          λ p. w.passed-is ∙ w.is_sound-passed.ensures.1 (is_sound s a.asked.now.answers bound audit.most missing dropped cycle c.requires.found p),
         )
         | else-delivers_within w ↦ (
           λ t. (let is = w.passed-is in absurd (cc)),
