@@ -105,9 +105,9 @@ class Choices:
         most = max(adapters.values(), default=0)
         leaf_numbers = spread_rule.leaf_numbers_of(graph, leaves)
         self.first_numbers = {switch: leaf_numbers[switch] * most for switch in graph}
-        levels = spread_rule.levels_of(graph, leaves)
-        weights = spread_rule.weights_of(graph, levels)
-        self.weights = {switch: weights[levels[switch]] for switch in graph}
+        self.levels = spread_rule.levels_of(graph, leaves)
+        weights = spread_rule.weights_of(graph, self.levels)
+        self.weights = {switch: weights[self.levels[switch]] for switch in graph}
         self.loads = collections.Counter()
         self.are_counted = False
         self.taken = {(leaf, own): dict.fromkeys(graph, 0) for leaf in leaves for own in range(adapters[leaf])}
@@ -152,9 +152,11 @@ class Choices:
         ]
         return peaks.index(min(peaks)) if peaks else 0
 
-    def first_choice(self, switch: int, target: int, own: int) -> int:
-        """Returns the number that a switch takes at first towards adapter `own` of a target."""
-        return (self.first_numbers[target] + own) // self.weights[switch] + self.positions[switch]
+    def first_choice(self, ways: list[Edge], switch: int, target: int, own: int) -> int:
+        """Returns the number that a switch takes at first towards adapter `own` of a target, to which `ways` lead."""
+        higher = any(self.levels[to] > self.levels[switch] for _, to in ways)
+        weight = self.weights[switch] if higher else 1
+        return (self.first_numbers[target] + own) // weight + self.positions[switch]
 
     def choose(
         self, exits: dict[int, list[Edge]], order: list[int], target: int, own: int, is_first: bool
@@ -167,16 +169,18 @@ class Choices:
         for switch in order:
             if is_first:
                 count = len(exits[switch])
-                taken[switch] = self.first_choice(switch, target, own) % count if count else 0
+                taken[switch] = self.first_choice(exits[switch], switch, target, own) % count if count else 0
             else:
                 taken[switch] = self.lightest(exits, taken, switch)
             self.add(exits, taken, switch)
 
     def make(self) -> None:
-        """Makes the first choices, and new ones, at most twice, until loads are even."""
+        """Makes the first choices, and new ones, at most twice, until loads are even. Keeps the choices by which the
+        busiest channel carries least, the first of equals."""
+        rounds = []
         for number in range(3):
             if number > 0 and is_even(self.loads, self.graph):
-                return
+                break
             self.are_counted = number > 0
             for target in self.in_order:
                 if not self.adapters[target]:
@@ -185,13 +189,16 @@ class Choices:
                 order = self.near_first(exits)
                 for own in range(self.adapters[target]):
                     self.choose(exits, order, target, own, number == 0)
+            taken = {end: dict(choices) for end, choices in self.taken.items()}
+            rounds.append((max(self.loads.values(), default=0), taken))
+        _, self.taken = min(rounds, key=lambda made: made[0])
 
-    def of(self, number: int, switch: int, target: int) -> int:
-        """Returns the number of the candidate that a LID with this number takes at a switch towards a target. It is to
-        be taken modulo the number of candidates."""
+    def of(self, ways: list[Edge], number: int, switch: int, target: int) -> int:
+        """Returns the number of the candidate that a LID with this number takes at a switch towards a target, to which
+        `ways` lead. It is to be taken modulo the number of candidates."""
         if self.adapters[target]:
             return self.taken[target, number % self.adapters[target]][switch]
-        return 0 if self.are_counted else self.first_choice(switch, target, 0)
+        return 0 if self.are_counted else self.first_choice(ways, switch, target, 0)
 
 
 def tables(
@@ -216,7 +223,7 @@ def tables(
             if switch == home:
                 found[switch][lid] = port
             elif ways:
-                found[switch][lid] = ways[choices.of(numbers[lid], switch, home) % len(ways)][0]
+                found[switch][lid] = ways[choices.of(ways, numbers[lid], switch, home) % len(ways)][0]
             else:
                 found[switch][lid] = spread_rule.NO_WAY
     return found

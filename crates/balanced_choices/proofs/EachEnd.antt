@@ -9,6 +9,7 @@ use Rattle.spread_labels.specs.Labels.{candidates}
 use Rattle.spread_labels.specs.MarkSets.{AreCandidateSets, picked, sets_at}
 use Rattle.spread_labels.specs.Orders.{numbers_from}
 use Rattle.spread_labels.proofs.Numbers.{made_all, made_at, numbers_long}
+use Rattle.balanced_choices.specs.declared.level_digit.LevelDigit.{LevelDigit}
 use Rattle.balanced_choices.specs.declared.choice_rounds.Destination.{Destination}
 use Rattle.balanced_choices.specs.BalancedChoices.{Balance, ends_of, towards, with_all, with_ends, near_first}
 
@@ -46,14 +47,14 @@ ends_of_part n ds first count =
     omega (arith, both, most)
 
 -- the choices for the ends of some destinations and then of others
-pub all_both : (round : ℕ) (graph : List (List Edge)) (sent weights : List ℕ) (old : Balance) (n : ℕ) (ds es : List Destination)
-    → with_all round graph sent weights old n (ds ++ es)
-    ≡ with_all round graph sent weights (with_all round graph sent weights old n ds) (ends_of n ds) es
-all_both round graph sent weights old n [] es = refl
-all_both round graph sent weights old n (d ∷ ds) es =
+pub all_both : (round : ℕ) (graph : List (List Edge)) (sent : List ℕ) (digits : List LevelDigit) (old : Balance) (n : ℕ) (ds es : List Destination)
+    → with_all round graph sent digits old n (ds ++ es)
+    ≡ with_all round graph sent digits (with_all round graph sent digits old n ds) (ends_of n ds) es
+all_both round graph sent digits old n [] es = refl
+all_both round graph sent digits old n (d ∷ ds) es =
     let ways = towards graph d.position in
-    all_both round graph sent weights
-    (with_ends round ways sent weights (near_first ways) d.number n old (numbers_from n d.ends)) (n + d.ends) ds es
+    all_both round graph sent digits
+    (with_ends round ways sent digits (near_first ways) d.number n old (numbers_from n d.ends)) (n + d.ends) ds es
 
 -- the edges whose sets have a target are the candidates towards it
 pub ways_are : (graph : List (List Edge)) (targets : List ℕ) (sets : List (List TargetSet)) (k t : ℕ) → AreCandidateSets graph targets sets

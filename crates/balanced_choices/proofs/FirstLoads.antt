@@ -6,17 +6,18 @@ use Rattle.std.proofs.lemmas.Option.{slice_get_read}
 use Rattle.std.proofs.Math.Nat.{mod-lt}
 use Rattle.std.specs.Prelude.{Some, slice_get, slice_set}
 use Rattle.port_graph.specs.declared.edge.Edge.{Edge}
+use Rattle.balanced_choices.specs.declared.level_digit.LevelDigit.{LevelDigit}
 use Rattle.balanced_choices.specs.declared.choice_rounds.Destination.{Destination}
 use Rattle.balanced_choices.specs.BalancedChoices.{digits_from, in_turn, towards}
 use Rattle.balanced_choices.specs.Loads.{Passing, first_edge, loads_with, loads_with_all, passed_to}
 
 -- the loads with the packets to some destinations and then to others
-pub with_both : (graph : List (List Edge)) (sent weights loads : List ℕ) (ds es : List Destination)
-    → loads_with_all graph sent weights loads (ds ++ es)
-    ≡ loads_with_all graph sent weights (loads_with_all graph sent weights loads ds) es
-with_both graph sent weights loads [] es = refl
-with_both graph sent weights loads (d ∷ ds) es =
-    with_both graph sent weights (loads_with (towards graph d.position) sent weights loads d) ds es
+pub with_both : (graph : List (List Edge)) (sent : List ℕ) (digits : List LevelDigit) (loads : List ℕ) (ds es : List Destination)
+    → loads_with_all graph sent digits loads (ds ++ es)
+    ≡ loads_with_all graph sent digits (loads_with_all graph sent digits loads ds) es
+with_both graph sent digits loads [] es = refl
+with_both graph sent digits loads (d ∷ ds) es =
+    with_both graph sent digits (loads_with (towards graph d.position) sent digits loads d) ds es
 
 -- without candidates nothing is passed on
 pub none_passed : (weight p number : ℕ) (old : Passing) (ks : List ℕ) → passed_to [] weight p number old ks ≡ old

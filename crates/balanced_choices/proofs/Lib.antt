@@ -7,4 +7,5 @@ pub mod FirstLeast
 pub mod FirstLoads
 pub mod InOrder
 pub mod LeastPeak
+pub mod LightestRound
 pub mod NoPackets

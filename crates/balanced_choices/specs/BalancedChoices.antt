@@ -1,7 +1,8 @@
 -- Choices among candidates that balance the loads of channels. Packets go to ends (adapters), each of which is at a
 -- position. For each end, each position chooses one of its candidates.
-use Rattle.std.specs.Prelude.{ℕ, zero, suc, ◌+◌, ◌*◌, ◌%◌, Bool, not, List, [], ◌-◌, ◌/◌, ◌^◌, min, nat_le, if◌then◌else◌}
+use Rattle.std.specs.Prelude.{ℕ, zero, suc, ◌+◌, ◌*◌, ◌%◌, Bool, not, List, [], ◌-◌, ◌/◌, ◌^◌, min, nat_le, nat_lt, if◌then◌else◌}
 use Rattle.std.specs.Prelude.{◌∷◌, ◌++◌, filter, length, map, replicate, reverse, slice_index, slice_index_or, slice_set}
+use Rattle.std.specs.List.{list_any}
 use Rattle.port_graph.specs.declared.edge.Edge.{Edge}
 use Rattle.port_graph.specs.Heads.{edges_at}
 use Rattle.spread_labels.specs.Level.{greatest}
@@ -9,6 +10,7 @@ use Rattle.spread_labels.specs.Labels.{candidates, leads_up}
 use Rattle.spread_labels.specs.Orders.{numbers_from}
 use Rattle.balanced_choices.specs.declared.ways.Change.TheVariants.{Add, Remove}
 use Rattle.balanced_choices.specs.declared.choice_rounds.Destination.{Destination}
+use Rattle.balanced_choices.specs.declared.level_digit.LevelDigit.{LevelDigit}
 use Rattle.balanced_choices.specs.Ways.{candidates_at, lightest, way_from, with_changes}
 
 -- for one end, the number of the candidate that each position chooses; and, for all ends together, the loads of
@@ -55,18 +57,31 @@ abbrev pub digits_from : ℕ → ℕ → ℕ
 digits_from zero n = n
 digits_from (suc w) n = n / suc w
 
+-- the level and the digit weight of position `p`; level 0 and weight 1 if there is no such position
+abbrev pub digit_at : List LevelDigit → ℕ → LevelDigit
+digit_at digits p = slice_index_or digits p (record { level = 0; weight = 1 })
+
+-- whether any of `edges`, the candidates of position `p`, leads to a position of a higher level
+abbrev pub leads_higher : List LevelDigit → List Edge → ℕ → Bool
+leads_higher digits edges p = list_any (λ e. nat_lt (digit_at digits p).level (digit_at digits e.to).level) edges
+
+-- the weight of the digit by which position `p` takes first choices among `edges`: its digit weight if any of them leads
+-- to a higher level; otherwise 1, so that the whole number counts
+abbrev pub weight_among : List LevelDigit → List Edge → ℕ → ℕ
+weight_among digits edges p = if leads_higher digits edges p then (digit_at digits p).weight else 1
+
 -- the number of the candidate that is the first choice of position `p` towards the end with the number `number`. It is
--- `number` divided by `weights[p]`, rounded down, plus `p`, modulo the number of candidates; 0 if there are no
--- candidates
-abbrev pub first_choice : List (List Edge) → List ℕ → ℕ → ℕ → ℕ
-first_choice ways weights number p =
-    in_turn (length (candidates_at ways p)) (digits_from (slice_index weights p) number + p)
+-- `number` divided by the weight of the digit (`weight_among`), rounded down, plus `p`, modulo the number of candidates;
+-- 0 if there are no candidates
+abbrev pub first_choice : List (List Edge) → List LevelDigit → ℕ → ℕ → ℕ
+first_choice ways digits number p =
+    in_turn (length (candidates_at ways p)) (digits_from (weight_among digits (edges_at ways p) p) number + p)
 
 -- the first choices of the positions of `order` towards the end with the number `number`; and the loads, with the
 -- packets to that end added
-abbrev pub first_choices : List (List Edge) → List ℕ → List ℕ → List ℕ → ℕ → Chosen → Chosen
-first_choices ways sent weights order number old =
-    choose_each (λ now p. first_choice ways weights number p) ways sent old order
+abbrev pub first_choices : List (List Edge) → List ℕ → List LevelDigit → List ℕ → ℕ → Chosen → Chosen
+first_choices ways sent digits order number old =
+    choose_each (λ now p. first_choice ways digits number p) ways sent old order
 
 -- `loads` without the packets that the positions of a list send by the given choices
 abbrev pub without_packets : List (List Edge) → List ℕ → List ℕ → List ℕ → List ℕ → List ℕ
@@ -87,9 +102,9 @@ new_choices ways sent order old =
 
 -- the choices for the end with the number `number` in a round: first choices in round 0, and new choices in later
 -- rounds
-abbrev pub choices_in : ℕ → List (List Edge) → List ℕ → List ℕ → List ℕ → ℕ → Chosen → Chosen
-choices_in zero ways sent weights order number old = first_choices ways sent weights order number old
-choices_in (suc round) ways sent weights order number old = new_choices ways sent order old
+abbrev pub choices_in : ℕ → List (List Edge) → List ℕ → List LevelDigit → List ℕ → ℕ → Chosen → Chosen
+choices_in zero ways sent digits order number old = first_choices ways sent digits order number old
+choices_in (suc round) ways sent digits order number old = new_choices ways sent order old
 
 -- for each end, the number of the candidate that each position chooses; and the loads of channels
 pub record Balance : Type 0 where
@@ -98,18 +113,18 @@ pub record Balance : Type 0 where
 
 -- the balance after choices for `end` are made in a round. `first` is the first end at the position of `end`, and has
 -- the number `number`
-abbrev pub with_end : ℕ → List (List Edge) → List ℕ → List ℕ → List ℕ → ℕ → ℕ → Balance → ℕ → Balance
-with_end round ways sent weights order number first old end =
+abbrev pub with_end : ℕ → List (List Edge) → List ℕ → List LevelDigit → List ℕ → ℕ → ℕ → Balance → ℕ → Balance
+with_end round ways sent digits order number first old end =
     let before : Chosen = record { choices = slice_index_or old.choices end []; loads = old.loads } in
-    let own = choices_in round ways sent weights order (number + (end - first)) before in
+    let own = choices_in round ways sent digits order (number + (end - first)) before in
     record { choices = slice_set old.choices end own.choices; loads = own.loads }
 
 -- the balance after choices for each end of a list are made in a round. All these ends are at one position; `first` is
 -- the first end there, and has the number `number`
-abbrev pub with_ends : ℕ → List (List Edge) → List ℕ → List ℕ → List ℕ → ℕ → ℕ → Balance → List ℕ → Balance
-with_ends round ways sent weights order number first old [] = old
-with_ends round ways sent weights order number first old (end ∷ ends) =
-    with_ends round ways sent weights order number first (with_end round ways sent weights order number first old end) ends
+abbrev pub with_ends : ℕ → List (List Edge) → List ℕ → List LevelDigit → List ℕ → ℕ → ℕ → Balance → List ℕ → Balance
+with_ends round ways sent digits order number first old [] = old
+with_ends round ways sent digits order number first old (end ∷ ends) =
+    with_ends round ways sent digits order number first (with_end round ways sent digits order number first old end) ends
 
 -- the candidates of each position towards position `t`
 abbrev pub towards : List (List Edge) → ℕ → List (List Edge)
@@ -117,12 +132,12 @@ towards graph t = map (candidates graph t) (numbers_from 0 (length graph))
 
 -- the balance after choices for all ends of the destinations are made in a round. The first of these ends has the index
 -- `end`
-abbrev pub with_all : ℕ → List (List Edge) → List ℕ → List ℕ → Balance → ℕ → List Destination → Balance
-with_all round graph sent weights old end [] = old
-with_all round graph sent weights old end (d ∷ ds) =
+abbrev pub with_all : ℕ → List (List Edge) → List ℕ → List LevelDigit → Balance → ℕ → List Destination → Balance
+with_all round graph sent digits old end [] = old
+with_all round graph sent digits old end (d ∷ ds) =
     let ways = towards graph d.position in
-    with_all round graph sent weights
-    (with_ends round ways sent weights (near_first ways) d.number end old (numbers_from end d.ends))
+    with_all round graph sent digits
+    (with_ends round ways sent digits (near_first ways) d.number end old (numbers_from end d.ends))
     (end + d.ends) ds
 
 -- `n` plus the number of ends of all destinations
@@ -157,18 +172,34 @@ at_first graph destinations =
       loads = replicate (256 * length graph) 0;
     }
 
--- the balance after the given round. A round after the first changes nothing if the loads of `old` are even
-abbrev pub with_round : ℕ → List (List Edge) → List ℕ → List ℕ → List Destination → Balance → Balance
-with_round zero graph sent weights destinations old = with_all zero graph sent weights old 0 destinations
-with_round (suc round) graph sent weights destinations old =
-    if are_even graph old.loads then old else with_all (suc round) graph sent weights old 0 destinations
+-- the balances after the rounds that are made of at most `most` rounds, the first of which has the number `round`. `old`
+-- is the balance before them. Each round begins from the balance of the round before it; once loads are even, no more
+-- rounds are made
+abbrev pub later_rounds :
+    ℕ → ℕ → List (List Edge) → List ℕ → List LevelDigit → List Destination → Balance → List Balance
+later_rounds zero round graph sent digits destinations old = []
+later_rounds (suc most) round graph sent digits destinations old =
+    if are_even graph old.loads then []
+    else (
+    let new = with_all round graph sent digits old 0 destinations in
+    new ∷ later_rounds most (suc round) graph sent digits destinations new
+    )
 
--- the balance after the given number of rounds
-abbrev pub after_rounds : ℕ → List (List Edge) → List ℕ → List ℕ → List Destination → Balance
-after_rounds zero graph sent weights destinations = at_first graph destinations
-after_rounds (suc round) graph sent weights destinations =
-    with_round round graph sent weights destinations (after_rounds round graph sent weights destinations)
+-- the choices of the lightest balance: of the choices `best`, by which the greatest load is `least`, and those of some
+-- balances, the first by which the greatest load is least
+abbrev pub lightest_choices : List (List ℕ) → ℕ → List Balance → List (List ℕ)
+lightest_choices best least [] = best
+lightest_choices best least (b ∷ bs) =
+    if nat_lt (greatest 0 b.loads) least then lightest_choices b.choices (greatest 0 b.loads) bs
+    else lightest_choices best least bs
 
--- the balanced choices for each end: first choices, and then new choices while loads are not even, at most twice
-unfoldable pub balanced_choices : List (List Edge) → List ℕ → List ℕ → List Destination → List (List ℕ)
-balanced_choices graph sent weights destinations = (after_rounds 3 graph sent weights destinations).choices
+-- the balance after first choices
+abbrev pub after_first : List (List Edge) → List ℕ → List LevelDigit → List Destination → Balance
+after_first graph sent digits destinations = with_all 0 graph sent digits (at_first graph destinations) 0 destinations
+
+-- the balanced choices for each end: those of the first choices and of at most two rounds of new choices, made while
+-- loads are not even, by which the greatest load is least; of equals, the first
+unfoldable pub balanced_choices : List (List Edge) → List ℕ → List LevelDigit → List Destination → List (List ℕ)
+balanced_choices graph sent digits destinations =
+    let first = after_first graph sent digits destinations in
+    lightest_choices first.choices (greatest 0 first.loads) (later_rounds 2 1 graph sent digits destinations first)

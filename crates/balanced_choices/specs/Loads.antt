@@ -7,9 +7,10 @@ use Rattle.port_graph.specs.declared.edge.Edge.{Edge}
 use Rattle.port_graph.specs.Heads.{edges_at}
 use Rattle.spread_labels.specs.Orders.{numbers_from}
 use Rattle.balanced_choices.specs.declared.choice_rounds.Destination.{Destination}
+use Rattle.balanced_choices.specs.declared.level_digit.LevelDigit.{LevelDigit}
 use Rattle.balanced_choices.specs.declared.ways.Change.TheVariants.{Add}
 use Rattle.balanced_choices.specs.Ways.{channel_by, with_changes}
-use Rattle.balanced_choices.specs.BalancedChoices.{digits_from, in_turn, near_first, towards}
+use Rattle.balanced_choices.specs.BalancedChoices.{digits_from, in_turn, near_first, towards, weight_among}
 
 -- packets on their way to the ends of a destination: for each end, how many packets have reached each position so far,
 -- including its own; and the loads of channels
@@ -44,26 +45,26 @@ passed_to edges weight p number old (k ∷ ks) =
 
 -- the packets after the positions of a list, one after another, have passed on those that they had for the first `ends`
 -- ends (`had_at`)
-abbrev pub passed_on : List (List Edge) → List ℕ → ℕ → ℕ → Passing → List ℕ → Passing
-passed_on ways weights number ends old [] = old
-passed_on ways weights number ends old (p ∷ ps) =
-    passed_on ways weights number ends
-    (passed_to (edges_at ways p) (slice_index weights p) p number old (numbers_from 0 ends)) ps
+abbrev pub passed_on : List (List Edge) → List LevelDigit → ℕ → ℕ → Passing → List ℕ → Passing
+passed_on ways digits number ends old [] = old
+passed_on ways digits number ends old (p ∷ ps) =
+    passed_on ways digits number ends
+    (passed_to (edges_at ways p) (weight_among digits (edges_at ways p) p) p number old (numbers_from 0 ends)) ps
 
 -- the loads, with the packets to the ends of the destination `d` added. Each position passes on packets before the
 -- positions that its candidates lead to do
-abbrev pub loads_with : List (List Edge) → List ℕ → List ℕ → List ℕ → Destination → List ℕ
-loads_with ways sent weights loads d =
-    (passed_on ways weights d.number d.ends (record { had = replicate d.ends sent; loads = loads })
+abbrev pub loads_with : List (List Edge) → List ℕ → List LevelDigit → List ℕ → Destination → List ℕ
+loads_with ways sent digits loads d =
+    (passed_on ways digits d.number d.ends (record { had = replicate d.ends sent; loads = loads })
     (reverse (near_first ways))).loads
 
 -- the loads with the packets to all ends of the destinations added
-abbrev pub loads_with_all : List (List Edge) → List ℕ → List ℕ → List ℕ → List Destination → List ℕ
-loads_with_all graph sent weights loads [] = loads
-loads_with_all graph sent weights loads (d ∷ ds) =
-    loads_with_all graph sent weights (loads_with (towards graph d.position) sent weights loads d) ds
+abbrev pub loads_with_all : List (List Edge) → List ℕ → List LevelDigit → List ℕ → List Destination → List ℕ
+loads_with_all graph sent digits loads [] = loads
+loads_with_all graph sent digits loads (d ∷ ds) =
+    loads_with_all graph sent digits (loads_with (towards graph d.position) sent digits loads d) ds
 
 -- the loads of channels if all packets to all ends take first choices
-unfoldable pub first_loads : List (List Edge) → List ℕ → List ℕ → List Destination → List ℕ
-first_loads graph sent weights destinations =
-    loads_with_all graph sent weights (replicate (256 * length graph) 0) destinations
+unfoldable pub first_loads : List (List Edge) → List ℕ → List LevelDigit → List Destination → List ℕ
+first_loads graph sent digits destinations =
+    loads_with_all graph sent digits (replicate (256 * length graph) 0) destinations

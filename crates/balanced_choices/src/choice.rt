@@ -4,10 +4,11 @@ ghost use Rattle.spread_labels.specs.Orders.{numbers_from};
 ghost use Rattle.balanced_choices.specs.declared.ways.Change.TheVariants.{Add};
 ghost use Rattle.balanced_choices.specs.EdgesTaken.{way_by, without_by};
 ghost use Rattle.balanced_choices.specs.Ways.{lightest, with_changes};
-ghost use Rattle.balanced_choices.specs.BalancedChoices.{choices_in, choose_each, digits_from, first_choice};
+ghost use Rattle.balanced_choices.specs.BalancedChoices.{choices_in, choose_each, first_choice};
 ghost use Rattle.balanced_choices.specs.BalancedChoices.{first_choices, in_turn, near_first, with_choice};
 
 use crate::edges_taken::edge_taken;
+use crate::level_digit::{digits_from, weight_among};
 use crate::loads::PORTS;
 use crate::target_ways::TargetWays;
 use crate::ways::{Change, change_way, lightest};
@@ -42,7 +43,7 @@ impl<'a> Choosing<'a> {
     pub(crate) fn choose(&mut self, round: usize, number: usize)
         requires { number + length self.old.ways.edges < 2 ^ 64 }
         ensures ways { self.new.ways ≡ self.old.ways }
-        ensures chosen { choices_in round self.old.ways.edges self.old.ways.sent self.old.ways.weights
+        ensures chosen { choices_in round self.old.ways.edges self.old.ways.sent self.old.ways.digits
             (near_first self.old.ways.edges) number self.old.chosen ≡ self.new.chosen }
     {
         if round == 0 {
@@ -59,7 +60,7 @@ impl<'a> Choosing<'a> {
     fn choose_in_turn(&mut self, number: usize)
         requires { number + length self.old.ways.edges < 2 ^ 64 }
         ensures ways { self.new.ways ≡ self.old.ways }
-        ensures chosen { first_choices self.old.ways.edges self.old.ways.sent self.old.ways.weights
+        ensures chosen { first_choices self.old.ways.edges self.old.ways.sent self.old.ways.digits
             (near_first self.old.ways.edges) number self.old.chosen ≡ self.new.chosen }
     {
         let ways = self.ways;
@@ -105,19 +106,13 @@ impl<'a> Choosing<'a> {
 fn first_choice(ways: &TargetWays, number: usize, position: usize) -> u8
     requires position { position < length ways.now.edges }
     requires number { number + length ways.now.edges < 2 ^ 64 }
-    ensures { result ≡ first_choice ways.now.edges ways.now.weights number position }
+    ensures { result ≡ first_choice ways.now.edges ways.now.digits number position }
 {
-    let count = ways.ways.at(position).len().min(PORTS);
-    let digits = digits_from(ways.weights[position], number);
+    let edges = ways.ways.at(position);
+    let count = edges.len().min(PORTS);
+    let weight = weight_among(ways.digits, edges, position);
+    let digits = digits_from(weight, number);
     in_turn(count, digits + position)
-}
-
-/// Returns `number` without the digits below the digit whose weight is `weight`, or `number` itself if `weight` is 0.
-fn digits_from(weight: usize, number: usize) -> usize
-    ensures digits { result ≡ digits_from weight number }
-    ensures less { result ≤ number }
-{
-    if weight == 0 { number } else { number / weight }
 }
 
 /// Returns `number` modulo `count`, or 0 if `count` is 0. `count` must be at most 256.

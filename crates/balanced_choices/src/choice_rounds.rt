@@ -2,17 +2,19 @@
 ghost use Rattle.std.specs.Prelude.{◌≡◌, ◌<◌, ◌≤◌, ◌+◌, ◌*◌, ◌++◌, All, IfOk, OnOk, length, map, replicate};
 ghost use Rattle.port_graph.specs.Heads.{LeadToVertices};
 ghost use Rattle.spread_labels.specs.Orders.{numbers_from};
-ghost use Rattle.balanced_choices.specs.BalancedChoices.{at_first, balanced_choices, ends_of, near_first, with_all};
-ghost use Rattle.balanced_choices.specs.BalancedChoices.{with_ends, with_round};
+ghost use Rattle.spread_labels.specs.Level.{greatest};
+ghost use Rattle.balanced_choices.specs.BalancedChoices.{are_even, at_first, balanced_choices, ends_of, later_rounds};
+ghost use Rattle.balanced_choices.specs.BalancedChoices.{lightest_choices, near_first, with_all, with_ends};
 
 use crate::choice::Choosing;
 use crate::edges_taken::edges_taken;
 use crate::evenness::are_even;
+use crate::level_digit::LevelDigit;
 use crate::loads::no_loads;
 use crate::target_ways::TargetWays;
 use crate::traffic::Traffic;
 use port_graph::Adjacency;
-use spread_labels::{CandidateSets, TARGETS};
+use spread_labels::{CandidateSets, TARGETS, greatest_of};
 use std::alloc::{AllocError, Global};
 use std::marker::Model;
 use std::mem;
@@ -33,36 +35,35 @@ pub struct Destination {
 }
 
 /// Returns, for each end of each of `destinations` in order, the number of the candidate that each position takes.
-/// Position p sends `sent[p]` packets to each end. `sent` and `weights` must have an entry for each position, and
-/// destinations must be at positions. For its first choice, it uses the end's number without the digits below the digit
-/// of weight `weights[p]`. The candidates of a position are numbered from 0, in the order of its edges. A position that
-/// has no candidates gets 0. Makes at most three rounds. Each round finds the candidates towards 64 destinations at a
-/// time. From the second round on, a round walks, for each end, the ways of all candidates of each position. Keeps a
-/// byte for each end and position.
+/// Position p sends `sent[p]` packets to each end. `sent` and `digits` must have an entry for each position, and
+/// destinations must be at positions. First choices go by the end's number. Where a candidate leads to a higher level,
+/// the digits below the digit of the position's weight do not count. The candidates of a position are numbered from 0,
+/// in the order of its edges. A position that has no candidates gets 0. Makes at most three rounds, and returns the
+/// choices of the round by which the greatest load is least. Each round finds the candidates towards 64 destinations at
+/// a time. From the second round on, a round walks, for each end, the ways of all candidates of each position. Keeps a
+/// byte for each end and position, and another from the second round on.
 pub fn balanced_choices(
     alloc: Global,
     graph: &Adjacency,
     sent: &[usize],
-    weights: &[usize],
+    digits: &[LevelDigit],
     destinations: &[Destination],
 ) -> Result<Vec<Vec<u8>>, AllocError>
     requires lead { LeadToVertices graph.now }
     requires sent { length sent.now ≡ length graph.now }
-    requires weights { length weights.now ≡ length graph.now }
+    requires digits { length digits.now ≡ length graph.now }
     requires destinations { All (λ d. d.position < length graph.now) destinations.now }
     ensures { IfOk result (λ choices. map (λ own. own.items) choices.items
-        ≡ balanced_choices graph.now sent.now weights.now destinations.now) }
+        ≡ balanced_choices graph.now sent.now digits.now destinations.now) }
 {
     let traffic = Traffic {
         graph,
         sent,
-        weights,
+        digits,
     };
     let mut balance = Balance::at_first(alloc, graph, destinations)?;
-    for round in 0..ROUNDS {
-        balance.make_round(alloc, round, &traffic, destinations)?;
-    }
-    Ok(balance.choices)
+    balance.choose_all(alloc, 0, &traffic, destinations)?;
+    balance.lightest_choices(alloc, &traffic, destinations)
 }
 
 /// For each end, the number of the candidate that each position takes; and the loads of channels.
@@ -97,30 +98,44 @@ impl Balance {
         Ok(Balance { choices, loads })
     }
 
-    /// Makes the choices of `round` for all ends of `destinations`. Makes no choices if `round` is not 0 and the loads
-    /// are even. Destinations must be at positions. There must be choices for each of their ends, and 256 loads for
-    /// each position.
-    fn make_round(
-        &mut self,
+    /// Makes new choices for all ends of `destinations`, at most twice, while loads are not even. Returns the choices by
+    /// which the greatest load is least: those of `self`, or those of a later round. Of equals, returns the first. The
+    /// preconditions are those of `choose_all`.
+    fn lightest_choices(
+        mut self,
         alloc: Global,
-        round: usize,
         traffic: &Traffic,
         destinations: &[Destination],
-    ) -> Result<(), AllocError>
+    ) -> Result<Vec<Vec<u8>>, AllocError>
         requires destinations { All (λ d. d.position < length traffic.now.edges) destinations.now }
-        requires ends { length self.old.choices ≡ ends_of 0 destinations.now }
-        requires loads { length self.old.loads ≡ 256 * length traffic.now.edges }
-        ensures { OnOk result (with_round round traffic.now.edges traffic.now.sent traffic.now.weights destinations.now
-            self.old ≡ self.new) }
+        requires ends { length self.choices ≡ ends_of 0 destinations.now }
+        requires loads { length self.loads ≡ 256 * length traffic.now.edges }
+        ensures { IfOk result (λ choices. map (λ own. own.items) choices.items
+            ≡ lightest_choices self.choices (greatest 0 self.loads) (later_rounds 2 1 traffic.now.edges
+            traffic.now.sent traffic.now.digits destinations.now self)) }
     {
-        if round > 0 && are_even(traffic.graph, &self.loads) {
-            return Ok(());
+        let mut least = self.greatest_load();
+        let mut best = None;
+        for round in 1..ROUNDS {
+            if self.is_even(traffic.graph) {
+                break;
+            }
+            if best.is_none() {
+                best = Some(self.copy_choices(alloc)?);
+            }
+            self.choose_all(alloc, round, traffic, destinations)?;
+            let load = self.greatest_load();
+            if load < least {
+                least = load;
+                best = None;
+            }
         }
-        self.choose_all(alloc, round, traffic, destinations)
+        Ok(best.unwrap_or(self.choices))
     }
 
     /// Makes the choices of `round` for all ends of `destinations`. Finds the candidates towards 64 destinations at a
-    /// time. The preconditions are those of `make_round`.
+    /// time. Destinations must be at positions. There must be choices for each of their ends, and 256 loads for each
+    /// position.
     fn choose_all(
         &mut self,
         alloc: Global,
@@ -131,7 +146,7 @@ impl Balance {
         requires destinations { All (λ d. d.position < length traffic.now.edges) destinations.now }
         requires ends { length self.old.choices ≡ ends_of 0 destinations.now }
         requires loads { length self.old.loads ≡ 256 * length traffic.now.edges }
-        ensures { OnOk result (with_all round traffic.now.edges traffic.now.sent traffic.now.weights self.old 0
+        ensures { OnOk result (with_all round traffic.now.edges traffic.now.sent traffic.now.digits self.old 0
             destinations.now ≡ self.new) }
     {
         let mut first = 0;
@@ -142,6 +157,31 @@ impl Balance {
             first = last;
         }
         Ok(())
+    }
+
+    /// Returns whether the loads of the channels of `graph` are even.
+    fn is_even(&self, graph: &Adjacency) -> bool
+        ensures { result ≡ are_even graph.now self.now.loads }
+    {
+        are_even(graph, &self.loads)
+    }
+
+    /// Returns the load of the channel that carries most.
+    fn greatest_load(&self) -> usize
+        ensures { result ≡ greatest 0 self.now.loads }
+    {
+        greatest_of(&self.loads)
+    }
+
+    /// Returns a copy of the choices.
+    fn copy_choices(&self, alloc: Global) -> Result<Vec<Vec<u8>>, AllocError>
+        ensures { IfOk result (λ choices. map (λ own. own.items) choices.items ≡ self.now.choices) }
+    {
+        let mut choices = Vec::with_capacity(alloc, self.choices.len())?;
+        for own in &self.choices {
+            choices.push(Vec::from_slice(alloc, own)?)?;
+        }
+        Ok(choices)
     }
 
     /// Makes the choices of `round` for the ends of `destinations`. There must be at most 64 destinations. `first` is
@@ -158,7 +198,7 @@ impl Balance {
         requires destinations { All (λ d. d.position < length traffic.now.edges) destinations.now }
         requires ends { ends_of first destinations.now ≤ length self.old.choices }
         requires loads { length self.old.loads ≡ 256 * length traffic.now.edges }
-        ensures balance { OnOk result (with_all round traffic.now.edges traffic.now.sent traffic.now.weights self.old
+        ensures balance { OnOk result (with_all round traffic.now.edges traffic.now.sent traffic.now.digits self.old
             first destinations.now ≡ self.new) }
         ensures next { IfOk result (λ end. end ≡ ends_of first destinations.now) }
     {
@@ -185,7 +225,7 @@ impl Balance {
     ) -> Result<usize, AllocError>
         requires ends { first + destination.now.ends ≤ length self.old.choices }
         requires loads { length self.old.loads ≡ 256 * length ways.now.edges }
-        ensures balance { OnOk result (with_ends round ways.now.edges ways.now.sent ways.now.weights
+        ensures balance { OnOk result (with_ends round ways.now.edges ways.now.sent ways.now.digits
             (near_first ways.now.edges) destination.now.number first self.old (numbers_from first destination.now.ends)
             ≡ self.new) }
         ensures next { IfOk result (λ end. end ≡ first + destination.now.ends) }

@@ -10,6 +10,7 @@ ghost use Rattle.balanced_choices.specs.Ways.{channel_by, with_changes};
 
 use crate::choice_order::near_first;
 use crate::choice_rounds::{Destination, positions_of};
+use crate::level_digit::{LevelDigit, weight_among};
 use crate::loads::{PORTS, no_loads};
 use crate::round_robin::RoundRobin;
 use crate::target_ways::ways_towards;
@@ -18,21 +19,21 @@ use spread_labels::{CandidateSets, TARGETS};
 use std::alloc::{AllocError, Global};
 
 /// Returns the load of each channel if the packets to all ends of all destinations go by first choices. Position p
-/// sends `sent[p]` packets to each end, and has the digit weight `weights[p]`. `sent` and `weights` must have an entry
-/// for each position, and destinations must be at positions. Finds the candidates towards 64 destinations at a time.
+/// sends `sent[p]` packets to each end, and has the level and the digit weight `digits[p]`. `sent` and `digits` must
+/// have an entry for each position, and destinations must be at positions. Finds the candidates towards 64 destinations at a time.
 /// For each end, takes time linear in the number of positions.
 pub fn first_loads(
     alloc: Global,
     graph: &Adjacency,
     sent: &[usize],
-    weights: &[usize],
+    digits: &[LevelDigit],
     destinations: &[Destination],
 ) -> Result<Vec<usize>, AllocError>
     requires lead { LeadToVertices graph.now }
     requires sent { length sent.now ≡ length graph.now }
-    requires weights { length weights.now ≡ length graph.now }
+    requires digits { length digits.now ≡ length graph.now }
     requires destinations { All (λ d. d.position < length graph.now) destinations.now }
-    ensures { IfOk result (λ loads. loads.items ≡ first_loads graph.now sent.now weights.now destinations.now) }
+    ensures { IfOk result (λ loads. loads.items ≡ first_loads graph.now sent.now digits.now destinations.now) }
 {
     let mut loads = no_loads(alloc, graph.len())?;
     let mut first = 0;
@@ -42,7 +43,7 @@ pub fn first_loads(
             alloc,
             graph,
             sent,
-            weights,
+            digits,
             &destinations[first..last],
             &mut loads,
         )?;
@@ -57,49 +58,49 @@ fn add_packets(
     alloc: Global,
     graph: &Adjacency,
     sent: &[usize],
-    weights: &[usize],
+    digits: &[LevelDigit],
     destinations: &[Destination],
     loads: &mut [usize],
 ) -> Result<(), AllocError>
     requires lead { LeadToVertices graph.now }
     requires sent { length sent.now ≡ length graph.now }
-    requires weights { length weights.now ≡ length graph.now }
+    requires digits { length digits.now ≡ length graph.now }
     requires few { length destinations.now ≤ 64 }
     requires destinations { All (λ d. d.position < length graph.now) destinations.now }
     requires loads { length loads.old ≡ 256 * length graph.now }
     ensures { OnOk result (loads.new
-        ≡ loads_with_all graph.now sent.now weights.now loads.old destinations.now) }
+        ≡ loads_with_all graph.now sent.now digits.now loads.old destinations.now) }
 {
     let targets = positions_of(alloc, destinations)?;
     let sets = CandidateSets::towards(alloc, graph, &targets)?;
     for (k, destination) in destinations.iter().enumerate() {
         let ways = ways_towards(alloc, graph, &sets, k)?;
-        add_packets_to(alloc, &ways, sent, weights, destination, loads)?;
+        add_packets_to(alloc, &ways, sent, digits, destination, loads)?;
     }
     Ok(())
 }
 
 /// Adds the packets to all ends of `destination`, by first choices, to the loads of channels. `ways` must have the
-/// candidates of each position towards the position of `destination`. `sent` and `weights` must have an entry for each
+/// candidates of each position towards the position of `destination`. `sent` and `digits` must have an entry for each
 /// position, and `loads` must have 256 loads for each position.
 fn add_packets_to(
     alloc: Global,
     ways: &Adjacency,
     sent: &[usize],
-    weights: &[usize],
+    digits: &[LevelDigit],
     destination: &Destination,
     loads: &mut [usize],
 ) -> Result<(), AllocError>
     requires sent { length sent.now ≡ length ways.now }
-    requires weights { length weights.now ≡ length ways.now }
+    requires digits { length digits.now ≡ length ways.now }
     requires loads { length loads.old ≡ 256 * length ways.now }
-    ensures { OnOk result (loads.new ≡ loads_with ways.now sent.now weights.now loads.old destination.now) }
+    ensures { OnOk result (loads.new ≡ loads_with ways.now sent.now digits.now loads.old destination.now) }
 {
     let order = far_first(alloc, ways)?;
     let mut had = copies(alloc, sent, destination.ends)?;
     for position in &order {
         let edges = ways.at(*position);
-        let weight = weights[*position];
+        let weight = weight_among(digits, edges, *position);
         pass_on(edges, weight, *position, destination, &mut had, loads);
     }
     Ok(())
@@ -128,7 +129,7 @@ fn copies(alloc: Global, list: &[usize], count: u16) -> Result<Vec<Vec<usize>>, 
 }
 
 /// Passes on, from `position`, the packets that `had` has for it, for each end of `destination`: its own and those that
-/// have reached it. `edges` are the candidates of `position`, and `weight` is its digit weight. Adds the packets to the
+/// have reached it. `edges` are the candidates of `position`, and `weight` is the weight of its digit. Adds the packets to the
 /// loads of channels. Does nothing if there is no candidate.
 fn pass_on(
     edges: &[Edge],

@@ -5,6 +5,7 @@ ghost use Rattle.spread_labels.specs.MarkSets.{AreRowsOf, picked, sets_at};
 ghost use Rattle.spread_labels.specs.Orders.{numbers_from};
 
 use crate::choice_order::near_first;
+use crate::level_digit::LevelDigit;
 use crate::traffic::Traffic;
 use port_graph::{Adjacency, Edge};
 use spread_labels::{CandidateSets, TargetSet};
@@ -19,8 +20,8 @@ pub(crate) struct TargetWays<'a> {
     pub(crate) order: Vec<usize>,
     /// The number of packets that each position sends to each end.
     pub(crate) sent: &'a [usize],
-    /// The digit weight of each position.
-    pub(crate) weights: &'a [usize],
+    /// The level and the digit weight of each position.
+    pub(crate) digits: &'a [LevelDigit],
 }
 
 impl<'a> Model for TargetWays<'a> {
@@ -28,9 +29,9 @@ impl<'a> Model for TargetWays<'a> {
 
     ghost Value = { Sending };
 
-    ghost view = { λ a. record { edges = a.ways; sent = a.sent.now; weights = a.weights.now } };
+    ghost view = { λ a. record { edges = a.ways; sent = a.sent.now; digits = a.digits.now } };
 
-    ghost invariant = { λ a. AreTargetWays a.ways a.order.items a.sent.now a.weights.now };
+    ghost invariant = { λ a. AreTargetWays a.ways a.order.items a.sent.now a.digits.now };
 }
 
 impl<'a> TargetWays<'a> {
@@ -47,7 +48,7 @@ impl<'a> TargetWays<'a> {
             ≡ map (λ p. picked k (sets_at sets.now p) (edges_at traffic.now.edges p))
             (numbers_from 0 (length traffic.now.edges))) }
         ensures sent { IfOk result (λ ways. ways.sent ≡ traffic.now.sent) }
-        ensures weights { IfOk result (λ ways. ways.weights ≡ traffic.now.weights) }
+        ensures digits { IfOk result (λ ways. ways.digits ≡ traffic.now.digits) }
     {
         let ways = ways_towards(alloc, traffic.graph, sets, k)?;
         let order = near_first(alloc, &ways)?;
@@ -55,7 +56,7 @@ impl<'a> TargetWays<'a> {
             ways,
             order,
             sent: traffic.sent,
-            weights: traffic.weights,
+            digits: traffic.digits,
         })
     }
 }

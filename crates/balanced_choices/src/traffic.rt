@@ -1,4 +1,5 @@
 //! What positions send.
+use crate::level_digit::LevelDigit;
 use port_graph::Adjacency;
 use std::marker::Model;
 
@@ -8,8 +9,8 @@ pub(crate) struct Traffic<'a> {
     pub(crate) graph: &'a Adjacency,
     /// The number of packets that each position sends to each end.
     pub(crate) sent: &'a [usize],
-    /// The digit weight of each position.
-    pub(crate) weights: &'a [usize],
+    /// The level and the digit weight of each position.
+    pub(crate) digits: &'a [LevelDigit],
 }
 
 impl<'a> Model for Traffic<'a> {
@@ -17,7 +18,7 @@ impl<'a> Model for Traffic<'a> {
 
     ghost Value = { Sending };
 
-    ghost view = { λ a. record { edges = a.graph.now; sent = a.sent.now; weights = a.weights.now } };
+    ghost view = { λ a. record { edges = a.graph.now; sent = a.sent.now; digits = a.digits.now } };
 
-    ghost invariant = { λ a. IsTraffic a.graph.now a.sent.now a.weights.now };
+    ghost invariant = { λ a. IsTraffic a.graph.now a.sent.now a.digits.now };
 }

@@ -18,7 +18,7 @@ use Rattle.spread_labels.proofs.PortLists.{picked_first}
 use Rattle.subnet_view.specs.GraphLaws.{IsGraph}
 use Rattle.spread_routes.specs.declared.lid_digit.LidDigit.{LidDigit}
 use Rattle.spread_routes.specs.Rule.{by_positions, order_by_keys}
-use Rattle.spread_routes.specs.Spread.{Grading, goes_higher, lid_digit_there, number_by, number_with}
+use Rattle.spread_routes.specs.Spread.{Grading, goes_higher, lid_digit_there, number_with}
 use Rattle.spread_routes.specs.Exits.{AreExits, AreTowards, ExitsValue, TowardsValue, no_lid_digit, port_chosen}
 use Rattle.spread_routes.proofs.Ports.{higher_is, lead, port_is, position_there}
 
@@ -137,8 +137,8 @@ module _ (by : Grading) (good : IsGraph by.graph) (towards : TowardsValue) (are 
       higher k few ∙ higher_is by good lid_digits p exits.lid_digit (found k) lid_digit each
       (λ e c. lead by good p e (picked_there k (sets_at towards.sets p) (edges_at edges p) e c)) in
       let q : ℕ = position_of (order_by_keys by.graph by.keys) (towards.first + k) in
-      (λ i. port_chosen (ports k few i) (number_with (choices i) (number_by (lid_digit i) (goes i) lid) lid (own i) (target k h i)))
-      ∙ port_chosen_is (found k) (number_with by.choices (number_by (lid_digit_there by p) (goes_higher by p (found k)) lid) lid p q)
+      (λ i. port_chosen (ports k few i) (number_with (choices i) (lid_digit i) (goes i) lid (own i) (target k h i)))
+      ∙ port_chosen_is (found k) (number_with by.choices (lid_digit_there by p) (goes_higher by p (found k)) lid p q)
       ∙ (λ i. option_map (λ (e : Edge). e.port)
-      (chosen (is i) (number_with by.choices (number_by (lid_digit_there by p) (goes_higher by p (is i)) lid) lid p q)))
+      (chosen (is i) (number_with by.choices (lid_digit_there by p) (goes_higher by p (is i)) lid p q)))
       ∙ port_is by good lid (towards.first + k) own_index (omega (arith, h, are.within)) there

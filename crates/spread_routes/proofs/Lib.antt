@@ -8,7 +8,8 @@ pub mod Leaving
 pub mod Turns
 pub mod PastEnds
 pub mod Balanced
-pub mod Weights
+pub mod BalancedPorts
+pub mod LevelDigits
 pub mod AdapterCounts
 pub mod Standing
 pub mod OrderLaws

@@ -22,7 +22,7 @@ use Rattle.subnet_view.specs.Routing.{Routing}
 use Rattle.spread_routes.specs.AdapterChoices.{AdapterChoices, adapter_choices}
 use Rattle.spread_routes.specs.LeafNumbers.{leaf_numbers}
 use Rattle.spread_routes.specs.Rule.{by_index, order_by_keys}
-use Rattle.spread_routes.specs.Spread.{OrdersStand, balanced_by, keys_by, lid_digit_at, number_by, number_with, spread_at, spread_by, switches_in_order}
+use Rattle.spread_routes.specs.Spread.{OrdersStand, balanced_by, keys_by, level_digit, lid_digit_at, number_with, spread_at, spread_by, switches_in_order}
 use Rattle.spread_routes.specs.SwitchOrder.{as_named, balanced_as, from_roots, key_as_named, keys_as_named, least_loaded, switches_by_keys}
 use Rattle.spread_routes.proofs.Indices.{as_many, index_of_switch}
 use Rattle.spread_routes.proofs.Names.{grows}
@@ -100,8 +100,7 @@ module _ (graph : List SwitchEdges) (levels standing : List ℕ) (choices : Opti
 
   abbrev number : ℕ → ℕ → ℕ → List Edge → ℕ
   number lid p q es =
-      number_with choices
-      (number_by (lid_digit_at graph levels (at_position standing p)) (list_any (λ e. nat_lt (level p) (level e.to)) es) lid) lid p q
+      number_with choices (lid_digit_at graph levels (at_position standing p)) (list_any (λ e. nat_lt (level p) (level e.to)) es) lid p q
 
   abbrev edge_towards : ℕ → ℕ → ℕ → Option Edge
   edge_towards lid p q = chosen (candidates edges q p) (number lid p q (candidates edges q p))
@@ -121,7 +120,7 @@ by_order_alone graph keys levels choices = refl
 -- nor do the balanced choices
 abbrev choices_in : List SwitchEdges → List ℕ → List ℕ → List ℕ → AdapterChoices
 choices_in graph levels adapters standing =
-    adapter_choices (by_position (by_index graph) standing) (map (λ i. (lid_digit_at graph levels i).digit_weight) standing)
+    adapter_choices (by_position (by_index graph) standing) (map (λ i. level_digit (lid_digit_at graph levels i)) standing)
     (map (slice_index (leaf_numbers graph adapters)) standing) (map (slice_index adapters) standing)
 
 choices_alone : (graph : List SwitchEdges) (keys : List VertexKey) (levels adapters : List ℕ)

@@ -13,7 +13,7 @@ use Rattle.subnet_view.specs.SwitchGraph.{switch_at}
 use Rattle.spread_routes.specs.declared.lid_digit.LidDigit.{LidDigit}
 use Rattle.spread_routes.specs.Rule.{by_positions, order_by_keys}
 use Rattle.spread_routes.specs.AdapterChoices.{AdapterChoices}
-use Rattle.spread_routes.specs.Spread.{Grading, number_by, number_with, lid_digit_there, spread_at}
+use Rattle.spread_routes.specs.Spread.{Grading, number_with, lid_digit_there, spread_at}
 
 -- the LID digit that is used for positions past the end
 abbrev pub no_lid_digit : LidDigit
@@ -70,8 +70,7 @@ port_turn ports choice = slice_index ports (choice % length ports)
 -- the number by which the port towards target `k` is chosen, for a LID with the number `lid`
 abbrev pub exit_number : ExitsValue → ℕ → ℕ → ℕ
 exit_number exits k lid =
-    number_with exits.choices (number_by exits.lid_digit (has exits.higher k) lid) lid exits.own
-    (slice_index exits.targets k)
+    number_with exits.choices exits.lid_digit (has exits.higher k) lid exits.own (slice_index exits.targets k)
 
 -- the port by which a packet for a LID with the number `lid` leaves towards target `k`; None if there is no port
 abbrev pub port_by : ExitsValue → ℕ → ℕ → Option ℕ

@@ -14,6 +14,7 @@ use Rattle.subnet_view.specs.SwitchEdges.{SwitchEdges}
 use Rattle.subnet_view.specs.Graph.{guids_of}
 use Rattle.subnet_view.specs.GraphLaws.{IsGraph}
 use Rattle.subnet_view.specs.Routing.{Routing, IsRouting}
+use Rattle.balanced_choices.specs.declared.level_digit.LevelDigit.{LevelDigit}
 use Rattle.trial_loads.specs.LeastLoaded.{least_loaded_keys}
 use Rattle.spread_routes.specs.declared.lid_digit.LidDigit.{LidDigit}
 use Rattle.spread_routes.specs.AdapterChoices.{AdapterChoices, adapter_choices, choice_towards}
@@ -56,16 +57,21 @@ goes_higher by p edges = list_any (λ e. nat_lt (level_there by p) (level_there 
 abbrev pub number_by : LidDigit → Bool → ℕ → ℕ
 number_by lid_digit higher lid = (if higher then lid / lid_digit.digit_weight else lid) + lid_digit.offset
 
+-- the weight of the digit by which numbers choose at a switch: if `higher`, the digit weight; otherwise 1, so that the
+-- whole number counts
+abbrev pub weight_if : LidDigit → Bool → ℕ
+weight_if lid_digit higher = if higher then lid_digit.digit_weight else 1
+
 -- the number by which a LID chooses at position `p` towards position `q`: that of `choice_towards` if loads are
--- balanced, and otherwise `number`
-abbrev pub number_with : Option AdapterChoices → ℕ → ℕ → ℕ → ℕ → ℕ
-number_with None number lid p q = number
-number_with (Some choices) number lid p q = choice_towards choices lid p q
+-- balanced, and otherwise that of `number_by`. `higher` says whether the packet can go to a higher level
+abbrev pub number_with : Option AdapterChoices → LidDigit → Bool → ℕ → ℕ → ℕ → ℕ
+number_with None lid_digit higher lid p q = number_by lid_digit higher lid
+number_with (Some choices) lid_digit higher lid p q = choice_towards choices (weight_if lid_digit higher) lid p q
 
 -- the number by which a LID chooses among `edges` at position `p` towards position `q`
 abbrev pub number_there : Grading → ℕ → ℕ → ℕ → List Edge → ℕ
 number_there by lid p q edges =
-    number_with by.choices (number_by (lid_digit_there by p) (goes_higher by p edges) lid) lid p q
+    number_with by.choices (lid_digit_there by p) (goes_higher by p edges) lid p q
 
 -- the spread rule of a grading
 abbrev pub spread_at : Grading → Routing
@@ -102,14 +108,18 @@ adapters_there graph keys adapters = map (slice_index adapters) (order_by_keys g
 abbrev pub leaf_numbers_there : List SwitchEdges → List VertexKey → List ℕ → List ℕ
 leaf_numbers_there graph keys adapters = map (slice_index (leaf_numbers graph adapters)) (order_by_keys graph keys)
 
--- the digit weight of the switch at each position, in the order that grows by `keys`
-abbrev pub weights_there : List SwitchEdges → List VertexKey → List ℕ → List ℕ
-weights_there graph keys levels = map (λ i. (lid_digit_at graph levels i).digit_weight) (order_by_keys graph keys)
+-- the level and the digit weight of a LID digit
+abbrev pub level_digit : LidDigit → LevelDigit
+level_digit lid_digit = record { level = lid_digit.level; weight = lid_digit.digit_weight }
+
+-- the level and the digit weight of the switch at each position, in the order that grows by `keys`
+abbrev pub digits_there : List SwitchEdges → List VertexKey → List ℕ → List LevelDigit
+digits_there graph keys levels = map (λ i. level_digit (lid_digit_at graph levels i)) (order_by_keys graph keys)
 
 -- the choices for adapters in the order that grows by `keys`
 abbrev pub balanced_by : List SwitchEdges → List VertexKey → List ℕ → List ℕ → AdapterChoices
 balanced_by graph keys levels adapters =
-    adapter_choices (by_positions graph keys) (weights_there graph keys levels) (leaf_numbers_there graph keys adapters)
+    adapter_choices (by_positions graph keys) (digits_there graph keys levels) (leaf_numbers_there graph keys adapters)
     (adapters_there graph keys adapters)
 
 -- the choices for adapters if loads are balanced, otherwise None

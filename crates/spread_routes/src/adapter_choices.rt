@@ -1,5 +1,5 @@
 //! Choices of candidates that balance the loads of channels.
-ghost use Rattle.std.specs.Prelude.{◌≡◌, ◌<◌, ◌≤◌, ◌-◌, ◌%◌, ◌^◌, All, IfOk, IsTrue, is_some, length, map, max, min};
+ghost use Rattle.std.specs.Prelude.{◌≡◌, ◌<◌, ◌≤◌, ◌-◌, ◌^◌, ℕ, All, IfOk, IsTrue, is_some, length, map, min};
 ghost use Rattle.std.specs.Prelude.{slice_index};
 ghost use Rattle.std.specs.Option.{option_map};
 ghost use Rattle.port_graph.specs.Heads.{LeadToVertices};
@@ -7,10 +7,9 @@ ghost use Rattle.spread_labels.specs.Orders.{numbers_from};
 ghost use Rattle.balanced_choices.specs.BalancedChoices.{in_turn};
 ghost use Rattle.spread_routes.specs.AdapterChoices.{adapter_choices, adapter_of, choice_towards, counted_if_uneven};
 ghost use Rattle.spread_routes.specs.AdapterChoices.{destinations, first_at, first_number};
-ghost use Rattle.balanced_choices.specs.RoundRobin.{IsTurn};
 
 use crate::adapters::most_adapters;
-use balanced_choices::{Destination, RoundRobin, are_even, balanced_choices, first_loads};
+use balanced_choices::{Destination, LevelDigit, are_even, balanced_choices, first_loads};
 use port_graph::Adjacency;
 use spread_labels::leaf_vertices;
 use std::alloc::{AllocError, Global};
@@ -19,8 +18,6 @@ use std::marker::Model;
 /// How routes towards adapters are chosen among candidates.
 #[derive(Drop)]
 pub(crate) struct AdapterChoices {
-    /// The digit weight of each position.
-    weights: Vec<usize>,
     /// The leaf number of each position.
     leaf_numbers: Vec<u16>,
     /// The number of adapters at each position.
@@ -45,7 +42,6 @@ impl Model for AdapterChoices {
     ghost Value = { AdapterChoicesValue };
 
     ghost view = { λ a. record {
-      weights = a.weights.items;
       leaf_numbers = a.leaf_numbers.items;
       adapters = a.adapters.items;
       counted = option_map (λ choices. map (λ own. own.items) choices.items) a.counted;
@@ -58,30 +54,29 @@ impl Model for AdapterChoices {
 
 impl AdapterChoices {
     /// Balances the loads of `edges`, a graph by positions, where each adapter sends one packet to each adapter.
-    /// `weights`, `leaf_numbers` and `adapters` must have the digit weight, the leaf number and the number of
-    /// adapters of each position, and all edges must lead to positions. Takes as long as `first_loads`. If these
+    /// `digits`, `leaf_numbers` and `adapters` must have the level and the digit weight, the leaf number and the number
+    /// of adapters of each position, and all edges must lead to positions. Takes as long as `first_loads`. If these
     /// loads are not even, it also takes as long as `balanced_choices`.
     pub(crate) fn of(
         alloc: Global,
         edges: &Adjacency,
-        weights: Vec<usize>,
+        digits: &[LevelDigit],
         leaf_numbers: Vec<u16>,
         adapters: Vec<u16>,
     ) -> Result<Self, AllocError>
         requires lead { LeadToVertices edges.now }
-        requires weights { length weights.items ≡ length edges.now }
+        requires digits { length digits.now ≡ length edges.now }
         requires leaf_numbers { length leaf_numbers.items ≡ length edges.now }
         requires adapters { length adapters.items ≡ length edges.now }
         ensures { IfOk result (λ found. found
-            ≡ adapter_choices edges.now weights.items leaf_numbers.items adapters.items) }
+            ≡ adapter_choices edges.now digits.now leaf_numbers.items adapters.items) }
     {
         let sent = sent(alloc, &adapters)?;
         let destinations = destinations(alloc, &leaf_numbers, &adapters)?;
-        let counted = counted_if_uneven(alloc, edges, &sent, &weights, &destinations)?;
+        let counted = counted_if_uneven(alloc, edges, &sent, digits, &destinations)?;
         let firsts = firsts(alloc, &adapters)?;
         let most = most_adapters(&adapters);
         Ok(AdapterChoices {
-            weights,
             leaf_numbers,
             adapters,
             most,
@@ -102,7 +97,7 @@ impl AdapterChoices {
     /// from counted loads.
     pub(crate) fn towards(&self, number: usize, own: usize, target: usize) -> usize
         requires { IsTrue (is_some self.now.counted) }
-        ensures { result ≡ choice_towards self.now number own target }
+        ensures { (weight : ℕ) → result ≡ choice_towards self.now weight number own target }
     {
         if self.count_at(target) == 0 {
             return 0;
@@ -114,18 +109,6 @@ impl AdapterChoices {
             },
             None => 0,
         }
-    }
-
-    /// Returns the turn of the end with the number 0 among `count` candidates at the position `own`, for first choices.
-    /// `count` must be from 1 to 2^63 - 1.
-    pub(crate) fn turn(&self, own: usize, count: usize) -> RoundRobin
-        requires { (0 < count) × (count < 2 ^ 63) }
-        ensures turn { IsTurn result }
-        ensures count { result.count ≡ count }
-        ensures offset { result.offset ≡ own % count }
-        ensures weight { result.weight ≡ max (slice_index self.now.weights own) 1 }
-    {
-        RoundRobin::first(self.weight_at(own), own, count)
     }
 
     /// Returns the number of the first adapter at `position`, by which first choices are made. Returns 0 if `position`
@@ -154,16 +137,6 @@ impl AdapterChoices {
     {
         match self.adapters.get(position) {
             Some(count) => usize::from(*count),
-            None => 0,
-        }
-    }
-
-    /// Returns the digit weight of `position`, or 0 if there is no such position.
-    fn weight_at(&self, position: usize) -> usize
-        ensures { result ≡ slice_index self.now.weights position }
-    {
-        match self.weights.get(position) {
-            Some(weight) => *weight,
             None => 0,
         }
     }
@@ -235,27 +208,27 @@ fn destinations(
     Ok(found)
 }
 
-/// Returns balanced choices, or `None` if the loads under first choices are even. `sent` and `weights` must have an
+/// Returns balanced choices, or `None` if the loads under first choices are even. `sent` and `digits` must have an
 /// entry for each position, destinations must be at positions, and all edges must lead to positions.
 fn counted_if_uneven(
     alloc: Global,
     edges: &Adjacency,
     sent: &[usize],
-    weights: &[usize],
+    digits: &[LevelDigit],
     destinations: &[Destination],
 ) -> Result<Option<Vec<Vec<u8>>>, AllocError>
     requires lead { LeadToVertices edges.now }
     requires sent { length sent.now ≡ length edges.now }
-    requires weights { length weights.now ≡ length edges.now }
+    requires digits { length digits.now ≡ length edges.now }
     requires destinations { All (λ d. d.position < length edges.now) destinations.now }
     ensures { IfOk result (λ counted. option_map (λ choices. map (λ own. own.items) choices.items) counted
-        ≡ counted_if_uneven edges.now sent.now weights.now destinations.now) }
+        ≡ counted_if_uneven edges.now sent.now digits.now destinations.now) }
 {
-    let loads = first_loads(alloc, edges, sent, weights, destinations)?;
+    let loads = first_loads(alloc, edges, sent, digits, destinations)?;
     if are_even(edges, &loads) {
         return Ok(None);
     }
-    let choices = balanced_choices(alloc, edges, sent, weights, destinations)?;
+    let choices = balanced_choices(alloc, edges, sent, digits, destinations)?;
     Ok(Some(choices))
 }
 

@@ -1,5 +1,5 @@
 //! The ports by which packets leave a switch towards other switches.
-ghost use Rattle.std.specs.Prelude.{◌≡◌, ◌<◌, ◌^◌, [], All, IfOk, IsTrue, None, OnOk, is_some};
+ghost use Rattle.std.specs.Prelude.{◌≡◌, ◌<◌, ◌^◌, ℕ, [], All, IfOk, IsTrue, None, OnOk, is_some};
 ghost use Rattle.std.specs.Prelude.{length, map, slice_index, slice_index_or};
 ghost use Rattle.std.specs.Prelude.{unwrap_or};
 ghost use Rattle.spread_labels.specs.TargetSet.{EachTarget};
@@ -11,6 +11,7 @@ ghost use Rattle.spread_routes.specs.Exits.{port_by, port_turn, with_entries};
 
 use crate::adapter_choices::{AdapterChoices, in_turn};
 use crate::lid_digit::LidDigit;
+use balanced_choices::RoundRobin;
 use port_graph::Edge;
 use smp_bytes::{Lid, PortNum};
 use spread_labels::{CandidateLists, TargetSet};
@@ -135,8 +136,8 @@ impl<'s> Exits<'s> {
             write_none(entries, lids, none);
             return;
         }
+        let is_higher = self.higher.has(target);
         let Some(choices) = self.choices else {
-            let is_higher = self.higher.has(target);
             write_ports(entries, lids, numbers, ports, &self.lid_digit, is_higher);
             return;
         };
@@ -144,7 +145,10 @@ impl<'s> Exits<'s> {
         if choices.are_counted() {
             write_chosen(entries, lids, numbers, ports, choices, self.own, target);
         } else {
-            write_in_turn(entries, lids, numbers, ports, choices, self.own, target);
+            let weight = self.lid_digit.weight_if(is_higher);
+            write_in_turn(
+                entries, lids, numbers, ports, choices, weight, self.own, target,
+            );
         }
     }
 
@@ -175,8 +179,8 @@ fn write_chosen(
     requires ports { 0 < length ports.now }
     requires lids { All (λ lid. lid < length entries.old) lids.now }
     requires numbers { length numbers.now ≡ length entries.old }
-    ensures { entries.new ≡ with_entries
-        (λ lid. port_turn ports.now (choice_towards choices.now (slice_index numbers.now lid) own target))
+    ensures { (weight : ℕ) → entries.new ≡ with_entries
+        (λ lid. port_turn ports.now (choice_towards choices.now weight (slice_index numbers.now lid) own target))
         entries.old lids.now }
 {
     for lid in lids {
@@ -187,14 +191,15 @@ fn write_chosen(
 }
 
 /// Writes, in the entry of each of `lids`, the one of `ports` that is the first choice for the LID's number in
-/// `numbers`, at the position `own` towards the position `target`. The choices must not have been made from counted
-/// loads, and there must be a port. `entries` and `numbers` must be equally long, and each LID must be within them.
+/// `numbers`, at the position `own` towards the position `target`. `weight` is the weight of the digit that counts. The
+/// choices must not have been made from counted loads, and there must be a port. `entries` and `numbers` must be equally long, and each LID must be within them.
 fn write_in_turn(
     entries: &mut [u8],
     lids: &[Lid],
     numbers: &[u16],
     ports: &[PortNum],
     choices: &AdapterChoices,
+    weight: usize,
     own: usize,
     target: usize,
 )
@@ -203,12 +208,12 @@ fn write_in_turn(
     requires lids { All (λ lid. lid < length entries.old) lids.now }
     requires numbers { length numbers.now ≡ length entries.old }
     ensures { entries.new ≡ with_entries
-        (λ lid. port_turn ports.now (choice_towards choices.now (slice_index numbers.now lid) own target))
+        (λ lid. port_turn ports.now (choice_towards choices.now weight (slice_index numbers.now lid) own target))
         entries.old lids.now }
 {
     let first = choices.first_number(target);
     let count = choices.count_at(target);
-    let mut turn = choices.turn(own, ports.len());
+    let mut turn = RoundRobin::first(weight, own, ports.len());
     for lid in lids {
         let lid = usize::from(lid.number());
         turn.go_to(first + in_turn(count, number_of(numbers, lid)));

@@ -5,11 +5,11 @@ ghost use Rattle.port_graph.specs.Heads.{LeadToVertices};
 ghost use Rattle.spread_labels.specs.TargetSet.{EachTarget, has};
 ghost use Rattle.spread_labels.specs.MarkSets.{picked};
 ghost use Rattle.spread_routes.specs.Rule.{by_index};
-ghost use Rattle.spread_routes.specs.Spread.{lid_digit_at};
+ghost use Rattle.spread_routes.specs.Spread.{level_digit, lid_digit_at, weight_if};
 ghost use Rattle.spread_routes.specs.Exits.{no_lid_digit};
 ghost use Rattle.balanced_choices.specs.RoundRobin.{IsTurn};
 
-use balanced_choices::RoundRobin;
+use balanced_choices::{LevelDigit, RoundRobin};
 use port_graph::{Adjacency, Edge};
 use spread_labels::{TargetSet, digit_weights};
 use std::alloc::{AllocError, Global};
@@ -38,18 +38,36 @@ impl LidDigit {
         ensures offset { result.offset ≡ self.now.offset }
         ensures weight { result.weight ≡ (if is_higher then self.now.digit_weight else 1) }
     {
-        let weight = if is_higher { self.digit_weight } else { 1 };
-        RoundRobin::at(weight, usize::from(self.offset), count, 0)
+        RoundRobin::at(
+            self.weight_if(is_higher),
+            usize::from(self.offset),
+            count,
+            0,
+        )
+    }
+
+    /// Returns the weight of the digit by which numbers choose: the digit weight if one of the ports leads to a higher
+    /// switch, which `is_higher` says, and otherwise 1.
+    pub(crate) fn weight_if(&self, is_higher: bool) -> usize
+        ensures { result ≡ weight_if self.now is_higher }
+    {
+        if is_higher { self.digit_weight } else { 1 }
     }
 }
 
-/// Returns the digit weight of each LID digit.
-pub(crate) fn weights_of(alloc: Global, lid_digits: &[LidDigit]) -> Result<Vec<usize>, AllocError>
-    ensures { IfOk result (λ weights. weights.items ≡ map (λ d. d.digit_weight) lid_digits.now) }
+/// Returns the level and the digit weight of each LID digit.
+pub(crate) fn level_digits(
+    alloc: Global,
+    lid_digits: &[LidDigit],
+) -> Result<Vec<LevelDigit>, AllocError>
+    ensures { IfOk result (λ digits. digits.items ≡ map level_digit lid_digits.now) }
 {
     lid_digits
         .iter()
-        .map(|lid_digit| lid_digit.digit_weight)
+        .map(|lid_digit| LevelDigit {
+            level: lid_digit.level,
+            weight: lid_digit.digit_weight,
+        })
         .collect(alloc)
 }
 

@@ -2,7 +2,7 @@ ghost use Rattle.std.specs.Prelude.{◌≡◌, ◌<◌, ◌+◌, All, IfOk, None
 ghost use Rattle.std.specs.Prelude.{drop, length, min};
 ghost use Rattle.spread_routes.specs.AdapterChoices.{adapter_choices};
 ghost use Rattle.spread_routes.specs.Rule.{by_positions, order_by_keys};
-ghost use Rattle.spread_routes.specs.Spread.{grading_of, weights_there};
+ghost use Rattle.spread_routes.specs.Spread.{digits_there, grading_of};
 ghost use Rattle.spread_routes.specs.SwitchOrder.{is_balanced, order_value_of};
 ghost use Rattle.spread_routes.specs.Exits.{AreExits, AreTowards};
 
@@ -10,7 +10,7 @@ use crate::SwitchOrder;
 use crate::adapter_choices::AdapterChoices;
 use crate::exits::Exits;
 use crate::leaf_order::leaf_numbers;
-use crate::lid_digit::{LidDigit, higher_targets, lid_digits, weights_of};
+use crate::lid_digit::{LidDigit, higher_targets, level_digits, lid_digits};
 use crate::switch_keys::{SwitchKeys, switch_keys};
 use port_graph::Adjacency;
 use spread_labels::{
@@ -130,11 +130,11 @@ impl<'g> Spread<'g> {
         requires adapters { length adapters.items ≡ length (by_positions self.graph self.keys) }
         ensures { IfOk result (λ spread. spread ≡ record self.entry {
           choices = Some (adapter_choices (by_positions self.entry.graph self.entry.keys)
-              (weights_there self.entry.graph self.entry.keys self.entry.levels) leaf_numbers.items adapters.items);
+              (digits_there self.entry.graph self.entry.keys self.entry.levels) leaf_numbers.items adapters.items);
         }) }
     {
-        let weights = weights_of(alloc, &self.lid_digits)?;
-        let choices = AdapterChoices::of(alloc, &self.edges, weights, leaf_numbers, adapters)?;
+        let digits = level_digits(alloc, &self.lid_digits)?;
+        let choices = AdapterChoices::of(alloc, &self.edges, &digits, leaf_numbers, adapters)?;
         Ok(Spread {
             choices: Some(choices),
             ..self

@@ -24,11 +24,11 @@ add_packets_to-requires-clause-sent c =
     let f : ℕ → List Edge = λ p. picked c.loop-k.k (sets_at c.in_ok-sets.sets p) (edges_at graph p) in
     c.requires.sent ∙ sym (ap length c.in_ok-ways.ensures ∙ numbers_long f 0 (length graph))
 
-pub add_packets_to-requires-clause-weights : goal.add_packets_to-requires-clause-weights
-add_packets_to-requires-clause-weights c =
+pub add_packets_to-requires-clause-digits : goal.add_packets_to-requires-clause-digits
+add_packets_to-requires-clause-digits c =
     let graph = c.args.graph.now in
     let f : ℕ → List Edge = λ p. picked c.loop-k.k (sets_at c.in_ok-sets.sets p) (edges_at graph p) in
-    c.requires.weights ∙ sym (ap length c.in_ok-ways.ensures ∙ numbers_long f 0 (length graph))
+    c.requires.digits ∙ sym (ap length c.in_ok-ways.ensures ∙ numbers_long f 0 (length graph))
 
 pub add_packets_to-requires-clause-loads : goal.add_packets_to-requires-clause-loads
 add_packets_to-requires-clause-loads c =
@@ -40,7 +40,7 @@ pub loop-k-preserved : goal.loop-k-preserved
 loop-k-preserved c =
     let graph = c.args.graph.now in
     let sent = c.args.sent.now in
-    let weights = c.args.weights.now in
+    let digits = c.args.digits.now in
     let ds = c.args.destinations.now in
     let k = c.loop-k.k in
     let none : Destination = record { position = 0; ends = 0; number = 0 } in
@@ -52,6 +52,6 @@ loop-k-preserved c =
     ap (λ ts. get_or ts k 0) all ∙ get_or-map (λ (x : Destination). x.position) ds k none 0 c.loop-k-test.true in
     let ways : c.in_ok-ways.ways ≡ towards graph d.position =
     c.in_ok-ways.ensures ∙ ways_are graph targets c.in_ok-sets.sets k d.position c.in_ok-sets.ensures below target in
-    ap (λ l. loads_with_all graph sent weights l (drop (k + 1) ds))
-    (c.in_ok-add_packets_to.ensures ∙ ap (λ w. loads_with w sent weights c.loop-k.loads d) ways)
-    ∙ sym (ap (loads_with_all graph sent weights c.loop-k.loads) (drop_more ds k none c.loop-k-test.true)) ∙ c.loop-k.invariant
+    ap (λ l. loads_with_all graph sent digits l (drop (k + 1) ds))
+    (c.in_ok-add_packets_to.ensures ∙ ap (λ w. loads_with w sent digits c.loop-k.loads d) ways)
+    ∙ sym (ap (loads_with_all graph sent digits c.loop-k.loads) (drop_more ds k none c.loop-k-test.true)) ∙ c.loop-k.invariant

@@ -5,5 +5,5 @@ use Rattle.balanced_choices.proofs.first_choice_loads.add_packets.Given as goal
 -- the destinations that are left add the rest
 abbrev pub invariant-loop-k : goal.invariant-loop-k
 invariant-loop-k l =
-    loads_with_all l.graph l.sent l.weights l.loads (drop l.k l.destinations)
-    ≡ loads_with_all l.graph l.sent l.weights l.fn.loads l.destinations
+    loads_with_all l.graph l.sent l.digits l.loads (drop l.k l.destinations)
+    ≡ loads_with_all l.graph l.sent l.digits l.fn.loads l.destinations

@@ -12,8 +12,8 @@ invariant-loop-position l =
     let now : Passing = record { had = map (λ own. own.items) l.had.items; loads = l.loads } in
     let before : Passing = record { had = replicate d.ends l.sent; loads = l.fn.loads } in
     record {
-      left : passed_on l.ways l.weights d.number d.ends now (drop l.position-index order)
-          ≡ passed_on l.ways l.weights d.number d.ends before order;
+      left : passed_on l.ways l.digits d.number d.ends now (drop l.position-index order)
+          ≡ passed_on l.ways l.digits d.number d.ends before order;
       rows : All (λ own. length own.items ≡ length l.ways) l.had.items;
       ends : length l.had.items ≡ d.ends;
     }

@@ -9,7 +9,7 @@ pub loop-first-preserved : goal.loop-first-preserved
 loop-first-preserved c =
     let graph = c.args.graph.now in
     let sent = c.args.sent.now in
-    let weights = c.args.weights.now in
+    let digits = c.args.digits.now in
     let ds = c.args.destinations.now in
     let first = c.loop-first.first in
     let count = c.min.result in
@@ -18,10 +18,10 @@ loop-first-preserved c =
     let new = c.add_packets.new.loads in
     let as_long : length new ≡ c.loop-first.loads.len = c.add_packets.auto.loads ∙ c.deref_mut.ensures.len in
     let held = with_items_is c.loop-first.loads new as_long in
-    let added = c.in_ok-add_packets.ensures ∙ ap (λ l. loads_with_all graph sent weights l part) c.deref_mut.ensures.value in (
-      ap (λ l. loads_with_all graph sent weights l rest) (held ∙ added)
-          ∙ sym (with_both graph sent weights c.loop-first.loads.items part rest)
-          ∙ ap (loads_with_all graph sent weights c.loop-first.loads.items) (part_and_rest ds first count) ∙ c.loop-first.invariant.0,
+    let added = c.in_ok-add_packets.ensures ∙ ap (λ l. loads_with_all graph sent digits l part) c.deref_mut.ensures.value in (
+      ap (λ l. loads_with_all graph sent digits l rest) (held ∙ added)
+          ∙ sym (with_both graph sent digits c.loop-first.loads.items part rest)
+          ∙ ap (loads_with_all graph sent digits c.loop-first.loads.items) (part_and_rest ds first count) ∙ c.loop-first.invariant.0,
       ap length held ∙ c.add_packets.auto.loads ∙ ap length c.deref_mut.ensures.value ∙ c.loop-first.invariant.1,
       omega (arith, c.min.ensures, c.loop-first-test.true),
     )
@@ -30,6 +30,6 @@ pub returns : goal.returns
 unfolding first_loads
 returns c =
     let graph = c.args.graph.now in
-    sym (ap (loads_with_all graph c.args.sent.now c.args.weights.now c.loop-first.loads.items)
+    sym (ap (loads_with_all graph c.args.sent.now c.args.digits.now c.loop-first.loads.items)
     (drop_all c.loop-first.first c.args.destinations.now c.loop-first-test.false))
     ∙ c.loop-first.invariant.0

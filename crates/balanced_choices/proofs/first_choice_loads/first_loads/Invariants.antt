@@ -5,8 +5,8 @@ use Rattle.balanced_choices.proofs.first_choice_loads.first_loads.Given as goal
 -- the destinations that are left add the rest
 abbrev pub invariant-loop-first : goal.invariant-loop-first
 invariant-loop-first l =
-    (loads_with_all l.graph l.sent l.weights l.loads.items (drop l.first l.destinations)
-    ≡ loads_with_all l.graph l.sent l.weights (replicate (256 * length l.graph) 0) l.destinations)
+    (loads_with_all l.graph l.sent l.digits l.loads.items (drop l.first l.destinations)
+    ≡ loads_with_all l.graph l.sent l.digits (replicate (256 * length l.graph) 0) l.destinations)
     × (length l.loads.items ≡ 256 * length l.graph)
     × (l.first ≤ length l.destinations)
 

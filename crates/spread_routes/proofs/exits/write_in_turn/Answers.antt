@@ -16,24 +16,25 @@ loop-lid-preserved c =
     let ports = c.args.ports.now in
     let numbers = c.args.numbers.now in
     let choices = c.args.choices.now in
+    let weight = c.args.weight in
     let own = c.args.own in
     let target = c.args.target in
     let entries = c.loop-lid.entries in
     let k = c.loop-lid.lid-index in
     let lid = c.from-lid.result in
     let so_far = c.loop-lid.invariant in
-    let towards : ℕ → ℕ = λ n. choice_towards choices n own target in
+    let towards : ℕ → ℕ = λ n. choice_towards choices weight n own target in
     let port : ℕ → ℕ = λ lid. port_turn ports (towards (get_or numbers lid 0)) in
     let lid_is : lid ≡ get_or lids k 0 =
     c.from-lid.ensures ∙ c.number.ensures ∙ c.lid-item.is ∙ get_or_default_zero lids k c.lid-item.result c.loop-lid-test.true in
     let n = c.number_of.result in
-    let first : towards n ≡ digits_from (get_or choices.weights own 0) (end_number choices n target) + own =
-    ap (λ counted. choice_with counted choices n own target) c.requires.counted in
+    let first : towards n ≡ digits_from weight (end_number choices n target) + own =
+    ap (λ counted. choice_with counted choices weight n own target) c.requires.counted in
     let end : c.first_number-first.result + c.in_turn.result ≡ end_number choices n target =
     (λ i. c.first_number-first.ensures.number i + (c.in_turn.ensures.turn ∙ ap (λ m. in_turn m n) c.count_at-count.ensures.count) i) in
     let choice : c.choice.result ≡ towards n % length ports =
     c.choice.ensures ∙ c.go_to.ensures.choice ∙ (λ i. (end i / so_far.weight i + so_far.offset i) % so_far.count i)
-    ∙ turn_of (get_or choices.weights own 0) (end_number choices n target) own (length ports)
+    ∙ turn_of weight (end_number choices n target) own (length ports)
     ∙ ap (λ d. d % length ports) (sym first) in
     let low : c.choice.result < length ports = subst (λ (x : ℕ). x < length ports) (sym choice) (mod-lt (towards n) c.requires.ports) in
     let value : c.number-in-loop-lid.result ≡ port lid =

@@ -13,7 +13,7 @@ invariant-loop-lid l =
       turn : IsTurn l.turn;
       count : l.turn.count ≡ length l.ports;
       offset : l.turn.offset ≡ l.own % length l.ports;
-      weight : l.turn.weight ≡ max (get_or l.choices.weights l.own 0) 1;
-      left : with_entries (λ lid. port_turn l.ports (choice_towards l.choices (get_or l.numbers lid 0) l.own l.target)) l.entries (drop l.lid-index l.lids)
-          ≡ with_entries (λ lid. port_turn l.ports (choice_towards l.choices (get_or l.numbers lid 0) l.own l.target)) l.fn.entries l.lids;
+      weight : l.turn.weight ≡ max l.weight 1;
+      left : with_entries (λ lid. port_turn l.ports (choice_towards l.choices l.weight (get_or l.numbers lid 0) l.own l.target)) l.entries (drop l.lid-index l.lids)
+          ≡ with_entries (λ lid. port_turn l.ports (choice_towards l.choices l.weight (get_or l.numbers lid 0) l.own l.target)) l.fn.entries l.lids;
     }

@@ -7,5 +7,5 @@ abbrev pub invariant-loop-position : goal.invariant-loop-position
 invariant-loop-position l =
     let ways = l.fn.self.ways in
     let order = near_first ways.edges in
-    let first = first_choices ways.edges ways.sent ways.weights in
+    let first = first_choices ways.edges ways.sent ways.digits in
     (first (drop l.position-index order) l.number l.self.chosen ≡ first order l.number l.fn.self.chosen) × (l.self.ways ≡ ways)

@@ -14,8 +14,8 @@ loop-first-preserved c =
     let round = c.args.round in
     let graph = c.args.traffic.now.edges in
     let sent = c.args.traffic.now.sent in
-    let weights = c.args.traffic.now.weights in
-    let with = with_all round graph sent weights in
+    let digits = c.args.traffic.now.digits in
+    let with = with_all round graph sent digits in
     let ds = c.args.destinations.now in
     let first = c.loop-first.first in
     let end = c.loop-first.end in
@@ -26,10 +26,10 @@ loop-first-preserved c =
     let both = part_and_rest ds first count in
     let became = c.in_ok-end.ensures.balance in
     let next = c.in_ok-end.ensures.next in (
-      (λ i. with (sym became i) (next i) rest) ∙ sym (all_both round graph sent weights now end part rest) ∙ ap (with now end) both
+      (λ i. with (sym became i) (next i) rest) ∙ sym (all_both round graph sent digits now end part rest) ∙ ap (with now end) both
           ∙ c.loop-first.invariant.0,
       ap (λ n. ends_of n rest) next ∙ sym (ends_both end part rest) ∙ ap (ends_of end) both ∙ c.loop-first.invariant.1,
       still_as_long c.args.self.now now c.choose_some.new.self c.loop-first.invariant.2
-          (subst (IsAsLong now) became (all_long round graph sent weights now end part)),
+          (subst (IsAsLong now) became (all_long round graph sent digits now end part)),
       omega (arith, c.min.ensures, c.loop-first-test.true),
     )

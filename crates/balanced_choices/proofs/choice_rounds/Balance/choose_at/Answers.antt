@@ -31,11 +31,11 @@ loop-k-preserved c =
     let given : old_loads ≡ c.replace-in-loop-k.result.items = sym (ap (λ w. w.items) c.replace-in-loop-k.ensures.value) in
     let turned : end - first ≡ k = omega arith in
     let ways_stay = ap (λ a. a.ways) c.choosing.view_is ∙ c.choose.ensures.ways in
-    let chosen : choices_in round ways own.sent own.weights order (d.number + (end - first)) (record { choices = slice_index_or all end []; loads = old_loads })
+    let chosen : choices_in round ways own.sent own.digits order (d.number + (end - first)) (record { choices = slice_index_or all end []; loads = old_loads })
     ≡ record { choices = new; loads = new_loads } =
-    (λ i. choices_in round ways own.sent own.weights order (d.number + turned i) (record { choices = it i; loads = given i }))
+    (λ i. choices_in round ways own.sent own.digits order (d.number + turned i) (record { choices = it i; loads = given i }))
     ∙ c.choose.ensures.chosen ∙ sym (ap (λ a. a.chosen) c.choosing.view_is) in
-    let became : with_end round ways own.sent own.weights order d.number first now end ≡ record { choices = slice_set all end new; loads = new_loads } =
+    let became : with_end round ways own.sent own.digits order d.number first now end ≡ record { choices = slice_set all end new; loads = new_loads } =
     ap (λ x. record { choices = slice_set all end x.choices; loads = x.loads }) chosen in
     let rows_are = set-set rows end c.replace.new.dest next in
     let rows_then = ap (map (λ w. w.items)) rows_are ∙ map-set (λ w. w.items) rows end next in
@@ -44,7 +44,7 @@ loop-k-preserved c =
     let further : suc end ≡ first + (k + 1) = omega arith in
     let numbers : numbers_from end (d.ends - k) ≡ end ∷ rest =
     ap (numbers_from end) left ∙ ap (λ j. end ∷ numbers_from j (d.ends - (k + 1))) further in
-    let with = with_ends round ways own.sent own.weights order d.number first in
+    let with = with_ends round ways own.sent own.digits order d.number first in
     let long = ap (λ w. length w.edges) ways_stay in (
       ap (λ xs. with (record { choices = xs; loads = new_loads }) rest) rows_then ∙ ap (λ b. with b rest) (sym became)
           ∙ sym (ap (with now) numbers) ∙ c.loop-k.invariant.0,

@@ -7,7 +7,7 @@ use Rattle.balanced_choices.proofs.choice_rounds.Balance.choose_at.Given as goal
 abbrev pub invariant-loop-k : goal.invariant-loop-k
 invariant-loop-k l =
     let d = l.destination in
-    let with = with_ends l.round l.ways.edges l.ways.sent l.ways.weights (near_first l.ways.edges) d.number l.first in
+    let with = with_ends l.round l.ways.edges l.ways.sent l.ways.digits (near_first l.ways.edges) d.number l.first in
     let now : Balance = record { choices = map (λ own. own.items) l.self-inside.choices.items; loads = l.self-inside.loads.items } in
     (with now (numbers_from (l.first + l.k) (d.ends - l.k)) ≡ with l.fn.self (numbers_from l.first d.ends))
     × (length l.self-inside.choices.items ≡ length l.fn.self.choices)

@@ -32,8 +32,8 @@ loop-k-preserved c =
     let round = c.args.round in
     let graph = c.args.traffic.now.edges in
     let sent = c.args.traffic.now.sent in
-    let weights = c.args.traffic.now.weights in
-    let with = with_all round graph sent weights in
+    let digits = c.args.traffic.now.digits in
+    let with = with_all round graph sent digits in
     let ds = c.args.destinations.now in
     let k = c.loop-k.k in
     let end = c.loop-k.end in
@@ -52,13 +52,13 @@ loop-k-preserved c =
     c.in_ok-ways.ensures.edges ∙ ways_are graph targets sets k d.position are below target in
     let own = towards graph d.position in
     let ends = numbers_from end d.ends in
-    let became : with_ends round own sent weights (near_first own) d.number end now ends ≡ c.choose_at.new.self =
-    sym (λ i. with_ends round (ways i) (c.in_ok-ways.ensures.sent i) (c.in_ok-ways.ensures.weights i) (near_first (ways i)) d.number end now ends)
+    let became : with_ends round own sent digits (near_first own) d.number end now ends ≡ c.choose_at.new.self =
+    sym (λ i. with_ends round (ways i) (c.in_ok-ways.ensures.sent i) (c.in_ok-ways.ensures.digits i) (near_first (ways i)) d.number end now ends)
     ∙ c.in_ok-end.ensures.balance in
     let next = c.in_ok-end.ensures.next in
     let rest = drop (k + 1) ds in (
       (λ i. with (sym became i) (next i) rest) ∙ sym (ap (with now end) (drop_more ds k none c.loop-k-test.true)) ∙ c.loop-k.invariant.0,
       ap (λ n. ends_of n rest) next ∙ sym (ends_next end ds k none c.loop-k-test.true) ∙ c.loop-k.invariant.1,
       still_as_long c.args.self.now now c.choose_at.new.self c.loop-k.invariant.2
-          (subst (IsAsLong now) became (ends_long round own sent weights (near_first own) d.number end now ends)),
+          (subst (IsAsLong now) became (ends_long round own sent digits (near_first own) d.number end now ends)),
     )

@@ -13,5 +13,5 @@ invariant_of-result c =
     record {
       order_is = c.in_ok-order.ensures.order;
       sent_long = c.traffic.invariant.sent_long ∙ sym long;
-      weights_long = c.traffic.invariant.weights_long ∙ sym long;
+      digits_long = c.traffic.invariant.digits_long ∙ sym long;
     }

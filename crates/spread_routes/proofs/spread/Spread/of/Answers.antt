@@ -10,7 +10,7 @@ use Rattle.spread_routes.specs.Rule.{by_index, by_positions, order_by_keys}
 use Rattle.spread_routes.proofs.Indices.{there_and_back}
 use Rattle.spread_routes.proofs.Names.{all_positioned}
 use Rattle.spread_routes.proofs.Positions.{are_indices, edges_are}
-use Rattle.spread_routes.specs.Spread.{Grading, adapters_there, grading_of, keys_by, leaf_numbers_there, weights_there}
+use Rattle.spread_routes.specs.Spread.{Grading, adapters_there, digits_there, grading_of, keys_by, leaf_numbers_there}
 use Rattle.spread_routes.specs.AdapterChoices.{adapter_choices}
 use Rattle.spread_routes.specs.SwitchOrder.{order_value_of}
 use Rattle.spread_routes.proofs.KeyLists.{all_keyed, all_levelled, all_numbered}
@@ -111,7 +111,7 @@ returns-then-is_balanced c =
       graph = g.graph;
       keys = g.keys;
       levels = g.levels;
-      choices = Some (adapter_choices (by_positions g.graph g.keys) (weights_there g.graph g.keys g.levels) c.in_ok-leaf_numbers-2.leaf_numbers.items
+      choices = Some (adapter_choices (by_positions g.graph g.keys) (digits_there g.graph g.keys g.levels) c.in_ok-leaf_numbers-2.leaf_numbers.items
           c.in_ok-adapters.adapters.items);
     } in
     let all : balanced c.in_ok-spread.spread ≡ grading_of graph adapters order_value =
@@ -120,7 +120,7 @@ returns-then-is_balanced c =
       graph = graph;
       keys = keys i;
       levels = levels i;
-      choices = ((λ j. Some (adapter_choices (by_positions graph (keys j)) (weights_there graph (keys j) (levels j)) (numbers j) (there j)))
+      choices = ((λ j. Some (adapter_choices (by_positions graph (keys j)) (digits_there graph (keys j) (levels j)) (numbers j) (there j)))
           ∙ choices_if graph now (levels_of (by_index graph) (leaf_vertices adapters)) adapters order_value
           (sym c.is_balanced.ensures ∙ c.if-is_balanced.true)) i;
     }) in
