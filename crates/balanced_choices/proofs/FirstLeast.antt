@@ -6,18 +6,18 @@ use Rattle.balanced_choices.specs.Ways.{candidates_at, first_least, least_from, 
 use Rattle.balanced_choices.specs.LeastPeakLaw.{IsFirstLeast, LightestIsLeast}
 
 -- none is less than the one that was found
-record Stays (best least k : ℕ) (ns : List ℕ) : Type 0 where
-  is : least_from best least k ns ≡ best
-  most : (i : ℕ) → i < length ns → least ≤ get_or ns i 0
+pub record Stays (best least k : ℕ) (ns : List ℕ) : Type 0 where
+  pub is : least_from best least k ns ≡ best
+  pub most : (i : ℕ) → i < length ns → least ≤ get_or ns i 0
 
 -- one at index j is less, and the first that is least
-record Goes (best least k : ℕ) (ns : List ℕ) : Type 0 where
-  j : ℕ
-  is : least_from best least k ns ≡ k + j
-  less : get_or ns j 0 < least
-  found : IsFirstLeast ns j
+pub record Goes (best least k : ℕ) (ns : List ℕ) : Type 0 where
+  pub j : ℕ
+  pub is : least_from best least k ns ≡ k + j
+  pub less : get_or ns j 0 < least
+  pub found : IsFirstLeast ns j
 
-least_here : (ns : List ℕ) (n : ℕ) → ((i : ℕ) → i < length ns → n ≤ get_or ns i 0) → (i : ℕ) → i < suc (length ns) → n ≤ get_or (n ∷ ns) i 0
+pub least_here : (ns : List ℕ) (n : ℕ) → ((i : ℕ) → i < length ns → n ≤ get_or ns i 0) → (i : ℕ) → i < suc (length ns) → n ≤ get_or (n ∷ ns) i 0
 least_here ns n most zero h = omega arith
 least_here ns n most (suc i) h = most i (omega (arith, h))
 
@@ -34,7 +34,7 @@ first_later : (ns : List ℕ) (n j : ℕ) → IsFirstLeast ns j → get_or ns j 
 first_later ns n j is less zero h = less
 first_later ns n j is less (suc i) h = is.first i (omega (arith, h))
 
-one_later : (ns : List ℕ) (n j : ℕ) → IsFirstLeast ns j → get_or ns j 0 < n → IsFirstLeast (n ∷ ns) (suc j)
+pub one_later : (ns : List ℕ) (n j : ℕ) → IsFirstLeast ns j → get_or ns j 0 < n → IsFirstLeast (n ∷ ns) (suc j)
 one_later ns n j is less =
     record {
       within = omega (arith, is.within);
@@ -85,7 +85,7 @@ kept_next best least k n ns more (inr g) =
       found = one_later ns n g.j g.found (omega (arith, g.less, more));
     })
 
-found : (best least k : ℕ) (ns : List ℕ) → Stays best least k ns ⊎ Goes best least k ns
+pub found : (best least k : ℕ) (ns : List ℕ) → Stays best least k ns ⊎ Goes best least k ns
 found best least k [] = inl (record { is = refl; most = λ i h. absurd (omega (arith, h)) })
 found best least k (n ∷ ns) =
     elim (cases_lt n least) [

@@ -4,6 +4,7 @@ pub mod EdgesTaken
 pub mod Counting
 pub mod EachEnd
 pub mod FirstLeast
+pub mod FirstLightest
 pub mod FirstLoads
 pub mod InOrder
 pub mod LeastPeak

@@ -2,6 +2,7 @@ pub mod BalancedChoices
 pub mod Choosing
 pub mod EdgesTaken
 pub mod LeastPeakLaw
+pub mod LightestLaw
 pub mod Loads
 pub mod RoundRobin
 pub mod Traffic

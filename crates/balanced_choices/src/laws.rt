@@ -1,8 +1,15 @@
-//! The law of choices.
+//! The laws of choices.
 ghost use Rattle.balanced_choices.specs.LeastPeakLaw.{LightestIsLeast};
+ghost use Rattle.balanced_choices.specs.LightestLaw.{BalancedAreLightest};
 
 /// If a position has a candidate, and no way of its candidates has a peak load over 2^64 - 1, new choices take its
 /// first candidate whose way has the least peak load.
 pub fn lightest_is_least()
     ensures { LightestIsLeast }
+{}
+
+/// Balanced choices are first choices or those of a round of new choices that was made. No round makes a lower greatest
+/// load, and no earlier one an equal.
+pub fn balanced_are_lightest()
+    ensures { BalancedAreLightest }
 {}

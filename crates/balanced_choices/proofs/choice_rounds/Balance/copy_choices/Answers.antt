@@ -1,4 +1,4 @@
-use Rattle.std.proofs.Common.{◌≡◌, ◌++◌, List, ℕ, [], ◌∷◌, sym, ap, ◌∙◌, arith, get_or, length, map, subst, ◌<◌}
+use Rattle.std.proofs.Common.{◌≡◌, ◌++◌, List, ℕ, [], ◌∷◌, sym, ap, ◌∙◌, arith, get_or, length, map, ◌<◌}
 use Rattle.std.proofs.lemmas.List.{get_or-map, map-append, take_more}
 use Rattle.port_graph.proofs.Counts.{length_map}
 use Rattle.balanced_choices.proofs.choice_rounds.Balance.copy_choices.Goals as goal

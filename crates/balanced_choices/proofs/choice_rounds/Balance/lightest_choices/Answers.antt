@@ -1,5 +1,5 @@
-use Rattle.std.proofs.Common.{◌≡◌, ◌≤◌, ◌+◌, ◌-◌, ◌∷◌, [], Bool, Global, List, Vec, ℕ, false, true, sym, ap, ◌∙◌, subst, arith, map}
-use Rattle.std.specs.Prelude.{None, Option, Some, not, option_map, unwrap_or}
+use Rattle.std.proofs.Common.{◌≡◌, ◌+◌, ◌-◌, ◌∷◌, [], Global, List, Vec, ℕ, false, sym, ap, ◌∙◌, subst, arith, map}
+use Rattle.std.specs.Prelude.{not, option_map, unwrap_or}
 use Rattle.spread_labels.specs.Level.{greatest}
 use Rattle.balanced_choices.specs.BalancedChoices.{Balance, are_even, later_rounds, lightest_choices}
 use Rattle.balanced_choices.proofs.AsLong.{IsAsLong, all_long, still_as_long}

@@ -1,5 +1,5 @@
 use Rattle.std.proofs.Common.{◌≡◌, ◌≤◌, ◌-◌, List, ℕ, map}
-use Rattle.std.specs.Prelude.{Option, option_map, unwrap_or}
+use Rattle.std.specs.Prelude.{option_map, unwrap_or}
 use Rattle.spread_labels.specs.Level.{greatest}
 use Rattle.balanced_choices.specs.BalancedChoices.{Balance, later_rounds, lightest_choices}
 use Rattle.balanced_choices.proofs.AsLong.{IsAsLong}
