@@ -1,14 +1,16 @@
 -- How a task on files ends: what was done, or its exit status and the line on standard error that gives the reason.
-use Rattle.std.specs.Prelude.{◌≡◌, ◌⊎◌, ◌≤◌, ◌+◌, Bool, true, false, List, [], ℕ, Option, Some, None, Result, map, slice_get}
+use Rattle.std.specs.Prelude.{◌≡◌, ◌≢◌, ◌⊎◌, ◌≤◌, ◌+◌, Bool, true, false, List, [], ℕ, Option, Some, None, Result, map, slice_get}
 use Rattle.std.specs.Borrow.{Bor}
 use Rattle.byte_io.specs.Source.{SourceState}
+use Rattle.clap.specs.declared.error.kind.ErrorKind.{ErrorKind}
+use Rattle.clap.specs.declared.error.kind.ErrorKind.TheVariants.{DisplayHelp, DisplayVersion}
 use Rattle.clap.specs.declared.parser.matches.ArgMatches.{ArgMatches}
 use Rattle.sm_cli.specs.Asked.{rule_for, texts_for}
 use Rattle.sm_cli.specs.ExitStatus.{status_of}
 use Rattle.sm_cli.specs.FaultLine.{fault_text, program_line}
 use Rattle.sm_cli.specs.Run.{HasAnswered, IsFaultOf}
 use Rattle.sm_cli.specs.declared.exit_status.ExitStatus.{ExitStatus}
-use Rattle.sm_cli.specs.declared.exit_status.ExitStatus.TheVariants.{Done, Failed}
+use Rattle.sm_cli.specs.declared.exit_status.ExitStatus.TheVariants.{Done, Failed, InputOutput}
 use Rattle.sm_cli.specs.declared.fault.Fault.{Fault}
 use Rattle.sm_cli.specs.declared.fault.Fault.TheVariants.{Open, File, Text, NoRoom, Write, Memory}
 use Rattle.audit_report.specs.AuditRun.{HasAudited, IsAuditFault}
@@ -91,6 +93,14 @@ status_after false = Failed
 -- the status is that of a task that is done, whether or not it passes
 abbrev pub IsDone : ExitStatus → Type 0
 IsDone status = (passed : Bool) × (status ≡ status_after passed)
+
+-- what the parser of words found is a fault of the words, and not a request for help or for the version
+abbrev pub IsFaultOfWords : ErrorKind → Type 0
+IsFaultOfWords kind = (kind ≢ DisplayHelp) × (kind ≢ DisplayVersion)
+
+-- the status of a run that was asked for help or for the version: it was printed, or the output took no more
+abbrev pub IsShownOrNot : ExitStatus → Type 0
+IsShownOrNot status = (status ≡ Done) ⊎ (status ≡ InputOutput)
 
 -- faults ----------------------------------------------------------------------------------------
 

@@ -1,4 +1,8 @@
 //! The words of the command line, and what is printed if they are wrong.
+ghost use Rattle.std.specs.Prelude.{◌≡◌, ◌↔◌, ◌⊎◌, IfOk, IsErr};
+ghost use Rattle.clap.specs.Values.{kind_of};
+ghost use Rattle.ibsm.specs.Ending.{IsFaultOfWords, IsShownOrNot};
+
 use crate::perform::say;
 use byte_io::ToWrite;
 use clap::Error;
@@ -25,12 +29,16 @@ pub(crate) fn words<R: Env + Eprint + AllocGlobal>(
 }
 
 /// Prints help or the version to standard output, or the fault of the command line to standard error. If help or the
-/// version cannot be printed, writes that to `errors`. Returns an error if `error` is a lack of memory.
+/// version cannot be printed, writes that to `errors`. Returns an error exactly if `error` is a lack of memory.
 pub(crate) fn explain<R: Print + Eprint, E: Write>(
     rt: &R,
     error: &Error,
     errors: &mut ToWrite<E>,
-) -> Result<ExitStatus, AllocError> {
+) -> Result<ExitStatus, AllocError>
+    ensures memory { IsErr result ↔ (kind_of error.now ≡ ErrorKind.OutOfMemory) }
+    ensures usage { IfOk result (λ status. (status ≡ ExitStatus.Usage) ↔ IsFaultOfWords (kind_of error.now)) }
+    ensures shown { IfOk result (λ status. IsFaultOfWords (kind_of error.now) ⊎ IsShownOrNot status) }
+{
     if error.kind() == ErrorKind::OutOfMemory {
         return Err(AllocError);
     }
