@@ -1,5 +1,5 @@
 -- The levels and the digit weights of positions.
-use Rattle.std.proofs.Common.{◌≡◌, ◌<◌, ℕ, List, sym, ap, ◌∙◌, arith, length, map}
+use Rattle.std.proofs.Common.{◌≡◌, ℕ, List, sym, ap, ◌∙◌, arith, length, map}
 use Rattle.std.proofs.lemmas.List.{ext_get_or, get_or-map}
 use Rattle.port_graph.specs.declared.edge.Edge.{Edge}
 use Rattle.port_graph.proofs.Counts.{length_map}

@@ -1,5 +1,5 @@
 -- A LID more has its port.
-use Rattle.std.proofs.Common.{◌≡◌, ◌<◌, ◌+◌, ◌%◌, ℕ, sym, ap, ◌∙◌, drop, get_or, length, subst}
+use Rattle.std.proofs.Common.{◌≡◌, ◌<◌, ◌+◌, ◌%◌, ℕ, sym, ap, ◌∙◌, drop, get_or, length}
 use Rattle.std.proofs.lemmas.Grind.{get_or_default_zero}
 use Rattle.std.proofs.lemmas.List.{at_drop_more, drop_all, length-set}
 use Rattle.std.proofs.Math.Nat.{mod-lt}

@@ -3,7 +3,7 @@ use Rattle.std.proofs.Common.{◌≡◌, ◌<◌, ◌+◌, ◌/◌, ◌%◌, ℕ
 use Rattle.std.proofs.lemmas.Grind.{get_or_default_zero}
 use Rattle.std.proofs.lemmas.List.{at_drop_more, length-set}
 use Rattle.std.proofs.Math.Nat.{mod-lt}
-use Rattle.std.specs.Prelude.{max, slice_set}
+use Rattle.std.specs.Prelude.{slice_set}
 use Rattle.balanced_choices.specs.BalancedChoices.{digits_from, in_turn}
 use Rattle.spread_routes.specs.AdapterChoices.{choice_towards, choice_with, end_number}
 use Rattle.spread_routes.specs.Exits.{port_turn, with_entries}
