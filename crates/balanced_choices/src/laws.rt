@@ -8,8 +8,8 @@ pub fn lightest_is_least()
     ensures { LightestIsLeast }
 {}
 
-/// Balanced choices are first choices or those of a round of new choices that was made. No round makes a lower greatest
-/// load, and no earlier one an equal.
+/// Balanced choices are the first choices, or those of a round of new choices that was made; no such choices give a
+/// lower greatest load, and no earlier ones an equal.
 pub fn balanced_are_lightest()
     ensures { BalancedAreLightest }
 {}
