@@ -65,14 +65,14 @@ digit_at digits p = slice_index_or digits p (record { level = 0; weight = 1 })
 abbrev pub leads_higher : List LevelDigit → List Edge → ℕ → Bool
 leads_higher digits edges p = list_any (λ e. nat_lt (digit_at digits p).level (digit_at digits e.to).level) edges
 
--- the weight of the digit by which position `p` takes first choices among `edges`: its digit weight if any of them leads
--- to a higher level; otherwise 1, so that the whole number counts
+-- the weight of the digit by which position `p` takes first choices among `edges`: its digit weight if any of them
+-- leads to a higher level; otherwise 1, so that the whole number counts
 abbrev pub weight_among : List LevelDigit → List Edge → ℕ → ℕ
 weight_among digits edges p = if leads_higher digits edges p then (digit_at digits p).weight else 1
 
 -- the number of the candidate that is the first choice of position `p` towards the end with the number `number`. It is
--- `number` divided by the weight of the digit (`weight_among`), rounded down, plus `p`, modulo the number of candidates;
--- 0 if there are no candidates
+-- `number` divided by the weight of the digit (`weight_among`), rounded down, plus `p`, modulo the number of
+-- candidates; 0 if there are no candidates
 abbrev pub first_choice : List (List Edge) → List LevelDigit → ℕ → ℕ → ℕ
 first_choice ways digits number p =
     in_turn (length (candidates_at ways p)) (digits_from (weight_among digits (edges_at ways p) p) number + p)
@@ -172,9 +172,9 @@ at_first graph destinations =
       loads = replicate (256 * length graph) 0;
     }
 
--- the balances after the rounds that are made of at most `most` rounds, the first of which has the number `round`. `old`
--- is the balance before them. Each round begins from the balance of the round before it; once loads are even, no more
--- rounds are made
+-- the balances after the rounds that are made of at most `most` rounds, the first of which has the number `round`.
+-- `old` is the balance before them. Each round begins from the balance of the round before it; once loads are even, no
+-- more rounds are made
 abbrev pub later_rounds :
     ℕ → ℕ → List (List Edge) → List ℕ → List LevelDigit → List Destination → Balance → List Balance
 later_rounds zero round graph sent digits destinations old = []

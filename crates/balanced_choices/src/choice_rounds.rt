@@ -98,9 +98,9 @@ impl Balance {
         Ok(Balance { choices, loads })
     }
 
-    /// Makes new choices for all ends of `destinations`, at most twice, while loads are not even. Returns the choices by
-    /// which the greatest load is least: those of `self`, or those of a later round. Of equals, returns the first. The
-    /// preconditions are those of `choose_all`.
+    /// Makes new choices for all ends of `destinations`, at most twice, while loads are not even. Returns the choices
+    /// by which the greatest load is least: those of `self`, or those of a later round. Of equals, returns the first.
+    /// The preconditions are those of `choose_all`.
     fn lightest_choices(
         mut self,
         alloc: Global,

@@ -20,8 +20,8 @@ use std::alloc::{AllocError, Global};
 
 /// Returns the load of each channel if the packets to all ends of all destinations go by first choices. Position p
 /// sends `sent[p]` packets to each end, and has the level and the digit weight `digits[p]`. `sent` and `digits` must
-/// have an entry for each position, and destinations must be at positions. Finds the candidates towards 64 destinations at a time.
-/// For each end, takes time linear in the number of positions.
+/// have an entry for each position, and destinations must be at positions. Finds the candidates towards 64 destinations
+/// at a time. For each end, takes time linear in the number of positions.
 pub fn first_loads(
     alloc: Global,
     graph: &Adjacency,
@@ -129,8 +129,8 @@ fn copies(alloc: Global, list: &[usize], count: u16) -> Result<Vec<Vec<usize>>, 
 }
 
 /// Passes on, from `position`, the packets that `had` has for it, for each end of `destination`: its own and those that
-/// have reached it. `edges` are the candidates of `position`, and `weight` is the weight of its digit. Adds the packets to the
-/// loads of channels. Does nothing if there is no candidate.
+/// have reached it. `edges` are the candidates of `position`, and `weight` is the weight of its digit. Adds the packets
+/// to the loads of channels. Does nothing if there is no candidate.
 fn pass_on(
     edges: &[Edge],
     weight: usize,

@@ -192,7 +192,8 @@ fn write_chosen(
 
 /// Writes, in the entry of each of `lids`, the one of `ports` that is the first choice for the LID's number in
 /// `numbers`, at the position `own` towards the position `target`. `weight` is the weight of the digit that counts. The
-/// choices must not have been made from counted loads, and there must be a port. `entries` and `numbers` must be equally long, and each LID must be within them.
+/// choices must not have been made from counted loads, and there must be a port. `entries` and `numbers` must be
+/// equally long, and each LID must be within them.
 fn write_in_turn(
     entries: &mut [u8],
     lids: &[Lid],

@@ -38,6 +38,6 @@ loop-lid-preserved c =
 pub returns : goal.returns
 returns c =
     let port : ℕ → ℕ → ℕ = λ weight lid.
-        port_turn c.args.ports.now (choice_towards c.args.choices.now weight (get_or c.args.numbers.now lid 0) c.args.own c.args.target) in
+    port_turn c.args.ports.now (choice_towards c.args.choices.now weight (get_or c.args.numbers.now lid 0) c.args.own c.args.target) in
     λ weight. sym (ap (with_entries (port weight) c.loop-lid.entries) (drop_all c.loop-lid.lid-index c.args.lids.now c.loop-lid-test.false))
     ∙ c.loop-lid.invariant.left weight
