@@ -14,7 +14,7 @@ mod unmatched;
 pub use all_packets::{PacketSurvey, survey};
 pub use audit_ways::{
     Figures, LoadedChannel, PacketWay, WayFigures, figures_of_ways_known, loaded_channels,
-    packet_way,
+    way_of_packet,
 };
 pub use cause_counts::Causes;
 pub use disputed_facts::disputed;

@@ -14,7 +14,7 @@ ghost use Rattle.audit_report.specs.AuditText.{end_text};
 
 use crate::audit_text::write_end;
 use audit_channels::{ChannelKind, write_channel};
-use audit_counts::{LoadedChannel, PacketWay, loaded_channels, packet_way};
+use audit_counts::{LoadedChannel, PacketWay, loaded_channels, way_of_packet};
 use byte_io::{Sink, WriteFault, write_number, write_port};
 use packet_walks::{End, Network};
 use sm_cli::{AuditAsked, WayAsked};
@@ -90,7 +90,7 @@ fn asked_way(
 {
     match asked {
         Some(asked) => {
-            let way = packet_way(alloc, network, asked.node, asked.port, asked.lid)?;
+            let way = way_of_packet(alloc, network, asked.node, asked.port, asked.lid)?;
             Ok(Some(WayFound { asked: *asked, way }))
         }
         None => Ok(None),
@@ -129,11 +129,7 @@ fn write_load<W: Sink>(
 }
 
 /// Writes the line of the packet of `found`: who sends it, its LID, its channels, and how it ends.
-fn write_way<W: Sink>(
-    sink: &mut W,
-    network: &Network,
-    found: &WayFound,
-) -> Result<(), WriteFault>
+fn write_way<W: Sink>(sink: &mut W, network: &Network, found: &WayFound) -> Result<(), WriteFault>
     ensures { WritesPart W.written W.has_failed result sink.old sink.new
         (found_text (cells_of network.now.facts) network.now.held found.now) }
 {

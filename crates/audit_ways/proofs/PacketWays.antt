@@ -1,13 +1,13 @@
 -- The end port whose packet is followed, and the channels of the packet so far.
 use Rattle.std.proofs.Common.{◌≡◌, ◌<◌, ◌≤◌, ◌+◌, ◌-◌, ◌∙◌, ℕ, suc, Bool, true, false, cond, List, [], ◌∷◌, ◌++◌, length, get_or, map, refl, sym, ap, subst, arith, inl, inr}
-use Rattle.std.specs.Prelude.{find, position, slice_get, slice_index_or, option_map, ◌⊎◌, Option, None, Some}
+use Rattle.std.specs.Prelude.{find, not, position, slice_get, slice_index_or, option_map, ◌⊎◌, Option, None, Some}
 use Rattle.std.specs.List.{position_or_len}
 use Rattle.std.proofs.lemmas.Bool.{ltb-false}
 use Rattle.std.proofs.lemmas.List.{append-nil, append_assoc, length-map}
 use Rattle.std.proofs.lemmas.List.Folds.{find_at}
 use Rattle.std.proofs.lemmas.List.Quantifiers.{position-Some}
 use Rattle.std.proofs.lemmas.List.Recursion.{is_position_or_len}
-use Rattle.std.proofs.lemmas.Option.{same_Some, slice_get_cases, slice_get_past}
+use Rattle.std.proofs.lemmas.Option.{get_or_from_slice_get, same_Some, slice_get_cases, slice_get_past, slice_get_within}
 use Rattle.port_graph.specs.declared.edge.Edge.{Edge}
 use Rattle.subnet_view.specs.declared.end_port.EndPort.{EndPort}
 use Rattle.subnet_view.specs.EndPort.{end_ports}
@@ -28,7 +28,11 @@ use Rattle.audit_ways.proofs.Walked.{no_channel, one_channel}
 
 module _ {X Y : Type 0} (f : X → Y) (p : Y → Bool) where
   same_place : (xs : List X) → position_or_len p (map f xs) ≡ position_or_len (λ x. p (f x)) xs
-  same_place = is_position_or_len (λ xs. position_or_len p (map f xs)) (λ x. p (f x)) refl (λ x xs. refl)
+  same_place = is_position_or_len (λ xs. position_or_len p (map f xs)) (λ x. p (f x)) refl
+      (λ x xs. elim (p (f x)) as (λ t. cond (not t) (1 + position_or_len p (map f xs)) 0 ≡ cond t 0 (1 + position_or_len p (map f xs))) [
+        | true ↦ refl
+        | false ↦ refl
+      ])
 
   place_of : (b : Bool) (n i : ℕ) → cond b (Some n) None ≡ Some i → n ≡ i
   place_of true n i e = same_Some n i e
@@ -38,7 +42,7 @@ module _ {X Y : Type 0} (f : X → Y) (p : Y → Bool) where
       → (x : X) × (find (λ y. p (f y)) xs ≡ Some x) × (slice_get xs i ≡ Some x)
   found_there xs i d e =
       let less = (position-Some p (map f xs) i d e).0 in
-      let long = length-map f xs in
+      let long = length-map xs f in
       let within : i < length xs = omega (arith, less, long) in
       let at : position_or_len (λ x. p (f x)) xs ≡ i = sym (same_place xs) ∙ place_of _ _ i e in
       elim (slice_get_cases xs i).1 [
@@ -52,7 +56,7 @@ module _ {X Y : Type 0} (f : X → Y) (p : Y → Bool) where
 
   pub found_nowhere : (xs : List X) → position p (map f xs) ≡ None → find (λ y. p (f y)) xs ≡ None
   found_nowhere xs e =
-      let long = length-map f xs in
+      let long = length-map xs f in
       let same = same_place xs in
       let past = ltb-false (position_or_len p (map f xs)) (length (map f xs)) (unplaced _ _ e) in
       find_at (λ x. p (f x)) xs ∙ slice_get_past xs (position_or_len (λ x. p (f x)) xs) (omega (arith, long, same, past))
@@ -64,8 +68,12 @@ pub end_at : (cells : Cells) (held : HeldPlan) (lid : ℕ) (ends : List (Option 
     → slice_get (end_ports cells) i ≡ Some e → slice_index_or ends i None ≡ end_for cells held lid e
 end_at cells held lid ends i e h at =
     elim (slice_get_cases ends i).1 [
-      | inl there ↦ sym (sym (end_of there.0 there.2) ∙ sym (there.3)) ∙ refl
-      | inr past ↦ (let long = h.as_many in let none = past.0 in absurd (cc))
+      | inl there ↦ get_or_from_slice_get ends i there.0 None there.2 ∙ end_of there.0 there.2
+      | inr past ↦ (
+          let long = h.as_many in
+          let less = slice_get_within (end_ports cells) i e at in
+          let none = past.0 in absurd (omega (arith, long, less, none))
+          )
     ]
   where
     end_of : (end : Option End) → slice_get ends i ≡ Some end → end ≡ end_for cells held lid e

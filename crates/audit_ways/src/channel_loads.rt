@@ -56,7 +56,7 @@ pub(crate) fn edge_of(edges: &[Option<Edge>], switch: usize) -> Option<Edge>
 
 /// Returns the number of the channel of `edge`, an edge of `switch`. The numbers of all channels of `switch` must fit
 /// in 64 bits.
-pub(crate) fn number_of(switch: usize, edge: Edge) -> usize
+fn number_of(switch: usize, edge: Edge) -> usize
     requires { 256 * switch + 256 < 2 ^ 64 + 1 }
     ensures is { result ≡ number_of switch edge }
     ensures within { result < 256 * switch + 256 }

@@ -13,6 +13,6 @@ mod way_tally;
 
 pub use channel_list::{LoadedChannel, loaded_channels};
 pub use mean::Figures;
-pub use packet_way::{PacketWay, packet_way};
+pub use packet_way::{PacketWay, way_of_packet};
 pub use sender_groups::is_adapter;
 pub use way_figures::{WayFigures, figures_of_ways, figures_of_ways_known};

@@ -4,13 +4,14 @@ ghost use Rattle.fact_store.specs.View.{cells_of};
 ghost use Rattle.subnet_view.specs.EndPort.{end_ports};
 ghost use Rattle.held_tables.specs.Switches.{sender_of};
 ghost use Rattle.held_tables.specs.Tables.{is_owner, owners_of};
+ghost use Rattle.audit_channels.specs.Column.{number_of};
 ghost use Rattle.packet_walks.specs.Edges.{edges_of};
 ghost use Rattle.packet_walks.specs.HopsByTables.{end_for};
 ghost use Rattle.audit_ways.specs.PacketWay.{channels_after, first_switch_for, is_port, packet_way, way_channels};
 ghost use Rattle.audit_ways.specs.PacketWay.{way_value};
 ghost use Rattle.audit_ways.specs.Ways.{channels_from};
 
-use crate::channel_loads::{edge_of, number_of};
+use crate::channel_loads::edge_of;
 use packet_walks::{End, Far, LidCursor, Network, Sender, is_same_end};
 use port_graph::Edge;
 use smp_bytes::{Guid, Lid, PortNum};
@@ -29,7 +30,7 @@ pub struct PacketWay {
 
 /// Returns the way of the packet that the end port `port` of `node` sends for `lid`, or `None` if this is no end port
 /// of the facts.
-pub fn packet_way(
+pub fn way_of_packet(
     alloc: Global,
     network: &Network,
     node: Guid,
@@ -62,11 +63,7 @@ fn index_of(sources: &[Sender], port: &EndPort) -> Option<usize>
 }
 
 /// Returns the channels of the packet that `source` sends for the LID of `cursor`.
-fn channels_of(
-    alloc: Global,
-    cursor: &LidCursor,
-    source: &Sender,
-) -> Result<Vec<usize>, AllocError>
+fn channels_of(alloc: Global, cursor: &LidCursor, source: &Sender) -> Result<Vec<usize>, AllocError>
     ensures { IfOk result (λ channels. channels.items
         ≡ channels_after (edges_of (cells_of cursor.now.seen.facts) cursor.now.seen.held cursor.now.lid)
         (first_switch_for (owners_of cursor.now.seen.held cursor.now.lid) source.now)) }
@@ -99,7 +96,7 @@ fn is_owner(owners: &[EndPort], port: &EndPort) -> bool
 }
 
 /// Returns the channels that a packet takes along `edges`, starting at the switch at index `first`. Stops after as many
-/// channels as there are switches.
+/// channels as there are switches. Returns an error if the number of a channel does not fit in 64 bits.
 fn channels_from(
     alloc: Global,
     edges: &[Option<Edge>],
@@ -113,11 +110,22 @@ fn channels_from(
         match edge_of(edges, switch) {
             Some(edge) => {
                 let next = edge.to;
-                channels.push(number_of(switch, edge))?;
+                channels.push(channel_of(switch, edge)?)?;
                 switch = next;
             }
             None => return Ok(channels),
         }
     }
     Ok(channels)
+}
+
+/// Returns the number of the channel of `edge`, an edge of `switch`. Returns an error if the number does not fit in 64
+/// bits.
+fn channel_of(switch: usize, edge: Edge) -> Result<usize, AllocError>
+    ensures { IfOk result (λ number. number ≡ number_of switch edge) }
+{
+    let first = switch.checked_mul(256).ok_or(AllocError)?;
+    first
+        .checked_add(usize::from(edge.port.number()))
+        .ok_or(AllocError)
 }

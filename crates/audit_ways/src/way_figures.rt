@@ -57,7 +57,11 @@ pub fn figures_of_ways_known(
 
 /// Counts the routes of the delivered packets between adapter ports. If `told` is true at the index of a line, all
 /// packets for the line's LID must be delivered at the line's port.
-pub(crate) fn tally_of(alloc: Global, network: &Network, told: &[bool]) -> Result<WayTally, AllocError>
+pub(crate) fn tally_of(
+    alloc: Global,
+    network: &Network,
+    told: &[bool],
+) -> Result<WayTally, AllocError>
     requires { AreKnownToArrive (cells_of network.now.facts) network.now.held told.now }
     ensures { IfOk result (IsCounted (256 * length (switches (cells_of network.now.facts)))
         (λ number. sum_by number (ways_of (cells_of network.now.facts) network.now.held))) }
