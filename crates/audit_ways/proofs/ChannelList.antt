@@ -38,3 +38,10 @@ pub loads_are : (cells : Cells) (held : HeldPlan) (tally : WayTally)
 loads_are cells held tally h =
     same_map (loaded_channel tally.loads.items) (channel_with_load cells held) (channels_of cells)
     (λ n. ap (λ (k : ℕ). record { channel = n; load = k }) (h.loads n))
+
+-- and so are the loads of what is listed by them
+pub told_loads : (cells : Cells) (held : HeldPlan) (tally : WayTally) (loads : List ℕ) (listed : List LoadedChannel)
+    → IsCounted (256 * length (switches cells)) (λ f. sum_by f (ways_of cells held)) tally → loads ≡ tally.loads.items
+    → listed ≡ map (loaded_channel loads) (channels_of cells) → listed ≡ loaded_channels cells held
+told_loads cells held tally loads listed h same is =
+    is ∙ ap (λ (xs : List ℕ). map (loaded_channel xs) (channels_of cells)) same ∙ loads_are cells held tally h

@@ -7,7 +7,7 @@ use Rattle.std.proofs.lemmas.List.{append-nil, append_assoc, length-map}
 use Rattle.std.proofs.lemmas.List.Folds.{find_at}
 use Rattle.std.proofs.lemmas.List.Quantifiers.{position-Some}
 use Rattle.std.proofs.lemmas.List.Recursion.{is_position_or_len}
-use Rattle.std.proofs.lemmas.Option.{get_or_from_slice_get, same_Some, slice_get_cases, slice_get_past, slice_get_within}
+use Rattle.std.proofs.lemmas.Option.{get_or_from_slice_get, same_Some, slice_get-map, slice_get_cases, slice_get_past, slice_get_within}
 use Rattle.port_graph.specs.declared.edge.Edge.{Edge}
 use Rattle.subnet_view.specs.declared.end_port.EndPort.{EndPort}
 use Rattle.subnet_view.specs.EndPort.{end_ports}
@@ -78,6 +78,19 @@ end_at cells held lid ends i e h at =
   where
     end_of : (end : Option End) → slice_get ends i ≡ Some end → end ≡ end_for cells held lid e
     end_of end is = (ends_are_found cells held lid e end).0 (h.brought i e end at is)
+
+-- its index among the senders
+pub place_among : (cells : Cells) (sources : List Sender) (e : EndPort) (r : Option ℕ) → sources ≡ map (sender_of cells) (end_ports cells)
+    → r ≡ position (is_port e) sources → position (is_port e) (map (sender_of cells) (end_ports cells)) ≡ r
+place_among cells sources e r all is = sym (is ∙ ap (λ (xs : List Sender). position (is_port e) xs) all)
+
+-- the end port as a sender
+pub source_is : (cells : Cells) (sources : List Sender) (i : ℕ) (source : Sender) (e : EndPort) → sources ≡ map (sender_of cells) (end_ports cells)
+    → source ≡ get_or sources i source → slice_get (end_ports cells) i ≡ Some e → source ≡ sender_of cells e
+source_is cells sources i source e all is at =
+    is ∙ ap (λ (xs : List Sender). get_or xs i source) all
+    ∙ get_or_from_slice_get (map (sender_of cells) (end_ports cells)) i (sender_of cells e) source
+    (slice_get-map (sender_of cells) (end_ports cells) i ∙ ap (option_map (sender_of cells)) at)
 
 -- channels -------------------------------------------------------------------------------------------
 

@@ -1,14 +1,12 @@
 //! The way of one packet, channel by channel.
-ghost use Rattle.std.specs.Prelude.{◌≡◌, None, IfOk, length, option_map, position, slice_index_or};
+ghost use Rattle.std.specs.Prelude.{◌≡◌, ◌<◌, Some, IfOk, length, option_map, position, slice_get};
 ghost use Rattle.fact_store.specs.View.{cells_of};
 ghost use Rattle.subnet_view.specs.EndPort.{end_ports};
-ghost use Rattle.held_tables.specs.Switches.{sender_of};
 ghost use Rattle.held_tables.specs.Tables.{is_owner, owners_of};
 ghost use Rattle.audit_channels.specs.Column.{number_of};
 ghost use Rattle.packet_walks.specs.Edges.{edges_of};
-ghost use Rattle.packet_walks.specs.HopsByTables.{end_for};
-ghost use Rattle.audit_ways.specs.PacketWay.{channels_after, first_switch_for, is_port, packet_way, way_channels};
-ghost use Rattle.audit_ways.specs.PacketWay.{way_value};
+ghost use Rattle.audit_ways.specs.PacketWay.{channels_after, first_switch_for, is_port, packet_way};
+ghost use Rattle.audit_ways.specs.PacketWay.{way_from_port, way_value};
 ghost use Rattle.audit_ways.specs.Ways.{channels_from};
 
 use crate::channel_loads::edge_of;
@@ -46,11 +44,20 @@ pub fn way_of_packet(
     };
     let mut cursor = LidCursor::of(alloc, network)?;
     cursor.go_to(alloc, lid)?;
-    let end = cursor.ends(alloc, sender)?.at(index);
-    Ok(Some(PacketWay {
-        channels: channels_of(alloc, &cursor, &network.sources()[index])?,
-        end,
-    }))
+    Ok(Some(way_from(alloc, &cursor, index)?))
+}
+
+/// Returns the way of the packet that the end port at `index` sends for the LID of `cursor`. There must be such an end
+/// port.
+fn way_from(alloc: Global, cursor: &LidCursor, index: usize) -> Result<PacketWay, AllocError>
+    requires { index < length (end_ports (cells_of cursor.now.seen.facts)) }
+    ensures { IfOk result (λ way. (e : _) → slice_get (end_ports (cells_of cursor.now.seen.facts)) index ≡ Some e
+        → way_value way ≡ way_from_port (cells_of cursor.now.seen.facts) cursor.now.seen.held cursor.now.lid e) }
+{
+    let source = cursor.network().sources()[index];
+    let end = cursor.ends(alloc, source.port)?.at(index);
+    let channels = channels_of(alloc, cursor, &source)?;
+    Ok(PacketWay { channels, end })
 }
 
 /// Returns the index of `port` among the ports of `sources`, or `None` if it is not there.

@@ -1,5 +1,5 @@
 -- A channel more.
-use Rattle.std.proofs.Common.{◌≡◌, ◌∙◌, ◌++◌, ◌∷◌, [], sym, ap}
+use Rattle.std.proofs.Common.{◌∙◌, ◌++◌, ◌∷◌, [], sym, ap}
 use Rattle.fact_store.specs.View.{cells_of}
 use Rattle.audit_ways.specs.ChannelList.{loaded_channel}
 use Rattle.audit_ways.specs.Ways.{is_to_switch}

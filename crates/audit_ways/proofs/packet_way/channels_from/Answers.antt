@@ -1,5 +1,5 @@
 -- A channel more, and the last one.
-use Rattle.std.proofs.Common.{◌≡◌, ◌∙◌, ◌++◌, ◌∷◌, [], ℕ, List, sym, ap, subst}
+use Rattle.std.proofs.Common.{◌∙◌, ◌++◌, ◌∷◌, [], ℕ, sym, ap, subst}
 use Rattle.audit_ways.proofs.PacketWays.{AreListed, ended_at, one_channel_more}
 use Rattle.audit_ways.proofs.packet_way.channels_from.Goals as goal
 
