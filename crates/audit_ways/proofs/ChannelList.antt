@@ -1,5 +1,5 @@
 -- The channels with their loads, one after the other.
-use Rattle.std.proofs.Common.{◌≡◌, ◌+◌, ◌*◌, ℕ, cond, true, false, List, [], ◌∷◌, ◌++◌, length, get_or, map, refl, sym, ap, ◌∙◌}
+use Rattle.std.proofs.Common.{◌≡◌, ◌+◌, ◌*◌, ℕ, cond, true, false, List, [], ◌∷◌, ◌++◌, length, map, sym, ap, ◌∙◌}
 use Rattle.std.specs.Prelude.{filter}
 use Rattle.std.specs.List.{range_with_len, sum_by}
 use Rattle.std.proofs.lemmas.List.{append-nil}
@@ -9,7 +9,7 @@ use Rattle.audit_ways.specs.declared.channel_list.LoadedChannel.{LoadedChannel}
 use Rattle.audit_ways.specs.declared.way_tally.WayTally.{WayTally}
 use Rattle.audit_ways.specs.ChannelList.{loaded_channel, loaded_channels, channel_with_load}
 use Rattle.audit_ways.specs.WayTally.{IsCounted}
-use Rattle.audit_ways.specs.Ways.{channels_of, load_of, ways_of}
+use Rattle.audit_ways.specs.Ways.{channels_of, ways_of}
 use Rattle.audit_ways.proofs.Loads.{is_channel, channels_more, same_map}
 
 module _ (cells : Cells) (loads : List ℕ) where

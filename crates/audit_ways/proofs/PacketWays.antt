@@ -1,6 +1,6 @@
 -- The end port whose packet is followed, and the channels of the packet so far.
-use Rattle.std.proofs.Common.{◌≡◌, ◌<◌, ◌≤◌, ◌+◌, ◌-◌, ◌∙◌, ℕ, suc, Bool, true, false, cond, List, [], ◌∷◌, ◌++◌, length, get_or, map, refl, sym, ap, subst, arith, inl, inr}
-use Rattle.std.specs.Prelude.{find, not, position, slice_get, slice_index_or, option_map, ◌⊎◌, Option, None, Some}
+use Rattle.std.proofs.Common.{◌≡◌, ◌<◌, ◌≤◌, ◌+◌, ◌-◌, ◌∙◌, ℕ, suc, Bool, true, false, cond, List, [], ◌∷◌, ◌++◌, length, get_or, map, refl, sym, ap, arith, inl, inr}
+use Rattle.std.specs.Prelude.{find, not, position, slice_get, slice_index_or, option_map, Option, None, Some}
 use Rattle.std.specs.List.{position_or_len}
 use Rattle.std.proofs.lemmas.Bool.{ltb-false}
 use Rattle.std.proofs.lemmas.List.{append-nil, append_assoc, length-map}
@@ -15,7 +15,6 @@ use Rattle.subnet_view.specs.Reading.{Cells}
 use Rattle.held_tables.specs.Held.{HeldPlan}
 use Rattle.held_tables.specs.declared.senders.Sender.{Sender}
 use Rattle.held_tables.specs.Switches.{sender_of}
-use Rattle.held_tables.specs.Tables.{is_same_end}
 use Rattle.packet_walks.specs.declared.packet_end.End.{End}
 use Rattle.packet_walks.specs.HopsByTables.{AreBrought, end_for}
 use Rattle.packet_walks.proofs.InTime.{ends_are_found}
