@@ -45,3 +45,13 @@ def made_in_c(name: str, named: str | None = None) -> str:
     if not found:
         raise OSError(f"there is no program {name}: make -C tools/record makes it, or name one by --{name}")
     return found
+
+
+def the_search(named: str | None = None) -> str:
+    """Returns the program `search`: the one that is named or, if none is, the one made or installed beside these
+    tools."""
+    beside = [TOOLS / "search/out/search", TOOLS / "record/out/search", TOOLS / "search"]
+    found = shutil.which(named or next((path for path in beside if path.is_file()), ""))
+    if not found:
+        raise OSError(f"there is no program {named or 'search'}: make -C tools/search makes it, or name one by --search")
+    return found

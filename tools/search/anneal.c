@@ -1,0 +1,238 @@
+/* Trials of orders by simulated annealing. The search goes in two legs. In the first one, orders are judged by their trial
+   loads; in the second one, from the best order of the first, by the loads that an audit tells. Each thread goes its own
+   way, by random numbers of its own. */
+#include <math.h>
+#include <pthread.h>
+#include <stdatomic.h>
+#include <stdio.h>
+#include <stdlib.h>
+#include <string.h>
+#include <time.h>
+#include "search.h"
+
+enum { LEGS = 2, NEAR = 5 };
+/* Of the trials, the part of the second leg, in which each takes longer. */
+enum { TRIALS_PER_EXACT = 16 };
+/* With more adapters times switches, the second leg goes by trial loads too. */
+#define MOST_EXACT 1e6
+/* The temperature at first, as a part of what is judged, in each leg. */
+static const double heat[LEGS] = { 0.01, 0.003 };
+/* In the first leg, an order's loads are computed if its trial loads are lower than of the last such order by this. */
+#define BETTER 0.99
+/* Seconds between lines of progress, and between looks whether threads have ended. */
+#define TOLD 0.5
+#define LOOK 0.02
+
+struct thread {
+	struct search *search;
+	struct room *room;
+	pthread_t id;
+	uint64_t random;
+	int *now, *next, *list; /* orders, and a list from which one grows */
+	int is_exact;
+	double energy;
+	struct order best;
+	atomic_ulong most; /* of the best so far, for progress */
+};
+
+static atomic_int is_stopped, ended;
+static atomic_ulong trials;
+
+void stop_search(int number)
+{
+	(void)number;
+	is_stopped = 1;
+}
+
+static double seconds(void)
+{
+	struct timespec time;
+
+	clock_gettime(CLOCK_MONOTONIC, &time);
+	return time.tv_sec + time.tv_nsec / 1e9;
+}
+
+/* Returns the next random number (splitmix64). */
+static uint64_t drawn(struct thread *thread)
+{
+	uint64_t bits = thread->random += 0x9e3779b97f4a7c15;
+
+	bits = (bits ^ bits >> 30) * 0xbf58476d1ce4e5b9;
+	bits = (bits ^ bits >> 27) * 0x94d049bb133111eb;
+	return bits ^ bits >> 31;
+}
+
+/* Returns a random number over 0 and at most 1. */
+static double drawn_part(struct thread *thread)
+{
+	return ((drawn(thread) >> 11) + 1) * 0x1p-53;
+}
+
+static int is_less(const struct figures *one, const struct figures *other)
+{
+	return one->most < other->most || (one->most == other->most && one->squares < other->squares);
+}
+
+/* Returns a mean of loads in which the busiest channels count most: that of the 16th powers. */
+static double energy_of(const struct graph *graph, const uint64_t *loads, uint64_t most)
+{
+	double sum = 0, part;
+	int c;
+
+	for (c = 0; c < graph->channels; c++) {
+		part = (double)loads[c] / most;
+		part *= part;
+		part *= part;
+		part *= part;
+		sum += part * part;
+	}
+	return most * pow(sum, 1.0 / 16);
+}
+
+/* Computes the loads of an order, and notes the order if they are the best so far. */
+static struct figures note(struct thread *thread, const int *order)
+{
+	struct figures figures = balanced_loads(thread->room, order);
+
+	if (is_less(&figures, &thread->best.figures)) {
+		thread->best.figures = figures;
+		memcpy(thread->best.order, order, thread->search->graph->switches * sizeof *order);
+		thread->most = figures.most;
+	}
+	return figures;
+}
+
+static double judge(struct thread *thread, const int *order)
+{
+	const struct graph *graph = thread->search->graph;
+	struct figures figures = thread->is_exact ? note(thread, order) : trial_loads(thread->room, order);
+
+	return figures.most ? energy_of(graph, thread->is_exact ? audited(thread->room) : loads_of(thread->room), figures.most) : 0;
+}
+
+/* Draws an order: the one that grows if one switch of the current order is moved, mostly by a few positions. */
+static void draw(struct thread *thread)
+{
+	int n = thread->search->graph->switches, from = drawn(thread) % n, to = drawn(thread) % n, *list = thread->list;
+
+	if (drawn(thread) % 3) {
+		to = from + (int)(drawn(thread) % (2 * NEAR + 1)) - NEAR;
+		to = to < 0 ? 0 : to >= n ? n - 1 : to;
+	}
+	memcpy(list, thread->now, n * sizeof *list);
+	if (from < to)
+		memmove(list + from, list + from + 1, (to - from) * sizeof *list);
+	else
+		memmove(list + to + 1, list + to, (from - to) * sizeof *list);
+	list[to] = thread->now[from];
+	grow(thread->search->graph, list, thread->next);
+}
+
+/* Returns what part of a leg is over after `done` trials of it. */
+static double part_over(const struct search *search, unsigned long done)
+{
+	if (is_stopped)
+		return 1;
+	return search->trials ? (double)done / search->trials_of_leg : (seconds() - search->began) / search->seconds_of_leg;
+}
+
+static void *go_leg(void *argument)
+{
+	struct thread *thread = argument;
+	struct search *search = thread->search;
+	size_t size = search->graph->switches * sizeof(int);
+	double part, energy, least, *now = &thread->energy;
+	unsigned long done = 0;
+	int *other;
+
+	memcpy(thread->now, search->best.order, size);
+	*now = least = judge(thread, thread->now);
+	for (; (part = part_over(search, done)) < 1; done++, trials++) {
+		draw(thread);
+		energy = judge(thread, thread->next);
+		if (energy > *now - heat[search->leg] * (1 - part) * *now * log(drawn_part(thread)))
+			continue;
+		other = thread->now;
+		thread->now = thread->next;
+		thread->next = other;
+		*now = energy;
+		if (!thread->is_exact && energy < BETTER * least) {
+			least = energy;
+			note(thread, thread->now);
+		}
+	}
+	if (!thread->is_exact)
+		note(thread, thread->now);
+	ended++;
+	return NULL;
+}
+
+/* Waits until all threads have ended, and prints how far they are. */
+static void follow(const struct search *search, const struct thread *threads)
+{
+	struct timespec pause = { 0, LOOK * 1e9 };
+	double told = seconds();
+	uint64_t most;
+	int i;
+
+	while (ended < search->threads) {
+		nanosleep(&pause, NULL);
+		if (seconds() - told < TOLD)
+			continue;
+		told = seconds();
+		for (most = search->best.figures.most, i = 0; i < search->threads; i++)
+			if (threads[i].most < most)
+				most = threads[i].most;
+		printf("at %lu %lu\n", (unsigned long)trials, (unsigned long)most);
+		fflush(stdout);
+	}
+}
+
+static void begin_thread(struct search *search, struct thread *thread, int number)
+{
+	size_t n = search->graph->switches;
+
+	if (!thread->room) {
+		thread->search = search;
+		thread->room = room_of(search->graph);
+		thread->now = room_for(n, sizeof(int));
+		thread->next = room_for(n, sizeof(int));
+		thread->list = room_for(n, sizeof(int));
+		thread->best.order = room_for(n, sizeof(int));
+	}
+	thread->random = search->seed;
+	thread->random = drawn(thread) + number;
+	thread->random = drawn(thread) + search->leg;
+	thread->is_exact = search->leg && (double)search->graph->adapters * n <= MOST_EXACT;
+	thread->best.figures = search->best.figures;
+	thread->most = search->best.figures.most;
+	memcpy(thread->best.order, search->best.order, n * sizeof(int));
+}
+
+/* Improves search->best until the time or the number of trials is over, or a signal comes. Returns the number of trials. */
+unsigned long improve(struct search *search)
+{
+	struct thread *threads = room_for(search->threads, sizeof *threads);
+	int i;
+
+	for (search->leg = 0; search->leg < LEGS && !is_stopped; search->leg++) {
+		search->began = seconds();
+		search->seconds_of_leg = search->seconds / LEGS;
+		search->trials_of_leg = search->leg ? search->trials / TRIALS_PER_EXACT : search->trials - search->trials / TRIALS_PER_EXACT;
+		ended = 0;
+		for (i = 0; i < search->threads; i++)
+			begin_thread(search, &threads[i], i);
+		for (i = 0; i < search->threads; i++)
+			if (pthread_create(&threads[i].id, NULL, go_leg, &threads[i]))
+				end(NO_MEMORY, "out of memory for threads");
+		follow(search, threads);
+		for (i = 0; i < search->threads; i++)
+			pthread_join(threads[i].id, NULL);
+		for (i = 0; i < search->threads; i++)
+			if (is_less(&threads[i].best.figures, &search->best.figures)) {
+				search->best.figures = threads[i].best.figures;
+				memcpy(search->best.order, threads[i].best.order, search->graph->switches * sizeof(int));
+			}
+	}
+	return trials;
+}
