@@ -10,13 +10,14 @@
 #include <time.h>
 #include "search.h"
 
+/* NEAR is by how many positions most switches are moved at most. */
 enum { LEGS = 2, NEAR = 5 };
-/* Of the trials, the part of the second leg, in which each takes longer. */
+/* Of this many trials one is in the second leg, where they take longer. */
 enum { TRIALS_PER_EXACT = 16 };
 /* With more adapters times switches, the second leg goes by trial loads too. */
 #define MOST_EXACT 1e6
 /* The temperature at first, as a part of what is judged, in each leg. */
-static const double heat[LEGS] = { 0.01, 0.003 };
+static const double heat[LEGS] = { 0.003, 0.002 };
 /* In the first leg, an order's loads are computed if its trial loads are lower than of the last such order by this. */
 #define BETTER 0.99
 /* Seconds between lines of progress, and between looks whether threads have ended. */
@@ -76,15 +77,14 @@ static int is_less(const struct figures *one, const struct figures *other)
 /* Returns a mean of loads in which the busiest channels count most: that of the 16th powers. */
 static double energy_of(const struct graph *graph, const uint64_t *loads, uint64_t most)
 {
-	double sum = 0, part;
-	int c;
+	double sum = 0, power;
+	int c, i;
 
 	for (c = 0; c < graph->channels; c++) {
-		part = (double)loads[c] / most;
-		part *= part;
-		part *= part;
-		part *= part;
-		sum += part * part;
+		power = (double)loads[c] / most;
+		for (i = 0; i < 4; i++)
+			power *= power;
+		sum += power;
 	}
 	return most * pow(sum, 1.0 / 16);
 }
@@ -104,10 +104,10 @@ static struct figures note(struct thread *thread, const int *order)
 
 static double judge(struct thread *thread, const int *order)
 {
-	const struct graph *graph = thread->search->graph;
 	struct figures figures = thread->is_exact ? note(thread, order) : trial_loads(thread->room, order);
+	const uint64_t *loads = thread->is_exact ? audited(thread->room) : loads_of(thread->room);
 
-	return figures.most ? energy_of(graph, thread->is_exact ? audited(thread->room) : loads_of(thread->room), figures.most) : 0;
+	return figures.most ? energy_of(thread->search->graph, loads, figures.most) : 0;
 }
 
 /* Draws an order: the one that grows if one switch of the current order is moved, mostly by a few positions. */
@@ -133,7 +133,9 @@ static double part_over(const struct search *search, unsigned long done)
 {
 	if (is_stopped)
 		return 1;
-	return search->trials ? (double)done / search->trials_of_leg : (seconds() - search->began) / search->seconds_of_leg;
+	if (search->trials)
+		return done < search->trials_of_leg ? (double)done / search->trials_of_leg : 1;
+	return search->seconds > 0 ? (seconds() - search->began) / search->seconds_of_leg : 1;
 }
 
 static void *go_leg(void *argument)
@@ -141,21 +143,21 @@ static void *go_leg(void *argument)
 	struct thread *thread = argument;
 	struct search *search = thread->search;
 	size_t size = search->graph->switches * sizeof(int);
-	double part, energy, least, *now = &thread->energy;
+	double part, energy, least;
 	unsigned long done = 0;
 	int *other;
 
 	memcpy(thread->now, search->best.order, size);
-	*now = least = judge(thread, thread->now);
+	thread->energy = least = judge(thread, thread->now);
 	for (; (part = part_over(search, done)) < 1; done++, trials++) {
 		draw(thread);
 		energy = judge(thread, thread->next);
-		if (energy > *now - heat[search->leg] * (1 - part) * *now * log(drawn_part(thread)))
+		if (energy > thread->energy * (1 - heat[search->leg] * (1 - part) * log(drawn_part(thread))))
 			continue;
 		other = thread->now;
 		thread->now = thread->next;
 		thread->next = other;
-		*now = energy;
+		thread->energy = energy;
 		if (!thread->is_exact && energy < BETTER * least) {
 			least = energy;
 			note(thread, thread->now);
@@ -209,25 +211,33 @@ static void begin_thread(struct search *search, struct thread *thread, int numbe
 	memcpy(thread->best.order, search->best.order, n * sizeof(int));
 }
 
+static void run_threads(struct search *search, struct thread *threads)
+{
+	int i;
+
+	ended = 0;
+	for (i = 0; i < search->threads; i++)
+		begin_thread(search, &threads[i], i);
+	for (i = 0; i < search->threads; i++)
+		if (pthread_create(&threads[i].id, NULL, go_leg, &threads[i]))
+			end(NO_MEMORY, "out of memory for threads");
+	follow(search, threads);
+	for (i = 0; i < search->threads; i++)
+		pthread_join(threads[i].id, NULL);
+}
+
 /* Improves search->best until the time or the number of trials is over, or a signal comes. Returns the number of trials. */
 unsigned long improve(struct search *search)
 {
 	struct thread *threads = room_for(search->threads, sizeof *threads);
+	unsigned long in_second = search->trials / TRIALS_PER_EXACT;
 	int i;
 
 	for (search->leg = 0; search->leg < LEGS && !is_stopped; search->leg++) {
 		search->began = seconds();
 		search->seconds_of_leg = search->seconds / LEGS;
-		search->trials_of_leg = search->leg ? search->trials / TRIALS_PER_EXACT : search->trials - search->trials / TRIALS_PER_EXACT;
-		ended = 0;
-		for (i = 0; i < search->threads; i++)
-			begin_thread(search, &threads[i], i);
-		for (i = 0; i < search->threads; i++)
-			if (pthread_create(&threads[i].id, NULL, go_leg, &threads[i]))
-				end(NO_MEMORY, "out of memory for threads");
-		follow(search, threads);
-		for (i = 0; i < search->threads; i++)
-			pthread_join(threads[i].id, NULL);
+		search->trials_of_leg = search->leg ? in_second : search->trials - in_second;
+		run_threads(search, threads);
 		for (i = 0; i < search->threads; i++)
 			if (is_less(&threads[i].best.figures, &search->best.figures)) {
 				search->best.figures = threads[i].best.figures;

@@ -97,36 +97,38 @@ static int class_of(const struct graph *graph, const int *far)
 	return count ? 4 * sum / count : 0;
 }
 
+/* Notes in the keys of a component, to which switch `s` belongs, how far its switches are from the first of it. `far` is
+   written over. */
+static void measure_component(const struct graph *graph, int s, struct key *keys, int *far)
+{
+	int t, first = s;
+
+	distances(graph, s, far);
+	for (t = 0; t < graph->switches; t++)
+		if (far[t] >= 0 && (keys[t].class < keys[first].class || (keys[t].class == keys[first].class && t < first)))
+			first = t;
+	distances(graph, first, far);
+	for (t = 0; t < graph->switches; t++)
+		if (far[t] >= 0)
+			keys[t].far = far[t];
+}
+
 /* Writes to `list` the switches by their keys without roots. */
 static void list_by_keys(const struct graph *graph, int *list)
 {
-	int n = graph->switches, s, t, first, *far = room_for(n, sizeof *far);
+	int n = graph->switches, s, *far = room_for(n, sizeof *far);
 	struct key *keys = room_for(n, sizeof *keys);
-	char *is_told = room_for(n, 1);
 
 	for (s = 0; s < n; s++) {
 		distances(graph, s, far);
-		keys[s].class = class_of(graph, far);
-		keys[s].index = s;
+		keys[s] = (struct key){ class_of(graph, far), -1, s };
 	}
-	for (s = 0; s < n; s++) {
-		if (is_told[s])
-			continue;
-		distances(graph, s, far);
-		for (first = s, t = 0; t < n; t++)
-			if (far[t] >= 0 && (keys[t].class < keys[first].class || (keys[t].class == keys[first].class && t < first)))
-				first = t;
-		distances(graph, first, far);
-		for (t = 0; t < n; t++)
-			if (far[t] >= 0) {
-				keys[t].far = far[t];
-				is_told[t] = 1;
-			}
-	}
+	for (s = 0; s < n; s++)
+		if (keys[s].far < 0)
+			measure_component(graph, s, keys, far);
 	qsort(keys, n, sizeof *keys, compare_keys);
 	for (s = 0; s < n; s++)
 		list[s] = keys[s].index;
-	free(is_told);
 	free(keys);
 	free(far);
 }

@@ -35,11 +35,10 @@ static void begin(struct search *search, struct graph *graph)
 	int *list = room_for(graph->switches, sizeof *list);
 
 	search->best.order = room_for(graph->switches, sizeof *search->best.order);
-	if (graph->start) {
+	if (graph->start)
 		memcpy(list, graph->start, graph->switches * sizeof *list);
-	} else {
+	else
 		tried_order(graph, room, list);
-	}
 	grow(graph, list, search->best.order);
 	search->best.figures = balanced_loads(room, search->best.order);
 	free(list);
@@ -55,14 +54,14 @@ int main(int count, char **words)
 	uint64_t bound;
 	int i;
 
+	sigaction(SIGINT, &action, NULL);
+	sigaction(SIGTERM, &action, NULL);
 	if (count != 5)
 		end(USAGE, "usage: search SEED THREADS SECONDS TRIALS");
 	search.seed = strtoull(words[1], NULL, 10);
 	search.threads = atoi(words[2]);
 	search.seconds = atof(words[3]);
 	search.trials = strtoul(words[4], NULL, 10);
-	sigaction(SIGINT, &action, NULL);
-	sigaction(SIGTERM, &action, NULL);
 	read_graph(&graph);
 	begin(&search, &graph);
 	bound = least_possible(&graph);
