@@ -1,6 +1,6 @@
-/* Trials of orders by simulated annealing. The search goes in two legs. In the first one, orders are judged by their trial
-   loads; in the second one, from the best order of the first, by the loads that an audit tells. Each thread goes its own
-   way, by random numbers of its own. */
+/* Trials of orders by simulated annealing, in legs. In each, every thread goes its own way from the best order so far, by
+   random numbers of its own. Legs take turns: in one, orders are judged by their trial loads, in the next one by the loads
+   that an audit tells, which takes longer. */
 #include <math.h>
 #include <pthread.h>
 #include <stdatomic.h>
@@ -10,15 +10,16 @@
 #include <time.h>
 #include "search.h"
 
-/* NEAR is by how many positions most switches are moved at most. */
-enum { LEGS = 2, NEAR = 5 };
-/* Of this many trials one is in the second leg, where they take longer. */
-enum { TRIALS_PER_EXACT = 16 };
-/* With more adapters times switches, the second leg goes by trial loads too. */
-#define MOST_EXACT 1e6
-/* The temperature at first, as a part of what is judged, in each leg. */
-static const double heat[LEGS] = { 0.003, 0.002 };
-/* In the first leg, an order's loads are computed if its trial loads are lower than of the last such order by this. */
+/* LEGS is even. NEAR is by how many positions most switches are moved at most. Of TRIALS_PER_EXACT trials one goes by what
+   an audit tells. */
+enum { LEGS = 4, NEAR = 5, TRIALS_PER_EXACT = 16 };
+/* With more adapters times switches there is one leg alone, by trial loads. */
+#define MOST_EXACT 3e5
+/* The temperature at first, as a part of what is judged, by trial loads and by those of an audit, with at most MANY
+   switches. With more, a move changes less of what is judged. */
+static const double heat[] = { 0.003, 0.002 };
+#define MANY 100.0
+/* In a leg by trial loads, what an audit tells is computed if these are lower than of the last such order by this. */
 #define BETTER 0.99
 /* Seconds between lines of progress, and between looks whether threads have ended. */
 #define TOLD 0.5
@@ -128,10 +129,16 @@ static void draw(struct thread *thread)
 	grow(thread->search->graph, list, thread->next);
 }
 
-/* Returns what part of a leg is over after `done` trials of it. */
-static double part_over(const struct search *search, unsigned long done)
+/* Returns what part of a leg is over after `done` trials of it. If no order can be better, a thread ends; if the search
+   ends by time, all do. */
+static double part_over(const struct thread *thread, unsigned long done)
 {
-	if (is_stopped)
+	const struct search *search = thread->search;
+	int is_best = thread->best.figures.most <= search->bound;
+
+	if (is_best && !search->trials)
+		is_stopped = 1;
+	if (is_best || is_stopped)
 		return 1;
 	if (search->trials)
 		return done < search->trials_of_leg ? (double)done / search->trials_of_leg : 1;
@@ -143,16 +150,16 @@ static void *go_leg(void *argument)
 	struct thread *thread = argument;
 	struct search *search = thread->search;
 	size_t size = search->graph->switches * sizeof(int);
-	double part, energy, least;
+	double part, energy, least, heated = heat[search->leg % 2] * fmin(1, MANY / search->graph->switches);
 	unsigned long done = 0;
 	int *other;
 
 	memcpy(thread->now, search->best.order, size);
 	thread->energy = least = judge(thread, thread->now);
-	for (; (part = part_over(search, done)) < 1; done++, trials++) {
+	for (; (part = part_over(thread, done)) < 1; done++, trials++) {
 		draw(thread);
 		energy = judge(thread, thread->next);
-		if (energy > thread->energy * (1 - heat[search->leg] * (1 - part) * log(drawn_part(thread))))
+		if (energy > thread->energy * (1 - heated * (1 - part) * log(drawn_part(thread))))
 			continue;
 		other = thread->now;
 		thread->now = thread->next;
@@ -205,7 +212,7 @@ static void begin_thread(struct search *search, struct thread *thread, int numbe
 	thread->random = search->seed;
 	thread->random = drawn(thread) + number;
 	thread->random = drawn(thread) + search->leg;
-	thread->is_exact = search->leg && (double)search->graph->adapters * n <= MOST_EXACT;
+	thread->is_exact = search->leg % 2;
 	thread->best.figures = search->best.figures;
 	thread->most = search->best.figures.most;
 	memcpy(thread->best.order, search->best.order, n * sizeof(int));
@@ -226,23 +233,31 @@ static void run_threads(struct search *search, struct thread *threads)
 		pthread_join(threads[i].id, NULL);
 }
 
+/* Goes a leg, and notes the best order of all threads. */
+static void run_leg(struct search *search, struct thread *threads)
+{
+	int i;
+
+	run_threads(search, threads);
+	for (i = 0; i < search->threads; i++)
+		if (is_less(&threads[i].best.figures, &search->best.figures)) {
+			search->best.figures = threads[i].best.figures;
+			memcpy(search->best.order, threads[i].best.order, search->graph->switches * sizeof(int));
+		}
+}
+
 /* Improves search->best until the time or the number of trials is over, or a signal comes. Returns the number of trials. */
 unsigned long improve(struct search *search)
 {
 	struct thread *threads = room_for(search->threads, sizeof *threads);
-	unsigned long in_second = search->trials / TRIALS_PER_EXACT;
-	int i;
+	int legs = (double)search->graph->adapters * search->graph->switches > MOST_EXACT ? 1 : LEGS;
+	unsigned long exact = legs > 1 ? search->trials / TRIALS_PER_EXACT : 0;
 
-	for (search->leg = 0; search->leg < LEGS && !is_stopped; search->leg++) {
+	for (search->leg = 0; search->leg < legs && !is_stopped && search->best.figures.most > search->bound; search->leg++) {
 		search->began = seconds();
-		search->seconds_of_leg = search->seconds / LEGS;
-		search->trials_of_leg = search->leg ? in_second : search->trials - in_second;
-		run_threads(search, threads);
-		for (i = 0; i < search->threads; i++)
-			if (is_less(&threads[i].best.figures, &search->best.figures)) {
-				search->best.figures = threads[i].best.figures;
-				memcpy(search->best.order, threads[i].best.order, search->graph->switches * sizeof(int));
-			}
+		search->seconds_of_leg = search->seconds / legs;
+		search->trials_of_leg = (search->leg % 2 ? exact : search->trials - exact) / (legs > 1 ? legs / 2 : 1);
+		run_leg(search, threads);
 	}
 	return trials;
 }

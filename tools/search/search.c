@@ -50,8 +50,6 @@ int main(int count, char **words)
 	static struct graph graph;
 	struct search search = { .graph = &graph };
 	struct sigaction action = { .sa_handler = stop_search };
-	unsigned long trials = 0;
-	uint64_t bound;
 	int i;
 
 	sigaction(SIGINT, &action, NULL);
@@ -64,12 +62,10 @@ int main(int count, char **words)
 	search.trials = strtoul(words[4], NULL, 10);
 	read_graph(&graph);
 	begin(&search, &graph);
-	bound = least_possible(&graph);
-	printf("bound %lu\n", (unsigned long)bound);
+	search.bound = least_possible(&graph);
+	printf("bound %lu\n", (unsigned long)search.bound);
 	print_figures("start", &search.best.figures);
-	if (search.best.figures.most > bound)
-		trials = improve(&search);
-	printf("trials %lu\n", trials);
+	printf("trials %lu\n", improve(&search));
 	print_figures("found", &search.best.figures);
 	printf("order");
 	for (i = 0; i < graph.switches; i++)

@@ -49,6 +49,7 @@ struct search {
 	int threads;
 	double seconds;
 	unsigned long trials; /* of each thread; if 0, the seconds count */
+	uint64_t bound; /* no order can be better than this */
 	struct order best;
 	int leg;
 	double began, seconds_of_leg;
