@@ -18,6 +18,7 @@ all:
 	./ibsm $(if $(UNPROVED),--unproved,--prove) --version
 	$(MAKE) -C tools/record
 	$(MAKE) -C tools/seat BUILD=../record/out
+	$(MAKE) -C tools/search BUILD=../record/out
 
 prove:
 	./ibsm --prove --version

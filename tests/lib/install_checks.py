@@ -35,7 +35,7 @@ def installed(room: Room, program: pathlib.Path) -> None:
     """Lays out the tree, installs it, runs it, completes commands, and uninstalls it."""
     made = room.path / "made"
     made.mkdir()
-    for name, script in (("ibsm", PROGRAM), *((name, IN_C) for name in ("record", "send", "seat"))):
+    for name, script in (("ibsm", PROGRAM), *((name, IN_C) for name in ("record", "send", "seat", "search"))):
         (made / name).write_text(script.replace("NAME", name))
         (made / name).chmod(0o755)
     (made / "ibsm.sources").write_text("0123\n")

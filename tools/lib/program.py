@@ -53,5 +53,6 @@ def the_search(named: str | None = None) -> str:
     beside = [TOOLS / "search/out/search", TOOLS / "record/out/search", TOOLS / "search"]
     found = shutil.which(named or next((path for path in beside if path.is_file()), ""))
     if not found:
-        raise OSError(f"there is no program {named or 'search'}: make -C tools/search makes it, or name one by --search")
+        lacks = named or "search"
+        raise OSError(f"there is no program {lacks}: make -C tools/search makes it, or name one by --search")
     return found

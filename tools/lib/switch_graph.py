@@ -1,4 +1,4 @@
-"""The usable switches of a subnet and the wires between them, by indices in ascending order of GUID, and ORDER texts."""
+"""The usable switches of a subnet and the wires between them, by indices in order of GUID; and ORDER texts."""
 from __future__ import annotations
 
 import os
@@ -29,8 +29,9 @@ class SwitchGraph:
     def text(self, start: Iterable[int] | None = None) -> str:
         """Returns the graph as the program `search` reads it, with the switches in the order to start with, if there is
         one."""
-        is_last = int(self.guids[:1] == [0])
-        rows = [(len(self.guids), is_last), (len(self.channels),), *self.channels, (len(self.adapters),), *self.adapters]
+        rows = [(len(self.guids), int(self.guids[:1] == [0]))]
+        for part in self.channels, self.adapters:
+            rows += [(len(part),), *part]
         rows += [(0,)] if start is None else [(1,), tuple(start)]
         return "".join(" ".join(map(str, row)) + "\n" for row in rows)
 

@@ -1,6 +1,6 @@
-/* Trials of orders by simulated annealing, in legs. In each, every thread goes its own way from the best order so far, by
-   random numbers of its own. Legs take turns: in one, orders are judged by their trial loads, in the next one by the loads
-   that an audit tells, which takes longer. */
+/* Trials of orders by simulated annealing, in legs. In each, every thread goes its own way from the best order so
+   far, by random numbers of its own. Legs take turns: in one, orders are judged by their trial loads, in the next
+   one by the loads that an audit tells, which takes longer. */
 #include <math.h>
 #include <pthread.h>
 #include <stdatomic.h>
@@ -10,8 +10,8 @@
 #include <time.h>
 #include "search.h"
 
-/* LEGS is even. NEAR is by how many positions most switches are moved at most. Of TRIALS_PER_EXACT trials one goes by what
-   an audit tells. */
+/* LEGS is even. NEAR is by how many positions most switches are moved at most. Of TRIALS_PER_EXACT trials one goes
+   by what an audit tells. */
 enum { LEGS = 4, NEAR = 5, TRIALS_PER_EXACT = 16 };
 /* With more adapters times switches there is one leg alone, by trial loads. */
 #define MOST_EXACT 3e5
@@ -129,8 +129,8 @@ static void draw(struct thread *thread)
 	grow(thread->search->graph, list, thread->next);
 }
 
-/* Returns what part of a leg is over after `done` trials of it. If no order can be better, a thread ends; if the search
-   ends by time, all do. */
+/* Returns what part of a leg is over after `done` trials of it. If no order can be better, a thread ends; if the
+   search ends by time, all do. */
 static double part_over(const struct thread *thread, unsigned long done)
 {
 	const struct search *search = thread->search;
@@ -246,14 +246,17 @@ static void run_leg(struct search *search, struct thread *threads)
 		}
 }
 
-/* Improves search->best until the time or the number of trials is over, or a signal comes. Returns the number of trials. */
+/* Improves search->best until the time or the number of trials is over, or a signal comes. Returns the number of
+   trials. */
 unsigned long improve(struct search *search)
 {
 	struct thread *threads = room_for(search->threads, sizeof *threads);
 	int legs = (double)search->graph->adapters * search->graph->switches > MOST_EXACT ? 1 : LEGS;
 	unsigned long exact = legs > 1 ? search->trials / TRIALS_PER_EXACT : 0;
 
-	for (search->leg = 0; search->leg < legs && !is_stopped && search->best.figures.most > search->bound; search->leg++) {
+	for (search->leg = 0; search->leg < legs; search->leg++) {
+		if (is_stopped || search->best.figures.most <= search->bound)
+			break;
 		search->began = seconds();
 		search->seconds_of_leg = search->seconds / legs;
 		search->trials_of_leg = (search->leg % 2 ? exact : search->trials - exact) / (legs > 1 ? legs / 2 : 1);

@@ -20,8 +20,8 @@ static uint64_t least_into(const struct graph *graph, int s, uint64_t joined)
 	return part_up((joined - graph->adapters_at[s]) * graph->adapters_at[s], wires);
 }
 
-/* Returns what the busiest channel carries at least: the mean over channels if all packets take shortest routes, or the
-   mean over the wires of a switch. */
+/* Returns what the busiest channel carries at least: the mean over channels if all packets take shortest routes,
+   or the mean over the wires of a switch. */
 uint64_t least_possible(const struct graph *graph)
 {
 	int n = graph->switches, s, t, *far = room_for(n, sizeof *far);

@@ -77,8 +77,8 @@ void read_graph(struct graph *graph)
 	}
 }
 
-/* Writes to `far` the number of wires to each switch from the nearest of those that have 0 there, or -1 if no wires lead
-   to it. */
+/* Writes to `far` the number of wires to each switch from the nearest of those that have 0 there, or -1 if no
+   wires lead to it. */
 static void measure(const struct graph *graph, int *far)
 {
 	int i, s, c, to, count = 0, *waiting = room_for(graph->switches, sizeof *waiting);

@@ -15,21 +15,21 @@ struct wire {
 /* What is counted in. A word has a bit for each of the GROUP targets that are labelled together. */
 struct room {
 	const struct graph *graph;
-	/* The graph by position: of each its first wire (then the number of wires), adapters, level and weight; the wires;
-	   and where each switch is. Then the positions that have adapters, which are the targets. */
+	/* The graph by position: of each its first wire (then the number of wires), adapters, level and weight;
+	   the wires; and where each switch is. Then the positions that have adapters, which are the targets. */
 	int *first, *sent, *level, *weight, *position, *targets, targets_count;
 	struct wire *wires;
-	/* Of each position the targets towards which it has a label, got one in this round or the last one, and has the
-	   label Up; of each wire those towards which it is a candidate. */
+	/* Of each position the targets towards which it has a label, got one in this round or the last one, and
+	   has the label Up; of each wire those towards which it is a candidate. */
 	uint64_t *known, *fresh, *last, *up, *marks;
-	/* The candidates towards one target: of each position its first (then their number), and whether one leads to a
-	   higher level; and the positions that have any, each after those that its candidates lead to. */
+	/* The candidates towards one target: of each position its first (then their number), and whether one leads
+	   to a higher level; and the positions that have any, each after those that its candidates lead to. */
 	int *first_exit, *in_turn, count;
 	struct wire *exits;
 	char *leads_higher;
-	/* By channel: loads, and the loads that an audit counts. By position, and for trials also by target: packets on
-	   their way. By position: the wire that it takes to the adapter whose choices are made. By adapter and position: the
-	   number of the candidate chosen. */
+	/* By channel: loads, and the loads that an audit counts. By position, and for trials also by target:
+	   packets on their way. By position: the wire that it takes to the adapter whose choices are made. By
+	   adapter and position: the number of the candidate chosen. */
 	uint64_t *loads, *counted, *packets;
 	struct wire *taken;
 	uint8_t *choices;
@@ -66,9 +66,10 @@ struct room *room_of(const struct graph *graph)
 void free_room(struct room *room)
 {
 	void *parts[] = {
-		room->first, room->sent, room->level, room->weight, room->position, room->targets, room->wires, room->known,
-		room->fresh, room->last, room->up, room->marks, room->first_exit, room->in_turn, room->exits,
-		room->leads_higher, room->loads, room->counted, room->packets, room->taken, room->choices, room,
+		room->first, room->sent, room->level, room->weight, room->position, room->targets, room->wires,
+		room->known, room->fresh, room->last, room->up, room->marks, room->first_exit, room->in_turn,
+		room->exits, room->leads_higher, room->loads, room->counted, room->packets, room->taken,
+		room->choices, room,
 	};
 	size_t i;
 
@@ -132,7 +133,8 @@ static int label_at(struct room *room, int p)
 	return room->fresh[p] != 0;
 }
 
-/* Labels the positions towards a group of targets, of which `first` is the first. Returns how many targets that are. */
+/* Labels the positions towards a group of targets, of which `first` is the first. Returns how many targets that
+   are. */
 static int label(struct room *room, int first)
 {
 	size_t n = room->graph->switches, size = n * sizeof(uint64_t);
@@ -342,7 +344,8 @@ static void count_lids(struct room *room, int s)
 			count_packets(room, room->choices + (size_t)i * graph->switches, room->counted, graph->lids[i]);
 }
 
-/* Makes the choices of a round for all adapters or, if `round` is ROUNDS, counts loads by the choices as an audit does. */
+/* Makes the choices of a round for all adapters or, if `round` is ROUNDS, counts loads by the choices as an audit
+   does. */
 static void go_round(struct room *room, const int *order, int round)
 {
 	int first, count, k, s;

@@ -35,8 +35,8 @@ static int take_least(struct heap *heap)
 	return least;
 }
 
-/* Writes to `grown` the switches in the order that grows as `list` has them. A switch that no text can name is taken to
-   be the last of the list. */
+/* Writes to `grown` the switches in the order that grows as `list` has them. A switch that no text can name is
+   taken to be the last of the list. */
 void grow(const struct graph *graph, const int *list, int *grown)
 {
 	int n = graph->switches, i, s, c, count = 0, at = 0;
@@ -97,15 +97,21 @@ static int class_of(const struct graph *graph, const int *far)
 	return count ? 4 * sum / count : 0;
 }
 
-/* Notes in the keys of a component, to which switch `s` belongs, how far its switches are from the first of it. `far` is
-   written over. */
+/* Returns whether a switch comes before another one as the first of its component. */
+static int is_nearer(const struct key *one, const struct key *other)
+{
+	return one->class < other->class || (one->class == other->class && one->index < other->index);
+}
+
+/* Notes in the keys of a component, to which switch `s` belongs, how far its switches are from the first of it.
+   `far` is written over. */
 static void measure_component(const struct graph *graph, int s, struct key *keys, int *far)
 {
 	int t, first = s;
 
 	distances(graph, s, far);
 	for (t = 0; t < graph->switches; t++)
-		if (far[t] >= 0 && (keys[t].class < keys[first].class || (keys[t].class == keys[first].class && t < first)))
+		if (far[t] >= 0 && is_nearer(&keys[t], &keys[first]))
 			first = t;
 	distances(graph, first, far);
 	for (t = 0; t < graph->switches; t++)
@@ -133,8 +139,8 @@ static void list_by_keys(const struct graph *graph, int *list)
 	free(far);
 }
 
-/* How an order by depth grows: the ranks of switches by key, whether greater ones come first, the placed switches, and of
-   each switch how many wires it has to placed ones, or -1 if it is placed. */
+/* How an order by depth grows: the ranks of switches by key, whether greater ones come first, the placed switches,
+   and of each switch how many wires it has to placed ones, or -1 if it is placed. */
 struct depth {
 	const struct graph *graph;
 	const int *rank;

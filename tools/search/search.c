@@ -1,6 +1,7 @@
 /*
- * search: looks for an order of switches by which the plan of `ibsm plan --routing balance` has a less busy busiest
- * channel. tools/find-order runs it: it reads the graph of switches from standard input, and prints lines for that tool.
+ * search: looks for an order of switches by which the busiest channel of the plan of `ibsm plan --routing balance`
+ * carries less. tools/find-order runs it. It reads the graph of switches from standard input, and prints lines for
+ * that tool.
  */
 #include <signal.h>
 #include <stdarg.h>

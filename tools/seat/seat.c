@@ -38,7 +38,7 @@ static const char usage_text[] =
 "  -l, --lmc N            an adapter's port has 2^N LIDs, 0 to 7 (0)\n"
 "  -R, --routing RULE     the rule of routing, as of `ibsm plan` (updown)\n"
 "  -f, --roots FILE       with spread: the switches from which it counts distances\n"
-"  -o, --order FILE       with spread: the order by which it grows\n"
+"  -o, --order FILE       with spread or balance: the order by which it grows\n"
 "  -i, --ibsm PROGRAM     the program; else that of this checkout or beside this one, or ibsm on the path\n"
 "  -s, --sweep S          as master, a sweep each S seconds, 0 for none but by traps and SIGHUP (10)\n"
 "  -m, --poll MS          as standby, the master is polled each MS milliseconds (1000)\n"
