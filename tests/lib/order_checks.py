@@ -124,18 +124,21 @@ def searches_repeated(room: Room) -> None:
 
 def searches_refused(room: Room) -> None:
     """Checks which orders, facts and options are refused."""
+    fabric = make.triangle()
+    facts = fabric.facts()
+    room.put(o_facts=facts, o_cut=facts[:-3], o_plan=fabric.plan(fabric.shortest()))
     for text, why in ORDERS:
         room.put(bad_order=text)
-        room.refused(f"find-order t.facts {QUICK} --from bad.order", why)
-    room.refused(f"find-order t.plan {QUICK}", "line 1 is no fact")
-    room.refused(f"find-order cut.facts {QUICK}", "is it cut?")
+        room.refused(f"find-order o.facts {QUICK} --from bad.order", why)
+    room.refused(f"find-order o.plan {QUICK}", "line 1 is no fact")
+    room.refused(f"find-order o.cut {QUICK}", "is it cut?")
     room.refused(f"find-order nothing {QUICK}", "nothing", 4)
-    room.refused(f"find-order t.facts {QUICK} --from nothing", "nothing", 4)
-    room.refused(f"find-order t.facts {QUICK} -o nowhere/order", "nowhere", 4)
-    room.refused("find-order t.facts --search ./nothing", "no program ./nothing", 4)
-    room.refused(f"find-order t.facts {QUICK} --ibsm ./nothing", "no program ./nothing", 4)
+    room.refused(f"find-order o.facts {QUICK} --from nothing", "nothing", 4)
+    room.refused(f"find-order o.facts {QUICK} -o nowhere/order", "nowhere", 4)
+    room.refused("find-order o.facts --search ./nothing", "no program ./nothing", 4)
+    room.refused(f"find-order o.facts {QUICK} --ibsm ./nothing", "no program ./nothing", 4)
     for words in ("", "--seconds one", "--trials 0", "--seconds 1 --trials 1", "--threads 0", "--sing"):
-        room.run(f"find-order {'t.facts ' if words else ''}{words}", 2)
+        room.run(f"find-order {'o.facts ' if words else ''}{words}", 2)
 
 
 def signal_sent(room: Room) -> None:
