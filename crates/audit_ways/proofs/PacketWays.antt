@@ -26,16 +26,16 @@ use Rattle.audit_ways.proofs.Walked.{no_channel, one_channel}
 -- the first that passes -----------------------------------------------------------------------------
 
 module _ {X Y : Type 0} (f : X → Y) (p : Y → Bool) where
-  same_place : (xs : List X) → position_or_len p (map f xs) ≡ position_or_len (λ x. p (f x)) xs
-  same_place = is_position_or_len (λ xs. position_or_len p (map f xs)) (λ x. p (f x)) refl
+  same_index : (xs : List X) → position_or_len p (map f xs) ≡ position_or_len (λ x. p (f x)) xs
+  same_index = is_position_or_len (λ xs. position_or_len p (map f xs)) (λ x. p (f x)) refl
       (λ x xs. elim (p (f x)) as (λ t. cond (not t) (1 + position_or_len p (map f xs)) 0 ≡ cond t 0 (1 + position_or_len p (map f xs))) [
         | true ↦ refl
         | false ↦ refl
       ])
 
-  place_of : (b : Bool) (n i : ℕ) → cond b (Some n) None ≡ Some i → n ≡ i
-  place_of true n i e = same_Some n i e
-  place_of false n i e = absurd (cc)
+  number_there : (b : Bool) (n i : ℕ) → cond b (Some n) None ≡ Some i → n ≡ i
+  number_there true n i e = same_Some n i e
+  number_there false n i e = absurd (cc)
 
   pub found_there : (xs : List X) (i : ℕ) (d : Y) → position p (map f xs) ≡ Some i
       → (x : X) × (find (λ y. p (f y)) xs ≡ Some x) × (slice_get xs i ≡ Some x)
@@ -43,21 +43,21 @@ module _ {X Y : Type 0} (f : X → Y) (p : Y → Bool) where
       let less = (position-Some p (map f xs) i d e).0 in
       let long = length-map xs f in
       let within : i < length xs = omega (arith, less, long) in
-      let at : position_or_len (λ x. p (f x)) xs ≡ i = sym (same_place xs) ∙ place_of _ _ i e in
+      let at : position_or_len (λ x. p (f x)) xs ≡ i = sym (same_index xs) ∙ number_there _ _ i e in
       elim (slice_get_cases xs i).1 [
         | inl h ↦ (h.0, find_at (λ x. p (f x)) xs ∙ ap (slice_get xs) at ∙ h.2, h.2)
         | inr h ↦ (let past = h.0 in absurd (omega (arith, past, within)))
       ]
 
-  unplaced : (b : Bool) (n : ℕ) → cond b (Some n) None ≡ None → b ≡ false
-  unplaced true n e = absurd (cc)
-  unplaced false n e = refl
+  not_there : (b : Bool) (n : ℕ) → cond b (Some n) None ≡ None → b ≡ false
+  not_there true n e = absurd (cc)
+  not_there false n e = refl
 
   pub found_nowhere : (xs : List X) → position p (map f xs) ≡ None → find (λ y. p (f y)) xs ≡ None
   found_nowhere xs e =
       let long = length-map xs f in
-      let same = same_place xs in
-      let past = ltb-false (position_or_len p (map f xs)) (length (map f xs)) (unplaced _ _ e) in
+      let same = same_index xs in
+      let past = ltb-false (position_or_len p (map f xs)) (length (map f xs)) (not_there _ _ e) in
       find_at (λ x. p (f x)) xs ∙ slice_get_past xs (position_or_len (λ x. p (f x)) xs) (omega (arith, long, same, past))
 
 -- the end port ---------------------------------------------------------------------------------------
@@ -79,9 +79,9 @@ end_at cells held lid ends i e h at =
     end_of end is = (ends_are_found cells held lid e end).0 (h.brought i e end at is)
 
 -- its index among the senders
-pub place_among : (cells : Cells) (sources : List Sender) (e : EndPort) (r : Option ℕ) → sources ≡ map (sender_of cells) (end_ports cells)
+pub index_among : (cells : Cells) (sources : List Sender) (e : EndPort) (r : Option ℕ) → sources ≡ map (sender_of cells) (end_ports cells)
     → r ≡ position (is_port e) sources → position (is_port e) (map (sender_of cells) (end_ports cells)) ≡ r
-place_among cells sources e r all is = sym (is ∙ ap (λ (xs : List Sender). position (is_port e) xs) all)
+index_among cells sources e r all is = sym (is ∙ ap (λ (xs : List Sender). position (is_port e) xs) all)
 
 -- the end port as a sender
 pub source_is : (cells : Cells) (sources : List Sender) (i : ℕ) (source : Sender) (e : EndPort) → sources ≡ map (sender_of cells) (end_ports cells)
