@@ -14,6 +14,11 @@ PORT = "([0-9a-f]{16}/[0-9]{1,3})"
 RATE = r"\d+x [A-Z]+ [0-9.]+ Gb/s"
 KINDS = ("lost", "misdelivered", "round", "unowned", "twice", "unknown", "tableless", "unusable", "lidless", "unjoined")
 MISSED = ("above-top", "no-entry", "no-port", "no-link", "foreign", "misdelivered", "round")
+LOSSES = "above top|no entry|no such port|no link"
+# The head of the line of a packet's way: its sender, its LID and its channels.
+WAY = rf"way {PORT} {NUMBER}((?: [0-9a-f]{{16}}/[0-9]{{1,3}})*)"
+# The line of a credit loop, with the method that takes it.
+LOOP = rf"credit loop (?:none|on one lane ({PORT}(?: {PORT})*))", "loop"
 # A name after a GUID or an end.
 NAMED = re.compile(r'(?<![0-9A-Za-z_"])((?:0x)?([0-9a-f]{16})(?:/[0-9]{1,3})?) "([^"]*)"')
 
@@ -108,14 +113,22 @@ class TablesRead(Rules):
         return {"lids": self.lids, "switches": self.switches}
 
 
+def ending(at: str | None, entry: str | None, cause: str | None) -> dict[str, str | int]:
+    """Returns where and why a packet ends, as far as its line tells."""
+    told = {"at": at, "entry": int(entry) if entry else None, "cause": cause}
+    return {name: value for name, value in told.items() if value is not None}
+
+
 class AuditRead(Rules):
     """A reader of an audit."""
 
     rules = (
+        # Of a large subnet most lines are of channels.
+        (rf"channel {PORT} load {NUMBER}", "channel"),
         (rf"()pairs {NUMBER} arrive {NUMBER}", "pairs"),
         (rf"(between adapters|with a switch) pairs {NUMBER} arrive {NUMBER}", "pairs"),
         ("missed " + " ".join(f"{cause} {NUMBER}" for cause in MISSED), "missed"),
-        (rf"(lost) {PORT} {NUMBER} at {GUID} by {NUMBER}: (above top|no entry|no such port|no link)", "lost"),
+        (rf"(lost) {PORT} {NUMBER} at {GUID} by {NUMBER}: ({LOSSES})", "lost"),
         (rf"(lost) {PORT} {NUMBER} at {GUID}()(?:: (foreign port))", "lost"),
         (rf"(misdelivered) {PORT} {NUMBER} at {PORT}", "lost"),
         (rf"(round) {PORT} {NUMBER}", "lost"),
@@ -125,12 +138,21 @@ class AuditRead(Rules):
         (rf"more ({'|'.join(KINDS)}) {NUMBER}", "more"),
         (rf"(disputed) {NUMBER}", "count"),
         (r"(hops|load) (?:none|max (\d+) mean (\d+\.\d+))", "spread"),
-        (rf"credit loop (?:none|on one lane ({PORT}(?: {PORT})*))", "loop"),
+        (rf"{WAY} (taken) at {PORT}", "went"),
+        (rf"{WAY} (lost) at {GUID} by {NUMBER}: ({LOSSES})", "went"),
+        (rf"{WAY} (lost) at {GUID}()(?:: (foreign port|no link))", "went"),
+        (rf"{WAY} (round)", "went"),
+        (rf"way {PORT} {NUMBER}()(): no end port", "went"),
+        LOOP,
     )
 
     def __init__(self) -> None:
         self.told, self.counts, self.spreads, self.cycle = {}, {"disputed": 0}, {}, None
         self.found, self.others = {kind: [] for kind in KINDS}, {}
+        self.loads, self.way = {}, None
+
+    def channel(self, end: str, load: str) -> None:
+        self.loads[end] = int(load)
 
     def pairs(self, which: str, pairs: str, arrive: str) -> None:
         self.told[which.replace(" ", "_")] = {"pairs": int(pairs), "arrive": int(arrive)}
@@ -141,8 +163,14 @@ class AuditRead(Rules):
     def lost(
         self, kind: str, start: str, lid: str, at: str | None = None, entry: str | None = None, cause: str | None = None
     ) -> None:
-        told = {"from": start, "lid": int(lid), "at": at, "entry": int(entry) if entry else None, "cause": cause}
-        self.found[kind].append({name: value for name, value in told.items() if value is not None})
+        self.found[kind].append({"from": start, "lid": int(lid)} | ending(at, entry, cause))
+
+    def went(
+        self, start: str, lid: str, channels: str, end: str | None, at: str | None = None, entry: str | None = None,
+        cause: str | None = None,
+    ) -> None:
+        told = {"from": start, "lid": int(lid), "channels": channels.split(), "end": end or None}
+        self.way = told | ending(at, entry, cause)
 
     def held(self, kind: str, lid: str, end: str) -> None:
         self.found[kind].append({"lid": int(lid), "end": end})
@@ -177,14 +205,15 @@ class AuditRead(Rules):
     def value_of_text(self) -> dict[str, Any]:
         told = {"passes": self.passes()} | self.told[""]
         told |= {name: self.told[name] for name in ("between_adapters", "with_a_switch", "missed")}
-        return told | self.found | {"more": self.others} | self.counts | self.spreads | {"credit_loop": self.cycle}
+        told |= self.found | {"more": self.others} | self.counts | self.spreads | {"credit_loop": self.cycle}
+        return told | {"loads": [{"channel": end, "load": load} for end, load in self.loads.items()], "way": self.way}
 
 
 class NextRead(Rules):
     """A reader of what `ibsm next` says of a step."""
 
     rules = (
-        AuditRead.rules[-1],
+        LOOP,
         (r"lids (\d+(?: \d+)*)", "waiting"),
         (r"order ((?:0x[0-9a-f]{16})(?: 0x[0-9a-f]{16})*)", "by_order"),
     )
@@ -298,7 +327,7 @@ class WhatIfRead(Rules):
         (rf" *(\d+) +(\d+) +(\d+) +(\d+) +(\d+)  {PORT} - {PORT}, {PORT} - {PORT}", "row"),
         (rf" *(\d+) +(\d+) +(\d+) +(\d+) +(\d+)  {GUID}", "switch"),
         (
-            r"(\d+) (?:cables|pairs of cables|switches); without (\d+) of them no packet is lost; "
+            r"(\d+) (?:cables|pairs of cables|switches); without (\d+) of them no packet between adapters is lost; "
             r"a plan without any cut changes (\d+) entries on (\d+) switches",
             "end",
         ),
