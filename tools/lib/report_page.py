@@ -2,12 +2,12 @@
 from __future__ import annotations
 
 import html
-import json
 import pathlib
 import re
 from collections.abc import Container, Iterable, Sequence
 from typing import Any
 
+from ibsm_texts import End
 from report_picture import Picture
 
 HERE = pathlib.Path(__file__).resolve().parent
@@ -104,19 +104,36 @@ def what_if(parts: dict[str, Any]) -> str:
         )
     rows, count, harmless = parts["cuts"]
     head = ("cable", "pairs of adapters lost", "all pairs lost", "cut off", "entries", "on switches")
-    told = f"{count} cables between switches; without {harmless} of them no packet is lost."
+    told = f"{count} cables between switches; without {harmless} of them no packet between adapters is lost."
     entries = "Entries are those that a new plan changes."
     return section("What if a cable goes", paragraph(f"{told} {entries}"), table(head, rows, range(1, 6)))
 
 
-def channel_name(picture: Picture, channel: tuple[int, int]) -> str:
+def channel_name(picture: Picture, channel: End) -> str:
     """Returns a channel by the names of its switches and their ports."""
-    i, port = channel
-    far, back = picture.ends[channel], picture.routes.far[i][port][1]
-    return f"{picture.name(i)} port {port} \u2192 {picture.name(far)} port {back}"
+    (guid, port), (far, back) = channel, picture.ends[channel]
+    return f"{picture.name(guid)} port {port} \u2192 {picture.name(far)} port {back}"
 
 
-def share(picture: Picture, channel: tuple[int, int]) -> float:
+def hundredths(total: int, count: int) -> str:
+    """Returns a mean with two digits after the point, cut off as in an audit."""
+    return f"{total // count}.{100 * total // count % 100:02}"
+
+
+def times_mean(picture: Picture, channel: End) -> str:
+    """Returns how many times the mean a channel carries."""
+    total = sum(picture.loads.values())
+    return hundredths(picture.loads[channel] * len(picture.loads), total) if total else "0"
+
+
+def load_told(picture: Picture, channel: End) -> str:
+    """Returns what a click on a channel tells: what it carries, and how many times the mean that is."""
+    load, mean = picture.loads[channel], hundredths(sum(picture.loads.values()), len(picture.loads))
+    more = f", {times_mean(picture, channel)} times the mean of {mean}" if load else ""
+    return f"{channel_name(picture, channel)}: {load} pairs{more}"
+
+
+def share(picture: Picture, channel: End) -> float:
     """Returns a channel's load as a part of the busiest one's, from 0 to 1."""
     most = max(picture.loads.values(), default=0)
     return picture.loads[channel] / most if most else 0
@@ -137,7 +154,8 @@ def svg(picture: Picture) -> str:
     """Returns the picture: frames, channels, switches."""
     if not picture.places:
         return paragraph("There is no switch.")
-    boxes = [(x, y, picture.width(i), 48) for i, (x, y) in picture.places.items()] + list(picture.frames.values())
+    boxes = [(x, y, picture.width(guid), 48) for guid, (x, y) in picture.places.items()]
+    boxes += picture.frames.values()
     left, right = (
         min(x - width / 2 for x, _, width, _ in boxes) - 12, max(x + width / 2 for x, _, width, _ in boxes) + 12
     )
@@ -152,12 +170,12 @@ def svg(picture: Picture) -> str:
         part, load = share(picture, channel), picture.loads[channel]
         style = f'stroke="{color(part)}" stroke-width="{1.2 + 2.4 * part:.1f}"' if load else "class=unused"
         ends = f'x1="{x:.1f}" y1="{y:.1f}" x2="{u:.1f}" y2="{v:.1f}"'
-        lines.append(f'<g data-c="{channel[0]}/{channel[1]}"><line class=hit {ends} /><line {style} {ends} />')
-        lines.append(f"<title>{escaped(channel_name(picture, channel))}: {load} pairs</title></g>")
-    for i, (x, y) in picture.places.items():
-        count, width = picture.at_home[i], picture.width(i)
+        lines.append(f'<g data-c="{short(channel)}"><line class=hit {ends} /><line {style} {ends} />')
+        lines.append(f"<title>{escaped(load_told(picture, channel))}</title></g>")
+    for guid, (x, y) in picture.places.items():
+        count, width = picture.at_home[guid], picture.width(guid)
         lines.append(box("node", x, y, width, 34))
-        lines.append(f'<text x="{x:.1f}" y="{y - 2 if count else y + 4:.1f}">{escaped(picture.name(i))}</text>')
+        lines.append(f'<text x="{x:.1f}" y="{y - 2 if count else y + 4:.1f}">{escaped(picture.name(guid))}</text>')
         if count:
             lines.append(
                 f'<text class=count x="{x:.1f}" y="{y + 11:.1f}">{count} adapter{"" if count == 1 else "s"}</text>'
@@ -165,28 +183,30 @@ def svg(picture: Picture) -> str:
     return "".join(lines) + "</svg>"
 
 
+def short(channel: End) -> str:
+    """Returns a channel as the page's script names it."""
+    return f"{channel[0]:x}/{channel[1]}"
+
+
 def picture_section(parts: dict[str, Any]) -> str:
     """Returns the section with the picture, its legend and the busiest channels."""
     picture = parts["picture"]
-    data = picture.data()
     told = "Each line is a channel: a cable between switches, taken one way. "
     told += "Its colour tells how many pairs of adapters send over it."
     if picture.is_part:
-        told += f" Of {len(picture.routes.guids)} switches those around the busiest channel are shown."
+        told += f" Of {len(picture.switches)} switches those around the busiest channel are shown."
     most = max(picture.loads.values(), default=0)
     legend = f"<p class=legend><span>0</span><i></i><span>{most} pairs</span></p>"
-    asks = (
-        "Choose a channel, in the picture or in the table."
-        if data
-        else "The tables are too large to be followed on this page."
-    )
-    head = ("channel", "pairs")
     rows = [
         (
-            Raw(f'<button data-c="{i}/{port}">{escaped(channel_name(picture, (i, port)))}</button>'),
-            picture.loads[i, port],
+            Raw(
+                f'<button data-c="{short(it)}" data-told="{escaped(load_told(picture, it))}">'
+                f"{escaped(channel_name(picture, it))}</button>"
+            ),
+            picture.loads[it],
+            times_mean(picture, it),
         )
-        for i, port in picture.busiest
+        for it in picture.busiest
     ]
     unused = sum(not load for load in picture.loads.values())
     return section(
@@ -194,23 +214,22 @@ def picture_section(parts: dict[str, Any]) -> str:
         paragraph(told),
         legend,
         f"<div class=wide>{svg(picture)}</div>",
-        f'<p id=told aria-live=polite data-agrees="">{asks}</p>',
+        "<p id=told aria-live=polite>Choose a channel, in the picture or in the table.</p>",
         "<h3>The busiest channels</h3>",
-        table(head, rows, (1,)),
+        table(("channel", "pairs", "times the mean"), rows, (1, 2)),
         paragraph(f"{unused} of {len(picture.loads)} channels carry nothing."),
-        f"<script type=application/json id=data>{as_script(data)}</script>" if data else "",
+        paragraph(WHO_SENDS),
     )
 
 
-def as_script(value: object) -> str:
-    """Returns a value as JSON that cannot contain the end tag of a script."""
-    return json.dumps(value, separators=(",", ":")).replace("<", "\\u003c")
-
-
+WHO_SENDS = Raw(
+    "Who sends over a channel is not on this page. <code>ibsm audit --way G/p,L TABLES FILE..</code> prints the way of "
+    "the packet from port p of node G to the LID L, channel by channel, and <code>draw --way</code> draws it."
+)
 PROVED = {
     True: "The program that printed the audit says that it is proved: then what the audit says of these facts and "
-    "tables is so (docs/PROVED.md has the theorems), of unicast, on one virtual lane, with agents that do what "
-    "docs/FORMATS.md says.",
+    "tables, also of what each channel carries, is so (docs/PROVED.md has the theorems), of unicast, on one virtual "
+    "lane, with agents that do what docs/FORMATS.md says.",
     False: "The program that printed the audit was compiled without its proofs: nothing on this page is proved.",
     None: "The program that printed the audit does not tell whether it is proved. If it is, what the audit says of "
     "these facts and tables is so, of unicast, on one virtual lane, with agents that do what docs/FORMATS.md says.",
@@ -219,14 +238,11 @@ PROVED = {
 
 def proved(parts: dict[str, Any]) -> str:
     """Returns the section on what of the page is proved and what is not."""
-    agrees = "THE COUNTS DIFFER: the busiest channel or the mean is another one by this page than by the audit"
-    if parts["agrees"]:
-        agrees = "The busiest channel and the mean are the same by both counts"
     rows = (
         "That the subnet answered truly, and is still as it was recorded. An audit speaks of the recording.",
-        "The picture, what channels carry, and what a cut loses: counted by tools that are tested, not proved. "
-        f"{agrees}.",
-        "Names, changes, and how this page reads the audit.",
+        "That the facts without a cable are what would be left of the subnet: a tool makes them for the same program, "
+        "and is tested, not proved.",
+        "The picture, names, changes, and how this page reads what the program prints.",
         "What else loses packets: multicast, adaptive routing, several virtual lanes, full buffers, faults of "
         "hardware.",
     )
