@@ -6,7 +6,7 @@ from collections.abc import Callable, Collection, Mapping
 
 from built_program import check
 from ibsm_texts import End, end_in
-from routes import Channel, Routes
+from packet_routes import Channel, Routes
 
 
 def followers(ways: Routes) -> dict[Channel, set[Channel]]:
