@@ -89,8 +89,8 @@ def ranges_planned(room: Room) -> None:
     """Checks that what-if plans without a cable by the LMC of the tables. Switches have none."""
     for lmc in 0, 1, 3:
         plan = triangle_plan(8, 16, lmc)[2]
-        room.put(lmc_plan=plan, fake_plan=plan, fake=FAKE, calls="")
-        (room.path / "fake").chmod(0o755)
+        room.put(lmc_plan=plan, fake_plan=plan, calls="")
+        room.scripts(fake=FAKE)
         room.run("what-if t.facts lmc.plan --ibsm ./fake --rows 1", 0)
         calls = room.text("calls").splitlines()
         room.check(len(calls) == 2 and all(f" --lmc {lmc} " in it for it in calls), f"plans are made under LMC {lmc}")
@@ -110,19 +110,6 @@ def parts_of_dumps(room: Room) -> None:
     room.put(low_dump="".join(parts[0]), high_dump="".join(parts[1]))
     for names in "low.dump high.dump", "high.dump low.dump":
         room.check(room.run(f"opensm-files tables t.facts {names}", 0) == whole, f"two parts of a dump, {names}")
-
-
-def means(room: Room) -> None:
-    """Checks means whose decimals end in a digit after a zero, or in zeros: 49 adapters at a switch, and one at
-    another."""
-    fabric = sample_fabrics.Fabric()
-    fabric.switches(2)
-    fabric.join("S1", "S2")
-    fabric.hosts(["S1"] * 49 + ["S2"])
-    room.put(mean_facts=fabric.facts(), mean_plan=fabric.plan(fabric.shortest()))
-    # 49 * 48 packets take two wires, and 98 take three. Each channel carries 49.
-    told = "hops max 3 mean 2.04\nload max 49 mean 49.00\nunused 0 of 2\n"
-    room.check(room.run("balance mean.facts mean.plan", 0) == told, "means with two digits behind the point")
 
 
 def written_through(room: Room) -> None:
@@ -162,7 +149,6 @@ def edges(room: Room) -> None:
         largest_picture,
         ranges_planned,
         parts_of_dumps,
-        means,
         written_through,
     ):
         part(room)

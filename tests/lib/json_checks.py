@@ -3,6 +3,7 @@ from __future__ import annotations
 
 import json
 
+from tool_checks import FAKE
 from tool_room import Room
 
 ONE, TWO, THREE, HOST, OTHER = (f"{guid:016x}" for guid in (0x10, 0x20, 0x30, 0x100, 0x200))
@@ -88,6 +89,7 @@ SOUND_VALUE = {
     "hops": {"max": 3, "mean": 3.0},
     "load": {"max": 1, "mean": 0.33},
     "credit_loop": [],
+    **{"loads": [], "way": None},
 }
 UNSOUND_VALUE = {
     **{"form": "audit", "passes": False, "pairs": 25, "arrive": 9},
@@ -112,7 +114,22 @@ UNSOUND_VALUE = {
     "hops": None,
     "load": None,
     "credit_loop": [f"{ONE}/1", f"{TWO}/2", f"{THREE}/1"],
+    **{"loads": [], "way": None},
 }
+LOADS = f"channel {ONE}/1 load 0\nchannel {ONE}/2 load 17\n"
+LOADS_VALUE = [{"channel": f"{ONE}/1", "load": 0}, {"channel": f"{ONE}/2", "load": 17}]
+# The line of a way, and its value behind `from` and `lid`.
+WAYS = (
+    (f"{ONE}/1 {TWO}/3 taken at {OTHER}/1", {"channels": [f"{ONE}/1", f"{TWO}/3"], "end": "taken", "at": f"{OTHER}/1"}),
+    (f"taken at {HOST}/1", {"channels": [], "end": "taken", "at": f"{HOST}/1"}),
+    (
+        f"{ONE}/1 lost at {TWO} by 255: above top",
+        {"channels": [f"{ONE}/1"], "end": "lost", "at": TWO, "entry": 255, "cause": "above top"},
+    ),
+    (f"lost at {OTHER}: foreign port", {"channels": [], "end": "lost", "at": OTHER, "cause": "foreign port"}),
+    (f"lost at {HOST}: no link", {"channels": [], "end": "lost", "at": HOST, "cause": "no link"}),
+    (f"{ONE}/1 {TWO}/3 round", {"channels": [f"{ONE}/1", f"{TWO}/3"], "end": "round"}),
+)
 CHANGED = f"""gone node {HOST} ca 1
 other node {THREE} switch 4 > switch 5
 gone cable {ONE}/1 {TWO}/1
@@ -169,7 +186,7 @@ REWRITTEN_VALUE = {
 }
 CUTS = f""" adapters       all   cut off   entries  switches  cable
         2         8         0         3         2  {TWO}/2 "leaf" - {THREE}/2
-5 cables; without 1 of them no packet is lost; a plan without any cut changes 7 entries on 6 switches
+5 cables; without 1 of them no packet between adapters is lost; a plan without any cut changes 7 entries on 6 switches
 """
 CUTS_VALUE = {
     "form": "what-if",
@@ -199,6 +216,16 @@ TEXTS = (
     ("tables", TABLES[TABLES.index("switch") :], TABLES_VALUE | {"lids": []}),
     ("audit", SOUND, SOUND_VALUE),
     ("audit", UNSOUND, UNSOUND_VALUE),
+    ("audit", SOUND + LOADS, SOUND_VALUE | {"loads": LOADS_VALUE}),
+    *(
+        ("audit", f"{SOUND}way {HOST}/1 7 {line}\n", SOUND_VALUE | {"way": {"from": f"{HOST}/1", "lid": 7} | value})
+        for line, value in WAYS
+    ),
+    (
+        "audit",
+        f"{SOUND}{LOADS}way {HOST}/1 7: no end port\n",
+        SOUND_VALUE | {"loads": LOADS_VALUE, "way": {"from": f"{HOST}/1", "lid": 7, "channels": [], "end": None}},
+    ),
     ("next", "credit loop none\n", {"form": "next", "credit_loop": [], "lids": [], "order": []}),
     ("next", LOOP, {"form": "next", "credit_loop": [f"{ONE}/1", f"{TWO}/2"], "lids": [3, 300], "order": []}),
     (
@@ -304,6 +331,8 @@ def faults(room: Room) -> None:
         (SOUND.replace("load max 1", "load min 1"), "it", "it: line 6 is no line of a text of audit: load min"),
         (SOUND.replace("round 0", "round 0y"), "it", "line 4 is no line of a text of audit"),
         (UNSOUND.replace("no such port", "no port"), "it", "line 5 is no line of a text of audit"),
+        (f"{SOUND}channel {ONE}/1 load\n", "it", "line 8 is no line of a text of audit"),
+        (f"{SOUND}way {HOST}/1 7 {ONE}/1\n", "it", "line 8 is no line of a text of audit"),
         (FACTS.replace("claim", "claims"), "it", "line 10 is no line of a text of facts"),
         (FACTS + "floor 3\n", "it", "line 12 is no line"),
         (TABLES.replace("02" * 64, "02" * 63), "it", "line 4 is no line of a text of tables"),
@@ -360,8 +389,7 @@ def of_the_tools(room: Room) -> None:
         ("what-if t.facts t.plan --ibsm ./what --two", 0, "what-if"),
         ("what-if t.facts t.plan --ibsm ./what --switches --names all.names", 0, "what-if"),
     ):
-        room.put(what="#!/bin/sh\nexec cat t.plan\n")
-        (room.path / "what").chmod(0o755)
+        room.scripts(what=FAKE.replace("fake.plan", "t.plan"))
         room.put(it=room.run(words, status))
         room.check(json.loads(room.run("json it", 0))["form"] == wanted, f"json of {words}")
     facts = json.loads(room.run("json t.facts", 0))

@@ -1,6 +1,7 @@
 """What `tests/test-files` checks of pages of `tools/report`, also in a browser if there is one."""
 from __future__ import annotations
 
+import html
 import html.parser
 import pathlib
 import re
@@ -8,9 +9,11 @@ import shutil
 import subprocess
 
 import sample_fabrics
+from ibsm_texts import Facts, Plan
+from packet_routes import Routes
 from tool_room import Room
 
-# Stands in for `ibsm`: takes audits and plans from files beside it.
+# Stands in for `ibsm`: takes audits, whatever of, and plans from files beside it.
 FAKE = """#!/bin/sh
 case $1 in
 audit) cat audit.text; grep -q passes audit.ends ;;
@@ -26,6 +29,12 @@ hops max 3 mean 3.00
 load max 1 mean 0.33
 credit loop none
 """
+# The loads of the channels of the triangle, as they follow these lines.
+LOADS = "".join(
+    f"channel {guid:016x}/{port} load {int((guid, port) in ((0x20, 2), (0x30, 2)))}\n"
+    for guid in (0x10, 0x20, 0x30)
+    for port in (1, 2)
+)
 VOID = {"meta", "br", "line", "rect"}
 
 
@@ -52,19 +61,24 @@ class Balanced(html.parser.HTMLParser):
 
 
 def in_a_browser(room: Room, path: pathlib.Path) -> None:
-    """Checks the page's script in a browser: its count of the busiest channels must be that of the table."""
+    """Checks the page's script in a browser: a click on a channel, in the table or in the picture, tells its load."""
     browser = next((name for name in ("chromium", "chromium-browser", "google-chrome") if shutil.which(name)), None)
     if not browser:
         print("test-files: there is no chromium here, so no page is tried in a browser")
         return
-    words = [
-        browser, "--headless", "--no-sandbox", "--disable-gpu", "--dump-dom", f"--user-data-dir={room.path}/browser"
-    ]
-    run = subprocess.run([*words, f"file://{path}"], capture_output=True, text=True, timeout=120)
-    room.check(
-        run.stdout.count('data-agrees="true"') == 1,
-        f"the script counts what the table has: {run.stdout[-300:]}{run.stderr[-300:]}",
-    )
+    text, told = path.read_text(), re.search(r'<button data-c="(.*?)" data-told="(.*?)"', path.read_text())
+    for what in f'button[data-c="{told[1]}"]', f'g[data-c="{told[1]}"]':
+        # A click that the page makes itself, once its own script has run.
+        click = f"document.querySelector('{what}').dispatchEvent(new MouseEvent('click'))"
+        clicked = path.with_suffix(".clicked.html")
+        clicked.write_text(text.replace("</body>", f"<script>{click}</script></body>"))
+        words = [browser, "--headless", "--no-sandbox", "--disable-gpu", "--dump-dom"]
+        words += [f"--user-data-dir={room.path}/browser", f"file://{clicked}"]
+        run = subprocess.run(words, capture_output=True, text=True, timeout=120)
+        room.check(
+            f">{html.unescape(told[2])}</p>" in html.unescape(run.stdout) and 'class="chosen"' in run.stdout,
+            f"a click on {what} tells {told[2]}: {run.stdout[-300:]}{run.stderr[-300:]}",
+        )
 
 
 def checked(room: Room, name: str) -> str:
@@ -80,8 +94,8 @@ def checked(room: Room, name: str) -> str:
 def pages(room: Room) -> None:
     """Checks pages of the triangle, with a script in place of the program, pages of many switches, and what is
     refused."""
-    room.put(fake=FAKE, fake_plan=room.text("t.plan"))
-    (room.path / "fake").chmod(0o755)
+    room.scripts(fake=FAKE)
+    room.put(fake_plan=room.text("t.plan"))
     words = "report t.facts t.plan -o t.html --names all.names --ibsm ./fake"
     sound(room, words)
     not_sound(room, words)
@@ -93,7 +107,7 @@ def pages(room: Room) -> None:
 
 def sound(room: Room, words: str) -> None:
     """Checks the page of tables that pass the audit of a proved program."""
-    room.put(audit_text=SOUND, audit_ends="passes\n", version_text="commit 1\nproved\n")
+    room.put(audit_text=SOUND + LOADS, audit_ends="passes\n", version_text="commit 1\nproved\n")
     room.run(words, 0)
     text = checked(room, "t.html")
     room.check(
@@ -109,12 +123,13 @@ def sound(room: Room, words: str) -> None:
     ):
         room.check(word in text, f"the page has {word}")
     room.check(
-        text.count("<g data-c=") == 6 and "S2 port 2 \u2192 S3 port 2: 1 pairs" in text,
+        text.count("<g data-c=") == 6 and "S2 port 2 \u2192 S3 port 2: 1 pairs, 3.00 times the mean of 0.33" in text,
         "six channels, and what one carries",
     )
-    room.check(
-        "Changes since" not in text and "by both counts" in text, "no changes are asked, and both counts are one"
-    )
+    room.check("4 of 6 channels carry nothing." in text, "unused channels")
+    room.check("ibsm audit --way" in text, "how to ask who sends over one")
+    room.check("channel 0000" not in text, "the audit's lines of channels are not listed")
+    room.check("Changes since" not in text, "no changes are asked")
     in_a_browser(room, room.path / "t.html")
     room.check(room.run(words.replace("-o t.html", "-o -"), 0) == text, "on standard output")
 
@@ -133,7 +148,6 @@ def not_sound(room: Room, words: str) -> None:
         "packets that are lost on their way",
         "and 7 more",
         "nothing on this page is proved",
-        "THE COUNTS DIFFER",
     ):
         room.check(word in text, f"a page of tables that do not pass has {word}")
     room.check(
@@ -189,17 +203,19 @@ def refused(room: Room) -> None:
 
 
 def large(room: Room) -> None:
-    """Checks that up to 300 switches are drawn, in less than 2 MB, and that of more switches only those around the
+    """Checks that up to 300 switches are drawn, in less than 0.7 MB, and that of more switches only those around the
     busiest channel are."""
     for count, is_part in ((300, False), (301, True)):
         fabric = sample_fabrics.random_fabric(count, 4, 300)
         plan = fabric.plan(fabric.shortest())
         room.put(many_facts=fabric.facts(), many_plan=plan, fake_plan=plan)
+        loads = Routes(Facts(room.path / "many.facts"), Plan(room.path / "many.plan")).load_lines()
+        room.put(audit_text=SOUND + loads)
         room.run("report many.facts many.plan -o many.html --rows 3 --ibsm ./fake", 0)
         text = checked(room, "many.html")
         boxes = text.count("<rect class=node")
         room.check(
-            len(text) < 2_000_000 and (boxes == 300 if not is_part else boxes < 100),
+            len(text) < 700_000 and (boxes == 300 if not is_part else boxes < 100),
             f"{count} switches: {len(text)} bytes, {boxes} boxes",
         )
         room.check((f"Of {count} switches those around" in text) == is_part, "a part is told")

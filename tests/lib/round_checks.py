@@ -63,7 +63,10 @@ next)
     grep -q none fab/loop ;;
 audit)
     text=fab/audit
-    case $2 in */now.held) [ -f fab/audit.held ] && text=fab/audit.held ;; esac
+    case $2 in
+    */now.held) [ -f fab/audit.held ] && text=fab/audit.held ;;
+    */opensm-files-*) exec AUDITOR "$@" ;;
+    esac
     cat "$text"
     grep -q ' arrive 25$' "$text" ;;
 esac
@@ -114,8 +117,7 @@ def fake_opensm(room: Room, *words: str) -> Iterator[int]:
 def rounds(room: Room, program: pathlib.Path) -> None:
     """Checks rounds of a subnet that scripts stand in for: how each ends, and what it has written by then."""
     for name, script in (("record", FAKE_RECORD), ("ibsm", FAKE_IBSM), ("opensm", FAKE_OPENSM), ("send", FAKE_SEND)):
-        (room.path / name).write_text(script)
-        (room.path / name).chmod(0o755)
+        room.scripts(**{name: script})
     (room.path / "fab").mkdir()
     fab, ends = functools.partial(put_in_fab, room), functools.partial(check_round, room)
     fab(

@@ -3,6 +3,7 @@ from __future__ import annotations
 
 import os
 import pathlib
+import re
 import sys
 import tempfile
 import traceback
@@ -15,21 +16,30 @@ import paths
 class Room:
     """A folder to try the tools in, and their last answers."""
 
-    def __init__(self, path: pathlib.Path) -> None:
-        self.path, self.held, self.tools = path, 0, {}
+    def __init__(self, path: pathlib.Path, auditor: pathlib.Path) -> None:
+        """`auditor` is a program that audits: `ibsm`, or what stands in for it."""
+        self.path, self.auditor, self.held, self.tools = path, auditor, 0, {}
         self.status, self.out, self.said = 0, "", ""
 
     def put(self, **texts: str) -> None:
         for name, text in texts.items():
             (self.path / name.replace("_", ".")).write_text(text, encoding="utf-8")
 
+    def scripts(self, **texts: str) -> None:
+        """Writes scripts, in which AUDITOR is the program that audits."""
+        for name, text in texts.items():
+            (self.path / name).write_text(text.replace("AUDITOR", str(self.auditor)))
+            (self.path / name).chmod(0o755)
+
     def text(self, name: str) -> str:
         return (self.path / name).read_text()
 
     def run(self, words: str, want: int, stdin: str | None = None) -> str:
         """Runs a tool, and checks its exit status. A refusal must give its reasons in one line each, with the tool's
-        name."""
+        name. Tools that audit get the program for it, unless they are given one."""
         tool, *rest = words.split()
+        if " --ibsm " not in words and re.match("opensm-files write .* .|draw .*--way . *", words):
+            rest += ["--ibsm", str(self.auditor)]
         with open(
             self.path / stdin if stdin else os.devnull
         ) as given, tempfile.TemporaryFile() as out, tempfile.TemporaryFile() as said:

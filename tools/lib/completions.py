@@ -10,7 +10,7 @@ COMMANDS = {
     "join": FLOOR,
     "plan": f"{FLOOR} {PLANS}",
     "order": f"{FLOOR} {ORDERS}",
-    "audit": f"{FLOOR} --all --max-load --lanes --answers-as-asked",
+    "audit": f"{FLOOR} --all --max-load --loads --way --lanes --answers-as-asked",
     "order-of": FLOOR,
     "next": f"{FLOOR} {PLANS} --told-order --last-order",
     "run": PLANS,
