@@ -55,6 +55,8 @@ def check_tree(room: Room) -> None:
     room.prints(plan, "plan", *SPREAD, "tree")
     room.put("tree.plan", plan)
     room.prints(audit, "audit", "tree.plan", "tree")
+    way = f"{tree.adapters[0]:x}/1,{tree.lids()[1][-1]}"
+    room.prints(audit + tree.appendix(), "audit", "--loads", "--way", way, "tree.plan", "tree")
     for tables in "tree.plan", "/dev/null":
         room.prints(plan, "next", tables, "tree")
     # Overlapping parts, in two groupings.

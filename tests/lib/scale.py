@@ -318,15 +318,36 @@ class Tree:
                     pairs = self.hosts[one] * (self.hosts[other] - (one == other))
                     sums += pairs * (2 + self.steps[one][other])
                     most = max(most, 2 + self.steps[one][other])
-        # The adapters below each switch but the first, and those on the other side.
-        below = list(self.hosts)
-        for child in range(self.count - 1, 0, -1):
-            below[self.parents[child - 1]] += below[child]
-        loads = [below[child] * (adapters - below[child]) for child in range(1, self.count)] * 2
+        loads = list(self.loads().values())
         pairs = adapters * (adapters - 1)
         lines = f"hops max {most} mean {hundredths(100 * sums // pairs)}\n"
         lines += f"load max {max(loads)} mean {hundredths(100 * sum(loads) // len(loads))}\n"
         return sums, sum(loads), (audits.counted(count**2, adapters**2) + lines + "credit loop none\n").encode()
+
+
+    def loads(self) -> dict[tuple[int, int], int]:
+        """Returns the load of each channel, by the GUID and the port that it leaves by, for adapters of one port under
+        LMC 0."""
+        # The adapters below each switch but the first, and those on the other side.
+        below = list(self.hosts)
+        for child in range(self.count - 1, 0, -1):
+            below[self.parents[child - 1]] += below[child]
+        loads = [count * (len(self.ends) - count) for count in below[1:]]
+        # Each wire is that of a switch to its parent.
+        found = {(self.switches[at], port): load for load, ends in zip(loads, self.wires) for at, port in ends}
+        return dict(sorted(found.items()))
+
+    def appendix(self) -> bytes:
+        """Returns the lines of `--loads`, and of `--way` from the first adapter to the last one's LID, for adapters of
+        one port under LMC 0."""
+        lines = [f"channel {guid:016x}/{port} load {load}" for (guid, port), load in self.loads().items()]
+        (start, _, at, _), (end, _, home, _) = self.ends[0], self.ends[-1]
+        far, words = {one: other for wire in self.wires for one, other in (wire, wire[::-1])}, []
+        while at != home:
+            words.append(f"{self.switches[at]:016x}/{self.exits[at][home]} ")
+            at = far[at, self.exits[at][home]][0]
+        lines.append(f"way {start:016x}/1 {self.lids()[1][-1]} {''.join(words)}taken at {end:016x}/1")
+        return "".join(f"{line}\n" for line in lines).encode()
 
 
 def hundredths(number: int) -> str:
