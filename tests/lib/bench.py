@@ -114,10 +114,12 @@ class Bench:
         return self.run(self.room / "out/record", *words, simulated=True, **how)
 
     def files(self, *words: object) -> int:
-        return self.run(sys.executable, paths.TOOLS / "opensm-files", *words)
+        audits = ("--ibsm", self.program) if words[0] == "write" else ()
+        return self.run(sys.executable, paths.TOOLS / "opensm-files", *words, *audits)
 
     def draw(self, *words: object) -> int:
-        return self.run(sys.executable, paths.TOOLS / "draw", *words)
+        audits = ("--ibsm", self.program) if "--way" in words else ()
+        return self.run(sys.executable, paths.TOOLS / "draw", *words, *audits)
 
     def texts(self, name: str, *reports: str) -> None:
         """Writes the facts and the plan of reports."""
