@@ -16,11 +16,11 @@ from sample_fabrics import SWITCH, Fabric
 from tool_room import Room
 
 TOLD = re.compile(r"busiest channel ([0-9]+) at the start, ([0-9]+) now.*; nothing can be below ([0-9]+)\n")
-QUICK = "--trials 200 --threads 2 --search made/search"
+QUICK = "--trials 200 --threads 2 --search c/search"
 # Notes that it has begun, and then runs the search.
 SLOW = """#!/bin/sh
 : >begun
-exec made/search "$@"
+exec c/search "$@"
 """
 ORDERS = (
     ("10\n# a comment\n\n0x20 30\n", "line 4: syntax"),
@@ -115,7 +115,7 @@ def searches_repeated(room: Room) -> None:
     room.check(room.run(f"{words} --seed 4", 0) != printed, "another seed, another order")
     room.run(f"{words} --from o.order", 0)
     room.check(told(room)[0] == first[1], f"it begins with the order that it is given: {told(room)}")
-    again = room.run("find-order o.facts --seconds 0 --search made/search --no-audit --from o.order", 0)
+    again = room.run("find-order o.facts --seconds 0 --search c/search --no-audit --from o.order", 0)
     room.check(again == printed, "without time the order stays")
     room.put(some_order="0x50\n# no more\nffff\n")
     room.run(f"{words} --from some.order", 0)
@@ -165,7 +165,7 @@ def orders(room: Room, program: pathlib.Path) -> None:
     if not (shutil.which("make") and shutil.which("cc")):
         print("test-files: there is no make or C compiler here, so no search for an order is tried")
         return
-    words = [f"BUILD={room.path / 'made'}", "CFLAGS=-O2 -Wall -Wextra -Werror"]
+    words = [f"BUILD={room.path / 'c'}", "CFLAGS=-O2 -Wall -Wextra -Werror"]
     made = subprocess.run(["make", "-s", "-C", paths.TOOLS / "search", *words], capture_output=True, text=True)
     room.check(made.returncode == 0, f"the search is made: {made.stderr}")
     orders_found(room, program)
