@@ -34,7 +34,7 @@ way_there None e = refl
 way_there (Some word) e = mapped (packet_named word) e
   where
     mapped : (o : Option (ℕ × ℕ × ℕ)) → is_some o ≡ true
-        → is_some (option_map {U = Option WayAsked} (λ packet. Some (record { node = packet.0; port = packet.1.0; lid = packet.1.1 })) o) ≡ true
+        → is_some (option_map {U = Option WayAsked} (λ packet. Some (record { node = packet.0; port = packet.1; lid = packet.2 })) o) ≡ true
     mapped None e = absurd (cc)
     mapped (Some packet) e = refl
 

@@ -80,7 +80,7 @@ max_load_asked (Some word) = option_map Some (option_and_then (within 0 42949672
 abbrev pub way_asked : Option (List ℕ) → Option (Option WayAsked)
 way_asked None = Some None
 way_asked (Some word) =
-    option_map (λ packet. Some (record { node = packet.0; port = packet.1.0; lid = packet.1.1 })) (packet_named word)
+    option_map (λ packet. Some (record { node = packet.0; port = packet.1; lid = packet.2 })) (packet_named word)
 
 -- the GUID that 1 to 16 hex digits write; None if the word is missing or wrong
 abbrev pub guid_asked : Option (List ℕ) → Option ℕ
