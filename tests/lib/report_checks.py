@@ -185,7 +185,7 @@ def names_as_text(room: Room, words: str) -> None:
 
 def refused(room: Room) -> None:
     """Checks files and command lines for which there is no page."""
-    room.put(bare_facts="floor 5\n")
+    room.put(bare_facts="floor 5\n", audit_text=SOUND + LOADS)
     for words, why, status in (
         ("none t.plan -o x.html", "none: no nodes", 3),
         ("t.facts nothing -o x.html", "nothing", 4),
@@ -195,6 +195,8 @@ def refused(room: Room) -> None:
         ("t.facts t.plan -o x.html --was bare.facts", "bare.facts: no facts", 3),
     ):
         room.refused(f"report {words} --ibsm ./fake", why, status)
+    room.put(audit_text=SOUND + LOADS.replace("10/1 load", "10/3 load"))
+    room.refused("report t.facts t.plan -o x.html --ibsm ./fake", "a channel that the facts do not have")
     room.put(audit_text="nonsense\n")
     room.refused("report t.facts t.plan -o x.html --ibsm ./fake", "line 1 of the audit is no line of one")
     for words in ("t.facts t.plan", "t.facts -o x.html", "t.facts t.plan -o x.html --groups names"):

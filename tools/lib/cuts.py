@@ -10,10 +10,12 @@ import os
 import pathlib
 import struct
 from collections.abc import Callable, Collection, Iterator, Sequence
+from itertools import compress
 from typing import Any
 
 import progress
 from audits import Auditor, stored
+from differences import apart
 from ibsm_texts import End, Facts, Plan, end_in, name_of
 from json_forms import AuditRead
 from program import printed_by
@@ -181,11 +183,12 @@ def missed_pairs(audit: AuditRead, held: Plan) -> Iterator[Cable]:
 def changed(old: Plan, new: Plan) -> tuple[int, int]:
     """Returns how many entries for the old tables' LIDs differ on switches that both tables have, and on how many of
     these."""
-    counts = [
-        sum(old.entry(guid, lid) != new.entry(guid, lid) for lid in old.owners)
-        for guid in old.tables
-        if guid in new.tables
-    ]
+    owned, counts = bytearray(old.greatest + 1), []
+    for lid in old.owners:
+        owned[lid] = 1
+    for guid in old.tables.keys() & new.tables.keys():
+        different = apart(old.row(guid), new.row(guid))
+        counts.append(sum(compress(map(bool, different), owned)) if any(different) else 0)
     return sum(counts), sum(count > 0 for count in counts)
 
 

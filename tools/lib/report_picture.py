@@ -5,7 +5,7 @@ import collections
 from collections.abc import Iterable, Iterator
 
 import groups
-from ibsm_texts import End, Facts, Names, end_in
+from ibsm_texts import End, Facts, Names, Refused, end_in
 from layout import rows_of, wires_of
 from rows import distances, ordered, places
 
@@ -28,6 +28,8 @@ class Picture:
         self.facts, self.names = facts, names
         self.loads = {end_in(word): load for word, load in loads.items()}
         self.ends = {end: far for end in self.loads if (far := facts.wire(end))}
+        if len(self.ends) < len(self.loads):
+            raise Refused("the audit tells of a channel that the facts do not have")
         self.busiest = sorted(self.loads, key=lambda end: (-self.loads[end], end))[:most]
         self.at_home = collections.Counter(
             far[0] for end in facts.end_ports() if end[1] and (far := facts.wire(end)) and facts.is_switch(far[0])
