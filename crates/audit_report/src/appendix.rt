@@ -134,11 +134,25 @@ fn write_way<W: Sink>(sink: &mut W, network: &Network, found: &WayFound) -> Resu
         (found_text (cells_of network.now.facts) network.now.held found.now) }
 {
     write_head(sink, &found.asked)?;
-    match &found.way {
-        Some(way) => write_tail(sink, network, found.asked.lid, way)?,
-        None => sink.write(b": no end port")?,
-    }
+    write_tail(sink, network, found.asked.lid, &found.way)?;
     sink.write(b"\n")
+}
+
+/// Writes the channels of `way`, which a packet for `lid` takes, and how the packet ends. If `way` is `None`, writes that
+/// the sender is no end port.
+fn write_tail<W: Sink>(
+    sink: &mut W,
+    network: &Network,
+    lid: Lid,
+    way: &Option<PacketWay>,
+) -> Result<(), WriteFault>
+    ensures { WritesPart W.written W.has_failed result sink.old sink.new
+        (way_tail (cells_of network.now.facts) network.now.held lid (option_map way_value way.now)) }
+{
+    match way {
+        Some(way) => write_channels_and_end(sink, network, lid, way),
+        None => sink.write(b": no end port"),
+    }
 }
 
 /// Writes who sends the packet `asked`, and its LID.
@@ -152,7 +166,7 @@ fn write_head<W: Sink>(sink: &mut W, asked: &WayAsked) -> Result<(), WriteFault>
 }
 
 /// Writes the channels of `way`, which a packet for `lid` takes, and how the packet ends.
-fn write_tail<W: Sink>(
+fn write_channels_and_end<W: Sink>(
     sink: &mut W,
     network: &Network,
     lid: Lid,
