@@ -21,7 +21,7 @@ returns-clause-told g c =
     let cycle = found.order.cycle.items in
     record {
       answered = subst (λ (more : List ℕ). Appends (g.W.Sink.written a.sink.now) (g.W.Sink.written c.write_all.new.sink)
-          (findings_text audit.most (cells_of audit.facts) audit.held ++ (lanes_text (cells_of audit.facts) missing dropped cycle ++ more)))
+          ((findings_text audit.most (cells_of audit.facts) audit.held ++ lanes_text (cells_of audit.facts) missing dropped cycle) ++ more))
           c.requires.appendix c.in_ok-write_all.ensures.writes.ok;
       judged = elim c.if-delivers_within.branch [
         | then-delivers_within w ↦ (
