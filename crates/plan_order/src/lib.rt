@@ -3,5 +3,7 @@
 
 mod positions;
 mod rank_positions;
+mod switches;
 
 pub use positions::plan_positions;
+pub use switches::plan_switches;

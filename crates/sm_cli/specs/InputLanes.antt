@@ -1,5 +1,6 @@
--- The text of lanes, which is read whole and then checked, and the text of tables and the files after it.
-use Rattle.std.specs.Prelude.{◌≡◌, ◌⊎◌, ℕ, List, None, Some}
+-- The text of lanes, which is read whole and then checked, if there is one, and the text of tables and the files
+-- after it.
+use Rattle.std.specs.Prelude.{◌≡◌, ◌⊎◌, ℕ, Bool, true, false, List, Option, None, Some}
 use Rattle.byte_io.specs.Source.{SourceState}
 use Rattle.record_file.specs.Whole.{IsReadWhole, FailsToRead}
 use Rattle.lanes_file.specs.Lanes.{LanesSaid}
@@ -10,8 +11,9 @@ use Rattle.sm_cli.specs.declared.fault.Fault.{Fault}
 use Rattle.sm_cli.specs.declared.fault.Fault.TheVariants.{File, Text}
 use Rattle.sm_cli.specs.declared.text_fault.TextFault.{TextFault}
 use Rattle.sm_cli.specs.declared.text_fault.TextFault.TheVariants as texts
-use Rattle.sm_cli.specs.declared.input_lanes.LanesAndFiles.{LanesAndFiles}
+use Rattle.sm_cli.specs.declared.input_lanes.LanesAndTables.{LanesAndTables}
 use Rattle.sm_cli.specs.InputTables.{AreNoTablesAndFiles, AreTablesAndFiles}
+use Rattle.sm_cli.specs.Asked.{texts_if}
 use Rattle.sm_cli.specs.Sources.{AreReadInParts, IsOneRead}
 
 -- the source was read to its end, and its text has no fault and says `said`
@@ -55,23 +57,36 @@ AreNoLanes state at olds news fault = IsOneRead olds news (λ old new. IsLanesFa
 
 -- tables and files -------------------------------------------------------------------------------
 
--- the lanes, then the tables and then the files were read, and say `told`
-abbrev pub AreLanesAndFiles : {S : Type 0} → (S → SourceState) → ℕ → List S → List S → LanesAndFiles → Type 0
-AreLanesAndFiles state floor olds news told =
-    AreReadInParts olds news (λ os ns. AreLanes state os ns told.lanes)
-    (λ os ns. AreTablesAndFiles state floor os ns told.read)
+-- the text of lanes was read and says `lanes`. If there is no such text (false), `lanes` is None, and no input was
+-- touched
+abbrev pub AreLanesIf : {S : Type 0} → (S → SourceState) → Bool → List S → List S → Option LanesSaid → Type 0
+AreLanesIf state false olds news lanes = (news ≡ olds) × (lanes ≡ None)
+AreLanesIf state true olds news None = ⊥
+AreLanesIf state true olds news (Some said) = AreLanes state olds news said
+
+-- reading the text of lanes, the first input, fails with `fault`; never if there is no such text (false)
+abbrev pub AreNoLanesIf : {S : Type 0} → (S → SourceState) → Bool → List S → List S → Fault → Type 0
+AreNoLanesIf state false olds news fault = ⊥
+AreNoLanesIf state true olds news fault = AreNoLanes state 0 olds news fault
+
+-- the text of lanes, if `has_lanes` is true, then the tables and then the files were read, and say `told`
+abbrev pub AreLanesAndTables : {S : Type 0} → (S → SourceState) → Bool → List S → List S → LanesAndTables → Type 0
+AreLanesAndTables state has_lanes olds news told =
+    AreReadInParts olds news (λ os ns. AreLanesIf state has_lanes os ns told.lanes)
+    (λ os ns. AreTablesAndFiles state os ns told.read)
 
 -- reading the text of lanes, the first input, fails with `fault`, and no other input was touched
-abbrev pub StopsAtLanes : {S : Type 0} → (S → SourceState) → List S → List S → Fault → Type 0
-StopsAtLanes state olds news fault =
-    AreReadInParts olds news (λ os ns. AreNoLanes state 0 os ns fault) (λ os ns. ns ≡ os)
+abbrev pub StopsAtLanes : {S : Type 0} → (S → SourceState) → Bool → List S → List S → Fault → Type 0
+StopsAtLanes state has_lanes olds news fault =
+    AreReadInParts olds news (λ os ns. AreNoLanesIf state has_lanes os ns fault) (λ os ns. ns ≡ os)
 
--- the text of lanes was read, and reading the tables or a file after it fails with `fault`
-abbrev pub StopsBehindLanes : {S : Type 0} → (S → SourceState) → List S → List S → Fault → Type 0
-StopsBehindLanes state olds news fault =
-    (said : LanesSaid) × AreReadInParts olds news (λ os ns. AreLanes state os ns said)
-    (λ os ns. AreNoTablesAndFiles state 1 os ns fault)
+-- the text of lanes was read, if there is one, and reading the tables or a file after it fails with `fault`
+abbrev pub StopsBehindLanes : {S : Type 0} → (S → SourceState) → Bool → List S → List S → Fault → Type 0
+StopsBehindLanes state has_lanes olds news fault =
+    (lanes : Option LanesSaid) × AreReadInParts olds news (λ os ns. AreLanesIf state has_lanes os ns lanes)
+    (λ os ns. AreNoTablesAndFiles state (texts_if has_lanes) os ns fault)
 
 -- reading the lanes, or the tables and files after them, fails with `fault`
-abbrev pub AreNoLanesAndFiles : {S : Type 0} → (S → SourceState) → List S → List S → Fault → Type 0
-AreNoLanesAndFiles state olds news fault = StopsAtLanes state olds news fault ⊎ StopsBehindLanes state olds news fault
+abbrev pub AreNoLanesAndTables : {S : Type 0} → (S → SourceState) → Bool → List S → List S → Fault → Type 0
+AreNoLanesAndTables state has_lanes olds news fault =
+    StopsAtLanes state has_lanes olds news fault ⊎ StopsBehindLanes state has_lanes olds news fault

@@ -20,10 +20,10 @@ AreNoSwitches state false at olds news fault = ⊥
 AreNoSwitches state true at olds news fault = IsOneRead olds news (λ old new. IsSwitchListFault state at old new fault)
 
 -- the text of the order, if `has_order` is true, then the tables and then the files were read, and say `told`
-abbrev pub AreOrderAndTables : {S : Type 0} → (S → SourceState) → ℕ → Bool → List S → List S → OrderAndTables → Type 0
-AreOrderAndTables state floor has_order olds news told =
+abbrev pub AreOrderAndTables : {S : Type 0} → (S → SourceState) → Bool → List S → List S → OrderAndTables → Type 0
+AreOrderAndTables state has_order olds news told =
     AreReadInParts olds news (λ os ns. AreSwitches state has_order os ns told.order.items)
-    (λ os ns. AreTablesAndFiles state floor os ns told.read)
+    (λ os ns. AreTablesAndFiles state os ns told.read)
 
 -- reading the text of the order, the input `at`, fails with `fault`, and no other input was touched
 abbrev pub StopsAtOrder : {S : Type 0} → (S → SourceState) → Bool → ℕ → List S → List S → Fault → Type 0

@@ -1,14 +1,12 @@
--- Readers of the inputs of a run: of files, of a text of tables and the files after it, or of a step.
+-- Readers of the inputs of a run: of files, or of a step.
 use Rattle.std.specs.Prelude.{ℕ, Bool}
 use Rattle.byte_io.specs.Source.{SourceState}
 use Rattle.fact_store.specs.View.{Facts, cells_of}
 use Rattle.subnet_view.specs.Reading.{is_usable}
 use Rattle.sm_cli.specs.InputFiles.{HasRead, IsRefusedFile}
 use Rattle.sm_cli.specs.InputOrders.{AreNoOrderAndTables, AreOrderAndTables}
-use Rattle.sm_cli.specs.InputTables.{AreNoTablesAndFiles, AreTablesAndFiles}
 use Rattle.sm_cli.specs.Inputs.{Reader}
 use Rattle.sm_cli.specs.declared.input_orders.OrderAndTables.{OrderAndTables}
-use Rattle.sm_cli.specs.declared.input_tables.TablesAndFacts.{TablesAndFacts}
 
 -- the reader of files, which are read at the greatest of `floor` and the files' floors
 abbrev pub files_reader : {S : Type 0} → (S → SourceState) → ℕ → Reader S Facts
@@ -18,19 +16,10 @@ files_reader state floor = record {
   has_switch = λ facts. is_usable (cells_of facts);
 }
 
--- the reader of a text of tables and then files; the files are read at the greatest of `floor` and the files' floors
-abbrev pub tables_reader : {S : Type 0} → (S → SourceState) → ℕ → Reader S TablesAndFacts
-tables_reader state floor = record {
-  reads = AreTablesAndFiles state floor;
-  refuses = AreNoTablesAndFiles state;
-  has_switch = λ told. is_usable (cells_of told.store);
-}
-
--- the reader of the inputs of a step: a text of an order, if asked for, then tables and files; the files are read at
--- the greatest of `floor` and the files' floors
-abbrev pub step_reader : {S : Type 0} → (S → SourceState) → ℕ → Bool → Reader S OrderAndTables
-step_reader state floor has_order = record {
-  reads = AreOrderAndTables state floor has_order;
+-- the reader of the inputs of a step: a text of an order, if asked for, then tables and files
+abbrev pub step_reader : {S : Type 0} → (S → SourceState) → Bool → Reader S OrderAndTables
+step_reader state has_order = record {
+  reads = AreOrderAndTables state has_order;
   refuses = AreNoOrderAndTables state has_order;
   has_switch = λ told. is_usable (cells_of told.read.store);
 }

@@ -57,10 +57,10 @@ AreNoTables state at olds news fault =
 
 -- files ------------------------------------------------------------------------------------------
 
--- the tables and then the files were read, and say `told`
-abbrev pub AreTablesAndFiles : {S : Type 0} → (S → SourceState) → ℕ → List S → List S → TablesAndFacts → Type 0
-AreTablesAndFiles state floor olds news told =
-    AreReadInParts olds news (λ os ns. AreTables state os ns told.held) (λ os ns. HasRead state floor os ns told.store)
+-- the tables and then the files were read, and say `told`; the files are read at the greatest of their floors
+abbrev pub AreTablesAndFiles : {S : Type 0} → (S → SourceState) → List S → List S → TablesAndFacts → Type 0
+AreTablesAndFiles state olds news told =
+    AreReadInParts olds news (λ os ns. AreTables state os ns told.held) (λ os ns. HasRead state 1 os ns told.store)
 
 -- reading the tables, the input `at`, fails with `fault`, and no file was touched
 abbrev pub StopsAtTables : {S : Type 0} → (S → SourceState) → ℕ → List S → List S → Fault → Type 0

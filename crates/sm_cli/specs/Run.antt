@@ -9,8 +9,8 @@ use Rattle.lid_assign.specs.LidFault.{no_room}
 use Rattle.lid_assign.specs.declared.lid_fault.NoRoom.{NoRoom as LacksRoom}
 use Rattle.lft_blocks.specs.Plan.{plan_of}
 use Rattle.lft_blocks.specs.PlanText.{plan_text}
-use Rattle.lft_blocks.specs.Rule.{RuleValue, order_of, spread_in, up_and_down}
-use Rattle.subnet_view.specs.Reading.{Cells}
+use Rattle.lft_blocks.specs.Rule.{RuleValue}
+use Rattle.plan_order.specs.PlanOrder.{switches_by}
 use Rattle.sm_cli.specs.declared.asked.Output.{Output}
 use Rattle.sm_cli.specs.declared.asked.Output.TheVariants as output
 use Rattle.sm_cli.specs.declared.asked.Invocation.{Invocation}
@@ -23,17 +23,12 @@ use Rattle.sm_cli.specs.OrderText.{order_text}
 
 -- answers ---------------------------------------------------------------------------------------
 
--- the usable switches in the order by which a rule plans; no switches for up and down, which has no order
-abbrev pub order_by : RuleValue → Cells → List ℕ
-order_by up_and_down cells = []
-order_by (spread_in order) cells = order_of order cells
-
 -- the bytes that a run writes from `facts`: their text, a store file, or the plan or the order by `rule`
 abbrev pub answer_to : Output → RuleValue → Facts → List ℕ
 answer_to output.Facts rule facts = facts_text facts
 answer_to output.Join rule facts = store_bytes facts.floor (cells_of facts)
 answer_to (output.Plan lmc asked) rule facts = plan_text (plan_of rule lmc (cells_of facts))
-answer_to (output.Order asked) rule facts = order_text (order_by rule (cells_of facts))
+answer_to (output.Order asked) rule facts = order_text (switches_by rule (cells_of facts))
 
 -- the output can be made: for facts or a join, the facts are in range; for a plan, there is room for the LIDs; an order
 -- needs neither

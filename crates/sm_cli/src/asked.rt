@@ -46,7 +46,7 @@ pub enum Output {
     /// The plan that a rule of routing makes from the facts: the LID of each end port, with 2^LMC LIDs for each
     /// adapter port, and the forwarding blocks of each switch.
     Plan(Lmc, RuleAsked),
-    /// The usable switches in the order by which a rule of routing plans; no switches for `UpDown`.
+    /// The usable switches in the order by which a rule of routing plans.
     Order(RuleAsked),
 }
 

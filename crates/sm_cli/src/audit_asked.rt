@@ -1,11 +1,11 @@
 //! What an audit is asked for.
-use smp_bytes::{Generation, Guid, Lid, PortNum};
+use smp_bytes::{Guid, Lid, PortNum};
 
 /// The options of an audit.
 #[derive(Clone, Copy, Debug, PartialEq, Eq)]
 pub struct AuditAsked {
-    /// The least floor at which the files are read. Facts below the floor are ignored.
-    pub floor: Generation,
+    /// Whether a text of lanes is read, and credit loops are judged by lane.
+    pub lanes: bool,
     /// Whether to write all lines of each kind, or only the first 20.
     pub all: bool,
     /// The maximum load of a channel, or `None` if there is no bound. The load counts one packet from each adapter port
@@ -26,13 +26,4 @@ pub struct WayAsked {
     pub port: PortNum,
     /// The LID that the packet is sent to.
     pub lid: Lid,
-}
-
-/// The options of an audit by lane.
-#[derive(Clone, Copy, Debug, PartialEq, Eq)]
-pub struct LaneAuditAsked {
-    /// The options that an audit on one lane has too.
-    pub audit: AuditAsked,
-    /// Whether packets that answer others also have the service level of the packets that they answer.
-    pub answers: bool,
 }

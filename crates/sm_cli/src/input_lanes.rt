@@ -1,48 +1,70 @@
-//! The text of lanes, which is read and then checked, and the text of tables and the files after it.
-ghost use Rattle.std.specs.Prelude.{◌≡◌, ◌≤◌, length, IfErr, IfOk};
-ghost use Rattle.sm_cli.specs.InputLanes.{AreLanes, AreLanesAndFiles, AreNoLanes, AreNoLanesAndFiles};
-ghost use Rattle.sm_cli.specs.InputLanes.{IsLanes, IsLanesFault};
+//! The inputs of an audit: a text of lanes, if it is given, a text of tables, and the files.
+ghost use Rattle.std.specs.Prelude.{◌≡◌, ◌+◌, ◌≤◌, length, IfErr, IfOk};
+ghost use Rattle.sm_cli.specs.Asked.{texts_if};
+ghost use Rattle.sm_cli.specs.InputLanes.{AreLanes, AreLanesAndTables, AreLanesIf, AreNoLanes, AreNoLanesAndTables};
+ghost use Rattle.sm_cli.specs.InputLanes.{AreNoLanesIf, IsLanes, IsLanesFault};
 
+use crate::asked::texts_if;
 use crate::fault::Fault;
 use crate::input_tables::{TablesAndFacts, read_tables_and_files};
 use crate::text_fault::TextFault;
 use byte_io::Source;
 use lanes_file::{Lanes, parse};
 use record_file::read_whole;
-use smp_bytes::Generation;
 use std::alloc::Global;
 
-/// What a text of lanes, a text of tables and the files after them say.
+/// What a text of lanes, if there is one, a text of tables and the files after them say.
 #[derive(Drop)]
-pub struct LanesAndFiles {
-    /// The lanes of packets in each switch, and their service levels.
-    pub lanes: Lanes,
-    /// What the tables and the files after the lanes say.
+pub struct LanesAndTables {
+    /// The lanes of packets in each switch, and their service levels. `None` if there is no text of lanes.
+    pub lanes: Option<Lanes>,
+    /// What the tables and the files say.
     pub read: TablesAndFacts,
 }
 
-/// Reads the text of lanes, the first of `inputs`, then the text of tables, the second, and then the files. What the
-/// files say is read at `floor` or a greater floor. There must be at least two inputs.
+/// Reads the text of lanes if `has_lanes` is true, then the text of tables, and then the files. There must be an input
+/// for each text.
 ///
 /// # Errors
 ///
 /// Returns the fault of the first input that is refused. Memory that is refused counts as a fault of its input.
-pub fn read_lanes_and_files<S: Source>(
+pub fn read_lanes_and_tables<S: Source>(
     alloc: Global,
+    has_lanes: bool,
     inputs: &mut [S],
-    floor: Generation,
-) -> Result<LanesAndFiles, Fault>
-    requires { 2 ≤ length inputs.old }
-    ensures read { IfOk result (AreLanesAndFiles S.state floor inputs.old inputs.new) }
-    ensures refused { IfErr result (AreNoLanesAndFiles S.state inputs.old inputs.new) }
+) -> Result<LanesAndTables, Fault>
+    requires { texts_if has_lanes + 1 ≤ length inputs.old }
+    ensures read { IfOk result (AreLanesAndTables S.state has_lanes inputs.old inputs.new) }
+    ensures refused { IfErr result (AreNoLanesAndTables S.state has_lanes inputs.old inputs.new) }
 {
-    let (texts, others) = inputs.split_at_mut(1);
-    let lanes = match read_lanes(alloc, 0, texts) {
+    let count = texts_if(has_lanes);
+    let (texts, others) = inputs.split_at_mut(count);
+    let lanes = match lanes_if(alloc, has_lanes, texts) {
         Ok(lanes) => lanes,
         Err(fault) => return Err(fault),
     };
-    match read_tables_and_files(alloc, 1, others, floor) {
-        Ok(read) => Ok(LanesAndFiles { lanes, read }),
+    match read_tables_and_files(alloc, count, others) {
+        Ok(read) => Ok(LanesAndTables { lanes, read }),
+        Err(fault) => Err(fault),
+    }
+}
+
+/// Reads the lanes from the only source of `texts`, to its end. Returns `None` if `has_lanes` is false; `texts` must
+/// then be empty.
+fn lanes_if<S: Source>(
+    alloc: Global,
+    has_lanes: bool,
+    texts: &mut [S],
+) -> Result<Option<Lanes>, Fault>
+    requires { length texts.old ≡ texts_if has_lanes }
+    ensures read { IfOk result (AreLanesIf S.state has_lanes texts.old texts.new) }
+    ensures refused { IfErr result (AreNoLanesIf S.state has_lanes texts.old texts.new) }
+{
+    if !has_lanes {
+        return Ok(None);
+    }
+    match read_lanes(alloc, 0, texts) {
+        Ok(lanes) => Ok(Some(lanes)),
         Err(fault) => Err(fault),
     }
 }

@@ -9,7 +9,7 @@ use crate::fault::Fault;
 use crate::input_tables::{TablesAndFacts, read_tables_and_files};
 use crate::inputs::{InputReader, read_switches};
 use byte_io::Source;
-use smp_bytes::{Generation, Guid};
+use smp_bytes::Guid;
 use std::alloc::Global;
 use subnet_view::is_usable;
 
@@ -25,8 +25,6 @@ pub struct OrderAndTables {
 /// A reader of the inputs of a step, which knows the usable switches from the files' facts.
 #[derive(Clone, Copy, Debug, PartialEq, Eq)]
 pub struct StepReader {
-    /// The least floor at which the files are read. Facts below the floor are ignored.
-    pub floor: Generation,
     /// Whether a text of an order comes before the text of tables.
     pub has_order: bool,
 }
@@ -38,7 +36,7 @@ impl<S: Source> InputReader<S> for StepReader {
 
     type Told = OrderAndTables;
 
-    ghost reader = { λ inputs. step_reader S.state inputs.floor inputs.has_order };
+    ghost reader = { λ inputs. step_reader S.state inputs.has_order };
 
     ghost takes = { λ inputs count. texts_if inputs.has_order + 1 ≤ count };
 
@@ -48,7 +46,7 @@ impl<S: Source> InputReader<S> for StepReader {
         before: usize,
         inputs: &mut [S],
     ) -> Result<OrderAndTables, Fault> {
-        read_order_and_tables(alloc, before, inputs, self.floor, self.has_order)
+        read_order_and_tables(alloc, before, inputs, self.has_order)
     }
 
     fn has_switch(&self, told: &OrderAndTables, guid: Guid) -> bool {
@@ -56,9 +54,8 @@ impl<S: Source> InputReader<S> for StepReader {
     }
 }
 
-/// Reads the text of an order if `has_order` is true, then the text of tables, and then the files. What the files say
-/// is read at `floor` or a greater floor. `before` other inputs come before `inputs`. There must be an input for each
-/// text, and at most `usize::MAX` inputs in all.
+/// Reads the text of an order if `has_order` is true, then the text of tables, and then the files. `before` other inputs
+/// come before `inputs`. There must be an input for each text, and at most `usize::MAX` inputs in all.
 ///
 /// # Errors
 ///
@@ -67,12 +64,11 @@ fn read_order_and_tables<S: Source>(
     alloc: Global,
     before: usize,
     inputs: &mut [S],
-    floor: Generation,
     has_order: bool,
 ) -> Result<OrderAndTables, Fault>
     requires enough { texts_if has_order + 1 ≤ length inputs.old }
     requires counted { before + length inputs.old ≤ usize.MAX }
-    ensures read { IfOk result (AreOrderAndTables S.state floor has_order inputs.old inputs.new) }
+    ensures read { IfOk result (AreOrderAndTables S.state has_order inputs.old inputs.new) }
     ensures refused { IfErr result (AreNoOrderAndTables S.state has_order before inputs.old inputs.new) }
 {
     let count = texts_if(has_order);
@@ -81,7 +77,7 @@ fn read_order_and_tables<S: Source>(
         Ok(order) => order,
         Err(fault) => return Err(fault),
     };
-    match read_tables_and_files(alloc, before + count, others, floor) {
+    match read_tables_and_files(alloc, before + count, others) {
         Ok(read) => Ok(OrderAndTables { order, read }),
         Err(fault) => Err(fault),
     }

@@ -5,14 +5,12 @@ ghost use Rattle.sm_cli.specs.InputTables.{IsTables, IsTablesFault};
 
 use crate::fault::Fault;
 use crate::input_files::read_files;
-use crate::inputs::InputReader;
 use crate::text_fault::TextFault;
 use byte_io::Source;
 use fact_store::Store;
 use record_file::read_whole;
-use smp_bytes::{Generation, Guid};
+use smp_bytes::Generation;
 use std::alloc::Global;
-use subnet_view::is_usable;
 use tables_file::{Held, parse};
 
 /// What a text of tables and the files after it say.
@@ -24,50 +22,18 @@ pub struct TablesAndFacts {
     pub store: Store,
 }
 
-/// A reader of a text of tables and the files after it, which knows the usable switches from the files' facts.
-#[derive(Clone, Copy, Debug, PartialEq, Eq)]
-pub struct TablesAndFiles {
-    /// The least floor at which the files are read. Facts below the floor are ignored.
-    pub floor: Generation,
-}
-
-impl<S: Source> InputReader<S> for TablesAndFiles {
-    ghost use Rattle.std.specs.Prelude.{◌≤◌};
-    ghost use Rattle.sm_cli.specs.InputReaders.{tables_reader};
-
-    type Told = TablesAndFacts;
-
-    ghost reader = { λ inputs. tables_reader S.state inputs.floor };
-
-    ghost takes = { λ inputs count. 1 ≤ count };
-
-    fn read(
-        &self,
-        alloc: Global,
-        before: usize,
-        inputs: &mut [S],
-    ) -> Result<TablesAndFacts, Fault> {
-        read_tables_and_files(alloc, before, inputs, self.floor)
-    }
-
-    fn has_switch(&self, told: &TablesAndFacts, guid: Guid) -> bool {
-        is_usable(&told.store, guid)
-    }
-}
-
-/// Reads the text of tables, the first of `inputs`, and then the files. What the files say is read at `floor` or a
-/// greater floor. `before` other inputs come before `inputs`. There must be at least one of `inputs`, and at most
+/// Reads the text of tables, the first of `inputs`, and then the files. What the files say is read at the greatest of
+/// their floors. `before` other inputs come before `inputs`. There must be at least one of `inputs`, and at most
 /// `usize::MAX` inputs in all. Returns the fault of the first input that is refused. Memory that is refused counts as
 /// a fault of its input.
 pub fn read_tables_and_files<S: Source>(
     alloc: Global,
     before: usize,
     inputs: &mut [S],
-    floor: Generation,
 ) -> Result<TablesAndFacts, Fault>
     requires enough { 1 ≤ length inputs.old }
     requires counted { before + length inputs.old ≤ usize.MAX }
-    ensures read { IfOk result (AreTablesAndFiles S.state floor inputs.old inputs.new) }
+    ensures read { IfOk result (AreTablesAndFiles S.state inputs.old inputs.new) }
     ensures refused { IfErr result (AreNoTablesAndFiles S.state before inputs.old inputs.new) }
 {
     let (tables, files) = inputs.split_at_mut(1);
@@ -75,6 +41,7 @@ pub fn read_tables_and_files<S: Source>(
         Ok(held) => held,
         Err(fault) => return Err(fault),
     };
+    let floor = Generation::new(1).unwrap();
     match read_files(alloc, before + 1, files, floor) {
         Ok(store) => Ok(TablesAndFacts { held, store }),
         Err(fault) => Err(fault),

@@ -19,14 +19,14 @@ mod step_asked;
 mod text_fault;
 
 pub use asked::{Invocation, Output, RuleAsked, texts_if};
-pub use audit_asked::{AuditAsked, LaneAuditAsked, WayAsked};
+pub use audit_asked::{AuditAsked, WayAsked};
 pub use exit_status::ExitStatus;
 pub use fault::Fault;
 pub use fault_line::write_fault;
 pub use input_files::FilesFrom;
-pub use input_lanes::{LanesAndFiles, read_lanes_and_files};
+pub use input_lanes::{LanesAndTables, read_lanes_and_tables};
 pub use input_orders::{OrderAndTables, StepReader};
-pub use input_tables::{TablesAndFacts, TablesAndFiles, read_tables_and_files};
+pub use input_tables::{TablesAndFacts, read_tables_and_files};
 pub use inputs::{InputReader, read_inputs};
 pub use order_text::write_order;
 pub use run::run_files;

@@ -10,7 +10,8 @@ ghost use Rattle.sm_cli.specs.Asked.{rule_for, texts_for};
 ghost use Rattle.sm_cli.specs.OrderText.{order_text};
 ghost use Rattle.sm_cli.specs.Fault.{IsOutputFault};
 ghost use Rattle.sm_cli.specs.Run.{HasAnswered, IsAnswer, IsAnswerFault, IsFaultOf};
-ghost use Rattle.sm_cli.specs.Run.{IsWritingFault, order_by};
+ghost use Rattle.sm_cli.specs.Run.{IsWritingFault};
+ghost use Rattle.plan_order.specs.PlanOrder.{switches_by};
 
 use crate::asked::{Invocation, Output};
 use crate::fault::Fault;
@@ -19,10 +20,10 @@ use crate::inputs::read_inputs;
 use crate::order_text::write_order;
 use attr_codec::Lmc;
 use byte_io::{Sink, Source};
-use fact_store::{Refused, Store};
-use lft_blocks::{Plan, Rule, switch_order, write_plan};
+use fact_store::Store;
+use lft_blocks::{Plan, Rule, write_plan};
+use plan_order::plan_switches;
 use record_file::{write_facts, write_store};
-use smp_bytes::Guid;
 use std::alloc::Global;
 
 /// Reads the inputs in order: the text that the rule takes, if any, and then the files (`read_inputs`). Writes what
@@ -101,8 +102,8 @@ fn write_plan_by<W: Sink>(
     Ok(())
 }
 
-/// Writes the usable switches of the facts in `store`, in the order by which `rule` plans, and flushes. Writes no
-/// switches for `UpDown`. Returns `Memory` if memory is refused, or `Write` if a write fails.
+/// Writes the usable switches of the facts in `store`, in the order by which `rule` plans, and flushes. Returns `Memory`
+/// if memory is refused, or `Write` if a write fails.
 fn write_order_by<W: Sink>(
     alloc: Global,
     sink: &mut W,
@@ -110,24 +111,13 @@ fn write_order_by<W: Sink>(
     rule: &Rule,
 ) -> Result<(), Fault>
     ensures written { OnOk result (Appends (W.written sink.old) (W.written sink.new)
-        (order_text (order_by (value_of rule.now) (cells_of store.now)))) }
+        (order_text (switches_by (value_of rule.now) (cells_of store.now)))) }
     ensures flushed { OnOk result (IsTrue (W.is_flushed sink.new)) }
     ensures sink_works { OnOk result (W.has_failed sink.new ≡ false) }
     ensures refused { IfErr result (IsOutputFault (W.has_failed sink.new)) }
     ensures nothing_written { OnErr result ((result ≡ Err Fault.Write) ⊎ (sink.new ≡ sink.old)) }
 {
-    let switches = order_by(alloc, store, rule)?;
+    let switches = plan_switches(alloc, store, rule)?;
     write_order(sink, &switches)?;
     Ok(())
-}
-
-/// Returns the usable switches in the order by which `rule` plans, or no switches for `UpDown`. Returns an error if
-/// memory is refused.
-fn order_by(alloc: Global, store: &Store, rule: &Rule) -> Result<Vec<Guid>, Refused>
-    ensures { IfOk result (λ found. found.items ≡ order_by (value_of rule.now) (cells_of store.now)) }
-{
-    match rule {
-        Rule::UpDown => Ok(Vec::new(alloc)),
-        Rule::Spread { order } => switch_order(alloc, store, order),
-    }
 }

@@ -4,7 +4,6 @@ ghost use Rattle.sm_cli.specs.StepAsked.{is_named, is_told};
 
 use crate::asked::RuleAsked;
 use attr_codec::Lmc;
-use smp_bytes::Generation;
 
 /// The order by which a step goes if the held tables are not right by the order of the plan's switches.
 #[derive(Clone, Copy, Debug, PartialEq, Eq)]
@@ -48,8 +47,6 @@ pub struct StepAsked {
     pub lmc: Lmc,
     /// The plan's rule of routing.
     pub rule: RuleAsked,
-    /// The least floor at which the files are read. Facts below the floor are ignored.
-    pub floor: Generation,
     /// The order by which the step goes if the held tables are not right by the order of the plan's switches.
     pub held_order: HeldOrder,
 }
