@@ -21,8 +21,8 @@ use Rattle.clap.specs.declared.parser.matches.ArgMatches.TheViews.{out-ArgMatche
 use Rattle.clap.specs.declared.parser.matches.SubCommand.{SubCommand}
 use Rattle.std.specs.Box.{box_value}
 use Rattle.cli_arguments.specs.CommandLine.{IsReadAs, AreRoutings, command_line}
-use Rattle.cli_arguments.specs.WellFormed.{HasItsWords, IsGiven, IsNumberWithin, IsRouting, IsWellFormed, NamesFiles, NamesOrder, NamesPlanning, NamesSeat, facts, join, plan, order, audit, order_of, next, run, serve}
-use Rattle.cli_arguments.specs.Words.{has_conflict, has_conflict_behind, has_conflict_of, is_guid, is_key, is_wrong_seat, order_rule, values_in, word_behind}
+use Rattle.cli_arguments.specs.WellFormed.{HasItsWords, IsGiven, IsNumberWithin, IsRouting, IsWellFormed, NamesFiles, NamesOrder, NamesPlanning, NamesSeat, facts, join, plan, order, audit, next, run, serve}
+use Rattle.cli_arguments.specs.Words.{has_conflict, has_conflict_behind, has_conflict_of, is_guid, is_held_and_named, is_key, is_wrong_seat, order_rule, values_in, word_behind}
 use Rattle.cli_arguments.proofs.Entered.{EachHas, IsPassed, enters, required_given, found_has, given_word, is_help, word_passes}
 use Rattle.cli_arguments.proofs.Walked.{ArePlainIn, AreTaken, level_taken, wants_some}
 
@@ -106,10 +106,12 @@ module _ (routings : Bor (List (Bor Text))) (known : AreRoutings routings) (c : 
   }
 
   names_order : (r : Rule) → arg_by_id c (codes "routing") ≡ Some r → r.parser ≡ Some (Names routings) → r.ignore_case ≡ false
-      → has_conflict_of (order_rule (word (codes "routing"))) (is_some (word (codes "roots"))) (is_some (word (codes "order"))) ≡ false → NamesOrder word
-  names_order r is_r parser_r plain apart = record {
+      → has_conflict_of (order_rule (word (codes "routing"))) (is_some (word (codes "roots"))) (is_some (word (codes "order"))) ≡ false
+      → is_held_and_named word ≡ false → NamesOrder word
+  names_order r is_r parser_r plain apart alone = record {
     routing = routing_read r parser_r plain (word (codes "routing")) (word_passes c name (codes "routing") r rows is_r taken);
     apart = apart;
+    alone = alone;
   }
 
   text_given : (id : Text) (a : Rule) → arg_by_id c id ≡ Some a → wants_some a ≡ true → is_given id rows ≡ true → IsGiven (word id)
@@ -156,22 +158,16 @@ all_plain routings = (
       (
         ((refl, refl), ((refl, refl), ((refl, refl), ((refl, refl), ((refl, refl), ((refl, refl), tt)))))),
         (
+          ((refl, refl), ((refl, refl), ((refl, refl), ((refl, refl), ((refl, refl), ((refl, refl), ((refl, refl), ((refl, refl), tt)))))))),
           (
-            (refl, refl),
             ((refl, refl), ((refl, refl), ((refl, refl), ((refl, refl), ((refl, refl), ((refl, refl), ((refl, refl), ((refl, refl), ((refl, refl), tt))))))))),
-          ),
-          (
-            ((refl, refl), ((refl, refl), ((refl, refl), ((refl, refl), tt)))),
             (
-              ((refl, refl), ((refl, refl), ((refl, refl), ((refl, refl), ((refl, refl), ((refl, refl), ((refl, refl), ((refl, refl), ((refl, refl), ((refl, refl), tt)))))))))),
+              ((refl, refl), ((refl, refl), ((refl, refl), ((refl, refl), ((refl, refl), ((refl, refl), ((refl, refl), tt))))))),
               (
-                ((refl, refl), ((refl, refl), ((refl, refl), ((refl, refl), ((refl, refl), ((refl, refl), ((refl, refl), tt))))))),
+                ((refl, refl), ((refl, refl), ((refl, refl), ((refl, refl), ((refl, refl), ((refl, refl), ((refl, refl), ((refl, refl), ((refl, refl), tt))))))))),
                 (
-                  ((refl, refl), ((refl, refl), ((refl, refl), ((refl, refl), ((refl, refl), ((refl, refl), ((refl, refl), ((refl, refl), ((refl, refl), tt))))))))),
-                  (
-                    ((refl, refl), tt),
-                    tt,
-                  ),
+                  ((refl, refl), tt),
+                  tt,
                 ),
               ),
             ),
@@ -190,34 +186,30 @@ all_fit routings known = (
     λ other differs is rows t e apart. join refl (names_files routings known _ (codes "join") rows t _ refl refl (given_first _ _ e).0),
     (
       λ other differs is rows t e apart. plan refl (names_files routings known _ (codes "plan") rows t _ refl refl (given_first _ _ e).0)
-          (names_planning routings known _ (codes "plan") rows t _ _ refl refl refl refl refl apart),
+          (names_planning routings known _ (codes "plan") rows t _ _ refl refl refl refl refl (neither _ _ apart).0),
       (
-        λ other differs is rows t e apart. order refl (names_files routings known _ (codes "order") rows t _ refl refl (given_first _ _ e).0)
-            (names_order routings known _ (codes "order") rows t _ refl refl refl apart),
+        λ other differs is rows t e apart. order refl (files_named routings known _ (codes "order") rows t (given_first _ _ e).0)
+            (names_order routings known _ (codes "order") rows t _ refl refl refl (neither _ _ apart).0 (neither _ _ apart).1),
         (
           λ other differs is rows t e apart. audit refl (text_given routings known _ (codes "audit") rows t (codes "TABLES") _ refl refl (given_first _ _ e).0)
-              (names_files routings known _ (codes "audit") rows t _ refl refl (given_first _ _ (given_first _ _ e).1).0)
-              (names_load routings known _ (codes "audit") rows t _ refl refl) (neither _ _ apart).0 (is_so _ (neither _ _ apart).1),
+              (files_named routings known _ (codes "audit") rows t (given_first _ _ (given_first _ _ e).1).0)
+              (names_load routings known _ (codes "audit") rows t _ refl refl) (is_so _ apart),
           (
-            λ other differs is rows t e apart. order_of refl (text_given routings known _ (codes "order-of") rows t (codes "TABLES") _ refl refl (given_first _ _ e).0)
-                (names_files routings known _ (codes "order-of") rows t _ refl refl (given_first _ _ (given_first _ _ e).1).0),
+            λ other differs is rows t e apart. next refl (text_given routings known _ (codes "next") rows t (codes "TABLES") _ refl refl (given_first _ _ e).0)
+                (files_named routings known _ (codes "next") rows t (given_first _ _ (given_first _ _ e).1).0)
+                (names_planning routings known _ (codes "next") rows t _ _ refl refl refl refl refl (neither _ _ apart).0),
             (
-              λ other differs is rows t e apart. next refl (text_given routings known _ (codes "next") rows t (codes "TABLES") _ refl refl (given_first _ _ e).0)
-                  (names_files routings known _ (codes "next") rows t _ refl refl (given_first _ _ (given_first _ _ e).1).0)
-                  (names_planning routings known _ (codes "next") rows t _ _ refl refl refl refl refl apart),
+              λ other differs is rows t e apart. run refl (text_given routings known _ (codes "run") rows t (codes "TOPOLOGY") _ refl refl (given_first _ _ e).0)
+                  (text_given routings known _ (codes "run") rows t (codes "SCHEDULE") _ refl refl (given_first _ _ (given_first _ _ e).1).0)
+                  (names_planning routings known _ (codes "run") rows t _ _ refl refl refl refl refl (neither _ _ apart).0),
               (
-                λ other differs is rows t e apart. run refl (text_given routings known _ (codes "run") rows t (codes "TOPOLOGY") _ refl refl (given_first _ _ e).0)
-                    (text_given routings known _ (codes "run") rows t (codes "SCHEDULE") _ refl refl (given_first _ _ (given_first _ _ e).1).0)
-                    (names_planning routings known _ (codes "run") rows t _ _ refl refl refl refl refl apart),
+                λ other differs is rows t e apart. serve refl (names_seat routings known _ (codes "serve") rows t _ _ _ refl refl refl refl refl refl refl refl
+                    (given_first _ _ e).0 (given_first _ _ (given_first _ _ e).1).0 (given_first _ _ (given_first _ _ (given_first _ _ e).1).1).0
+                    (neither _ _ apart).1)
+                    (names_planning routings known _ (codes "serve") rows t _ _ refl refl refl refl refl (neither _ _ apart).0),
                 (
-                  λ other differs is rows t e apart. serve refl (names_seat routings known _ (codes "serve") rows t _ _ _ refl refl refl refl refl refl refl refl
-                      (given_first _ _ e).0 (given_first _ _ (given_first _ _ e).1).0 (given_first _ _ (given_first _ _ (given_first _ _ e).1).1).0
-                      (neither _ _ apart).1)
-                      (names_planning routings known _ (codes "serve") rows t _ _ refl refl refl refl refl (neither _ _ apart).0),
-                  (
-                    λ other differs is rows t e apart. absurd (is_named_help other differs is),
-                    tt,
-                  ),
+                  λ other differs is rows t e apart. absurd (is_named_help other differs is),
+                  tt,
                 ),
               ),
             ),

@@ -62,18 +62,11 @@ max_load_rule = record (option_rule (codes "max-load")) { parser = Some (Signed 
 abbrev pub loads_rule : Rule
 loads_rule = flag_rule (codes "loads")
 
--- the options of an audit: how much the audit prints, the load that it lets pass, and what it also prints
+-- the options of an audit: how much the audit prints, the load that it lets pass, what it also prints, and the file of
+-- lanes
 abbrev pub of_report : List Rule
-of_report = all_rule ∷ max_load_rule ∷ loads_rule ∷ option_rule (codes "way") ∷ []
-
--- the option `--answers-as-asked`, with no word after it: answers have the service level of the packets that they
--- answer
-abbrev pub answers_rule : Rule
-answers_rule = flag_rule (codes "answers-as-asked")
-
--- the options for judging by lane: the file of lanes, and which service levels answers have
-abbrev pub of_lanes : List Rule
-of_lanes = option_rule (codes "lanes") ∷ answers_rule ∷ []
+of_report =
+    all_rule ∷ max_load_rule ∷ loads_rule ∷ option_rule (codes "way") ∷ option_rule (codes "lanes") ∷ []
 
 -- the option for an LMC, from 0 to 7
 abbrev pub lmc_rule : Rule
@@ -129,22 +122,19 @@ join_shape = subcommand_shape (codes "join") of_files
 abbrev pub plan_shape : Bor (List (Bor Text)) → Shape
 plan_shape words = subcommand_shape (codes "plan") (of_files ++ of_planning words)
 
--- the subcommand that prints the order of a plan
+-- the subcommand that prints the order of a rule, or that held tables follow
 abbrev pub order_shape : Bor (List (Bor Text)) → Shape
-order_shape words = subcommand_shape (codes "order") (of_files ++ of_routing words)
+order_shape words =
+    subcommand_shape (codes "order") (files_rule ∷ of_routing words ++ option_rule (codes "held") ∷ [])
 
 -- the subcommand that audits tables
 abbrev pub audit_shape : Shape
-audit_shape = subcommand_shape (codes "audit") (text_rule (codes "TABLES") ∷ of_files ++ of_report ++ of_lanes)
-
--- the subcommand that prints the order that tables imply
-abbrev pub order_of_shape : Shape
-order_of_shape = subcommand_shape (codes "order-of") (text_rule (codes "TABLES") ∷ of_files)
+audit_shape = subcommand_shape (codes "audit") (text_rule (codes "TABLES") ∷ files_rule ∷ of_report)
 
 -- the subcommand that prints the tables to write next
 abbrev pub next_shape : Bor (List (Bor Text)) → Shape
 next_shape words =
-    subcommand_shape (codes "next") (text_rule (codes "TABLES") ∷ of_files ++ of_planning words ++ of_step)
+    subcommand_shape (codes "next") (text_rule (codes "TABLES") ∷ files_rule ∷ of_planning words ++ of_step)
 
 -- the subcommand that runs a schedule
 abbrev pub run_shape : Bor (List (Bor Text)) → Shape
@@ -165,8 +155,8 @@ abbrev pub command_line : Bor (List (Bor Text)) → App
 command_line words = record {
   top = record program_app.top { is_leaf = false };
   subs =
-      facts_shape ∷ join_shape ∷ plan_shape words ∷ order_shape words ∷ audit_shape ∷ order_of_shape ∷ next_shape words
-      ∷ run_shape words ∷ serve_shape words ∷ [];
+      facts_shape ∷ join_shape ∷ plan_shape words ∷ order_shape words ∷ audit_shape ∷ next_shape words ∷ run_shape words
+      ∷ serve_shape words ∷ [];
 }
 
 -- `words` are the words for the three rules of routing

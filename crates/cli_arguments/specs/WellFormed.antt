@@ -6,7 +6,7 @@ use Rattle.clap.specs.Values.{IsSignedIn}
 use Rattle.clap.specs.Walk.{Text}
 use Rattle.clap.specs.declared.parser.matches.ArgMatches.{ArgMatches}
 use Rattle.cli_arguments.specs.WayWord.{is_way}
-use Rattle.cli_arguments.specs.Words.{files_named, has_conflict_of, is_guid, is_key, lacks_lanes, order_rule, word_named}
+use Rattle.cli_arguments.specs.Words.{files_named, has_conflict_of, is_guid, is_held_and_named, is_key, order_rule, word_named}
 
 -- the word, if any, is a number from `least` to `most`
 abbrev pub IsNumberWithin : ℕ → ℕ → Option Text → Type 0
@@ -22,9 +22,13 @@ IsRouting (Some word) = (word ≡ codes "updown") ⊎ ((word ≡ codes "spread")
 abbrev pub IsGiven : Option Text → Type 0
 IsGiven word = is_some word ≡ true
 
+-- files are named
+abbrev pub AreNamed : Option (List Text) → Type 0
+AreNamed files = is_some files ≡ true
+
 -- files are named, and the floor, if any, is a generation
 pub record NamesFiles (word : Text → Option Text) (files : Option (List Text)) : Type 0 where
-  pub named : is_some files ≡ true
+  pub named : AreNamed files
   pub floor : IsNumberWithin 1 4294967295 (word (codes "floor"))
 
 -- the options of a plan: the LMC, if named, is from 0 to 7, and the rule, if named, is a rule of routing. Roots and an
@@ -36,11 +40,13 @@ pub record NamesPlanning (word : Text → Option Text) : Type 0 where
       ≡ false
 
 -- the options of the subcommand `order`: the rule, if named, is a rule of routing; otherwise it is `spread`. Roots and
--- an order are not both named, and either is named only with a rule that takes it
+-- an order are not both named, and either is named only with a rule that takes it. If held tables are named, neither a
+-- rule nor roots nor an order are
 pub record NamesOrder (word : Text → Option Text) : Type 0 where
   pub routing : IsRouting (word (codes "routing"))
   pub apart : has_conflict_of (order_rule (word (codes "routing"))) (is_some (word (codes "roots")))
       (is_some (word (codes "order"))) ≡ false
+  pub alone : is_held_and_named word ≡ false
 
 -- the GUID of a manager's port, which is 1 to 16 hex digits, the number of the port and the manager's priority are
 -- named; the manager's SM_Key, if named, is 1 to 16 hex digits
@@ -57,13 +63,11 @@ pub data HasItsWords (word : Text → Option Text) (files : Option (List Text)) 
   facts : name ≡ codes "facts" → NamesFiles word files → HasItsWords word files name
   join : name ≡ codes "join" → NamesFiles word files → HasItsWords word files name
   plan : name ≡ codes "plan" → NamesFiles word files → NamesPlanning word → HasItsWords word files name
-  order : name ≡ codes "order" → NamesFiles word files → NamesOrder word → HasItsWords word files name
-  audit : name ≡ codes "audit" → IsGiven (word (codes "TABLES")) → NamesFiles word files
-      → IsNumberWithin 0 4294967295 (word (codes "max-load")) → lacks_lanes word ≡ false
-      → is_way (word (codes "way")) ≡ true → HasItsWords word files name
-  order_of : name ≡ codes "order-of" → IsGiven (word (codes "TABLES")) → NamesFiles word files
+  order : name ≡ codes "order" → AreNamed files → NamesOrder word → HasItsWords word files name
+  audit : name ≡ codes "audit" → IsGiven (word (codes "TABLES")) → AreNamed files
+      → IsNumberWithin 0 4294967295 (word (codes "max-load")) → is_way (word (codes "way")) ≡ true
       → HasItsWords word files name
-  next : name ≡ codes "next" → IsGiven (word (codes "TABLES")) → NamesFiles word files → NamesPlanning word
+  next : name ≡ codes "next" → IsGiven (word (codes "TABLES")) → AreNamed files → NamesPlanning word
       → HasItsWords word files name
   run : name ≡ codes "run" → IsGiven (word (codes "TOPOLOGY")) → IsGiven (word (codes "SCHEDULE")) → NamesPlanning word
       → HasItsWords word files name

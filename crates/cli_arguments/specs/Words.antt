@@ -74,17 +74,19 @@ abbrev pub is_set : Option (List ℕ) → Bool
 is_set None = false
 is_set (Some word) = bytes_eq word (codes "true")
 
--- `answers-as-asked` is set, but no file of lanes is named
-abbrev pub lacks_lanes : (List ℕ → Option (List ℕ)) → Bool
-lacks_lanes word = is_set (word (codes "answers-as-asked")) && not (is_some (word (codes "lanes")))
+-- the order of held tables is asked for, and a rule, roots or an order are named, too
+abbrev pub is_held_and_named : (List ℕ → Option (List ℕ)) → Bool
+is_held_and_named word =
+    is_some (word (codes "held")) && (is_some (word (codes "routing")) || is_some (word (codes "roots"))
+    || is_some (word (codes "order")))
 
 -- options contradict each other in the subcommand `name`, or it is `serve` and its GUID or SM_Key is not 1 to 16 hex
 -- digits, or it is `audit` and does not name a packet as it has to be named
 abbrev pub has_conflict : List ℕ → (List ℕ → Option (List ℕ)) → Bool
 has_conflict name word =
     if bytes_eq name (codes "serve") then planning_conflict name word || is_wrong_seat word
-    else (if bytes_eq name (codes "audit") then lacks_lanes word || not (is_way (word (codes "way")))
-    else planning_conflict name word)
+    else (if bytes_eq name (codes "audit") then not (is_way (word (codes "way")))
+    else planning_conflict name word || is_held_and_named word)
 
 -- the subcommand has options that contradict each other or a wrong word (`has_conflict`); false if no subcommand was
 -- named

@@ -12,9 +12,6 @@ pub const PLAN: &str = "plan";
 /// The subcommand that audits tables.
 pub const AUDIT: &str = "audit";
 
-/// The subcommand that prints the order of switches that held tables imply.
-pub const ORDER_OF: &str = "order-of";
-
 /// The subcommand that prints the tables to write next.
 pub const NEXT: &str = "next";
 
@@ -57,11 +54,11 @@ pub const LOADS: &str = "loads";
 /// The option for the packet whose way an audit prints.
 pub const WAY: &str = "way";
 
-/// The option that names a file of lanes. If it is given, `audit` and `next` judge credit loops lane by lane.
+/// The option that names a file of lanes. If it is given, an audit judges credit loops lane by lane.
 pub const LANES: &str = "lanes";
 
-/// The flag for answers at the service level of the packets that they answer.
-pub const ANSWERS_AS_ASKED: &str = "answers-as-asked";
+/// The option for the text of tables whose order is printed.
+pub const HELD: &str = "held";
 
 /// The flag that lets a step go by the order that held tables imply.
 pub const TOLD_ORDER: &str = "told-order";

@@ -1,13 +1,13 @@
 //! The arguments and options of subcommands.
 ghost use Rattle.std.specs.Prelude.{◌≡◌, codes, false};
 ghost use Rattle.clap.specs.Walk.{rule_of};
-ghost use Rattle.cli_arguments.specs.CommandLine.{all_rule, answers_rule, files_rule, flag_rule, floor_rule};
+ghost use Rattle.cli_arguments.specs.CommandLine.{all_rule, files_rule, flag_rule, floor_rule};
 ghost use Rattle.cli_arguments.specs.CommandLine.{lmc_rule, loads_rule, max_load_rule, option_rule, port_rule, priority_rule};
 ghost use Rattle.cli_arguments.specs.CommandLine.{routing_rule, text_rule, told_order_rule};
 
 use crate::argument_names::{
-    ALL, ANSWERS_AS_ASKED, FILE, FLOOR, GUID, LANES, LAST_ORDER, LMC, LOADS, MAX_LOAD, ORDER, PORT,
-    PRIORITY, ROOTS, ROUTING, SM_KEY, TOLD_ORDER, WAY,
+    ALL, FILE, FLOOR, GUID, HELD, LANES, LAST_ORDER, LMC, LOADS, MAX_LOAD, ORDER, PORT, PRIORITY,
+    ROOTS, ROUTING, SM_KEY, TOLD_ORDER, WAY,
 };
 use clap::{Arg, ArgAction, value_parser};
 use std::alloc::Global;
@@ -75,7 +75,7 @@ pub(crate) fn sm_key<'a>(alloc: Global) -> Arg<'a>
         alloc,
         SM_KEY,
         "HEX",
-        "The SM_Key of the manager, 1 to 16 hex digits; OpenSM's, 1, if none is given",
+        "The SM_Key of the manager, 1 to 16 hex digits; 1, OpenSM's, by default",
     )
 }
 
@@ -88,7 +88,7 @@ pub(crate) fn floor<'a>(alloc: Global) -> Arg<'a>
         alloc,
         FLOOR,
         "G",
-        "Forgets what is older than generation G, 1 to 4294967295",
+        "Ignores facts older than generation G, 1 to 4294967295",
     )
     .value_parser(value_parser!(u32).range(1..))
 }
@@ -101,7 +101,7 @@ pub(crate) fn all<'a>(alloc: Global) -> Arg<'a>
     flag(
         alloc,
         ALL,
-        "Prints all lines of each kind, and not the first 20 alone",
+        "Prints all lines, not only the first 20 of each kind",
     )
 }
 
@@ -113,8 +113,7 @@ pub(crate) fn told_order<'a>(alloc: Global) -> Arg<'a>
     flag(
         alloc,
         TOLD_ORDER,
-        "From tables that are not right by the order of the plan's switches, goes by the order that they \
-         tell by themselves, towards tables between both orders",
+        "If the held tables do not follow the plan's order, follows their own, if any",
     )
 }
 
@@ -127,8 +126,7 @@ pub(crate) fn last_order<'a>(alloc: Global) -> Arg<'a>
         alloc,
         LAST_ORDER,
         "FILE",
-        "As --told-order, but if the tables tell several orders, goes by the one nearest to that of FILE, \
-         a GUID a line, as the last step printed it",
+        "As --told-order; of several orders, the one nearest to FILE's, one GUID per line",
     )
 }
 
@@ -141,8 +139,7 @@ pub(crate) fn max_load<'a>(alloc: Global) -> Arg<'a>
         alloc,
         MAX_LOAD,
         "N",
-        "Lets no tables pass by which a channel carries more than N pairs of an adapter port and another one's \
-         LID, N from 0 to 4294967295",
+        "Fails if a channel carries more than N pairs of adapter ports, N from 0 to 4294967295",
     )
     .value_parser(value_parser!(u32).range(0..))
 }
@@ -155,7 +152,7 @@ pub(crate) fn loads<'a>(alloc: Global) -> Arg<'a>
     flag(
         alloc,
         LOADS,
-        "Also prints the load of each channel: how many pairs of an adapter port and another one's LID it carries",
+        "Also prints how many pairs of adapter ports each channel carries",
     )
 }
 
@@ -168,7 +165,7 @@ pub(crate) fn way<'a>(alloc: Global) -> Arg<'a>
         alloc,
         WAY,
         "G/p,L",
-        "Also prints the way of the packet that port p of node G sends to the LID L, switch by switch",
+        "Also prints the way of the packet from port p of node G to the LID L",
     )
 }
 
@@ -181,19 +178,20 @@ pub(crate) fn lanes<'a>(alloc: Global) -> Arg<'a>
         alloc,
         LANES,
         "FILE",
-        "Judges credit loops lane by lane, by the virtual lanes and service levels that FILE gives",
+        "Judges credit loops by virtual lane, with the lanes and service levels in FILE",
     )
 }
 
-/// Builds the flag for answers at the service level of the packets that they answer.
-pub(crate) fn answers_as_asked<'a>(alloc: Global) -> Arg<'a>
-    ensures rule { rule_of result ≡ answers_rule }
+/// Builds the option for the text of tables whose order is printed.
+pub(crate) fn held<'a>(alloc: Global) -> Arg<'a>
+    ensures rule { rule_of result ≡ option_rule (codes "held") }
     ensures own { result.global ≡ false }
 {
-    flag(
+    option(
         alloc,
-        ANSWERS_AS_ASKED,
-        "With --lanes, also follows answers that go at the service level of the packets that they answer",
+        HELD,
+        "TABLES",
+        "Prints an order that these tables follow, as plan prints tables, instead of a rule's",
     )
 }
 
@@ -228,7 +226,7 @@ pub(crate) fn roots<'a>(alloc: Global) -> Arg<'a>
         alloc,
         ROOTS,
         "FILE",
-        "spread begins at the switches that FILE names, a GUID a line, in place of those in the middle",
+        "spread begins at the switches in FILE, one GUID per line, instead of those in the middle",
     )
 }
 
@@ -241,7 +239,7 @@ pub(crate) fn order_file<'a>(alloc: Global) -> Arg<'a>
         alloc,
         ORDER,
         "FILE",
-        "spread and balance order switches as FILE names them, a GUID a line, and those that it lacks behind them",
+        "spread and balance order switches as in FILE, one GUID per line; switches not in FILE come last",
     )
 }
 

@@ -1,21 +1,21 @@
 //! The command line.
-ghost use Rattle.std.specs.Prelude.{◌∷◌, IfOk, codes, map};
+ghost use Rattle.std.specs.Prelude.{[], ◌∷◌, IfOk, codes, map};
 ghost use Rattle.clap.specs.Simple.{App, Shape, new_shape, with_subcommand};
 ghost use Rattle.cli_arguments.specs.CommandLine.{AddsRules, AreRoutings, IsApp, IsOf, IsReadAs, audit_shape};
-ghost use Rattle.cli_arguments.specs.CommandLine.{facts_shape, join_shape, next_shape, order_of_shape, order_shape};
+ghost use Rattle.cli_arguments.specs.CommandLine.{facts_shape, files_rule, join_shape, next_shape, order_shape};
 ghost use Rattle.cli_arguments.specs.CommandLine.{command_line, of_files, of_order, of_planning, of_routing, of_seat};
-ghost use Rattle.cli_arguments.specs.CommandLine.{plan_shape, program_app, run_shape, serve_shape, of_lanes};
+ghost use Rattle.cli_arguments.specs.CommandLine.{plan_shape, program_app, run_shape, serve_shape, option_rule};
 ghost use Rattle.cli_arguments.specs.CommandLine.{of_report, of_step, text_rule};
 ghost use Rattle.cli_arguments.specs.WellFormed.{IsWellFormed};
 ghost use Rattle.cli_arguments.specs.Words.{has_conflict};
 
 use crate::argument_names::{
-    AUDIT, BALANCE, FACTS, GUID, JOIN, NEXT, ORDER, ORDER_OF, PLAN, RUN, SCHEDULE, SERVE, SPREAD,
-    TABLES, TOPOLOGY, UPDOWN,
+    AUDIT, BALANCE, FACTS, GUID, JOIN, NEXT, ORDER, PLAN, RUN, SCHEDULE, SERVE, SPREAD, TABLES,
+    TOPOLOGY, UPDOWN,
 };
 use crate::arguments::{
-    all, answers_as_asked, files, floor, lanes, last_order, lmc, loads, max_load, order_file, port,
-    priority, roots, routing, sm_key, text, told_order, way,
+    all, files, floor, held, lanes, last_order, lmc, loads, max_load, order_file, port, priority,
+    roots, routing, sm_key, text, told_order, way,
 };
 use crate::conflicts::{conflict, has_conflict};
 use clap::{ArgMatches, Command, Error};
@@ -39,9 +39,11 @@ const PLAN_END: &str = "Exit status:\n  0  done\n  2  the command line is wrong\
      4  a file cannot be opened or read, or the output takes no more\n  \
      5  out of memory\n\nExample:\n  ibsm plan --lmc 1 fabric.reports > fabric.plan";
 
-const ORDER_END: &str = "Exit status:\n  0  done\n  2  the command line is wrong\n  \
-     3  a file is refused\n  4  a file cannot be opened or read, or the output takes no more\n  \
-     5  out of memory\n\nExample:\n  ibsm order fabric.reports > fabric.order";
+const ORDER_END: &str = "Exit status:\n  0  done\n  \
+     1  the held tables follow no order, so nothing is printed\n  \
+     2  the command line is wrong\n  3  a file is refused\n  \
+     4  a file cannot be opened or read, or the output takes no more\n  \
+     5  out of memory\n\nExample:\n  ibsm order --routing balance fabric.reports > fabric.order";
 
 const AUDIT_END: &str =
     "Exit status:\n  0  the tables pass, and no channel is busier than --max-load\n  \
@@ -49,12 +51,6 @@ const AUDIT_END: &str =
      2  the command line is wrong\n  3  a file is refused\n  \
      4  a file cannot be opened or read, or the output takes no more\n  \
      5  out of memory\n\nExample:\n  ibsm audit held.tables fabric.reports";
-
-const ORDER_OF_END: &str = "Exit status:\n  0  done\n  \
-     1  done, and there is no such order, so nothing is printed\n  \
-     2  the command line is wrong\n  3  a file is refused\n  \
-     4  a file cannot be opened or read, or the output takes no more\n  \
-     5  out of memory\n\nExample:\n  ibsm order-of held.tables fabric.reports > fabric.order";
 
 const NEXT_END: &str =
     "Exit status:\n  0  done, and no mixture of both tables can make a credit loop\n  \
@@ -76,14 +72,10 @@ const SERVE_END: &str =
 
 /// What the rules of routing make of a plan, and which one is taken by default.
 const PLAN_ROUTING_HELP: &str =
-    "updown leads packets by one root of each component, and is what is taken where none is named; \
-     spread leads them over all wires, and spreads LIDs over equal ways; balance does so in the best of \
-     several orders of switches and by counted loads, which pays where the fabric is no tree";
+    "updown (default) uses one root; spread uses all cables; balance also counts loads: the best for most fabrics";
 
-/// What the subcommand `order` prints by each rule of routing, and which one is taken by default.
-const ORDER_ROUTING_HELP: &str =
-    "The rule whose order is printed: spread is what is taken where none is named; balance takes the best of \
-     several orders; updown goes by no order, so nothing is printed";
+/// Whose order the subcommand `order` prints by default.
+const ORDER_ROUTING_HELP: &str = "The rule whose order is printed; spread by default";
 
 /// Parses the words of a command line, the program's name first.
 ///
@@ -127,7 +119,6 @@ fn command_line<'a>(alloc: Global, routings: &'a [&'a str]) -> Result<Command<'a
     let command = with(command, plan(alloc, routings));
     let command = with(command, order(alloc, routings));
     let command = with(command, audit(alloc));
-    let command = with(command, order_of(alloc));
     let command = with(command, next(alloc, routings));
     let command = with(command, run(alloc, routings));
     with(command, serve(alloc, routings))
@@ -168,7 +159,7 @@ fn facts<'a>(alloc: Global) -> Result<Command<'a>, AllocError>
     let command = subcommand_head(
         alloc,
         FACTS,
-        "Prints the facts that all the files tell together",
+        "Prints the facts of all files together",
         FACTS_END,
     );
     of_files(alloc, command)
@@ -180,7 +171,7 @@ fn join<'a>(alloc: Global) -> Result<Command<'a>, AllocError>
     let command = subcommand_head(
         alloc,
         JOIN,
-        "Writes the facts that all the files tell together to standard output, as a store file",
+        "Writes the facts of all files together to standard output, as a store file",
         JOIN_END,
     );
     of_files(alloc, command)
@@ -192,7 +183,7 @@ fn plan<'a>(alloc: Global, routings: &'a [&'a str]) -> Result<Command<'a>, Alloc
     let command = subcommand_head(
         alloc,
         PLAN,
-        "Prints the LIDs and the forwarding blocks that follow from the facts of all the files",
+        "Prints the LIDs and the forwarding tables that follow from the facts",
         PLAN_END,
     );
     with_planning(alloc, routings, of_files(alloc, command)?)
@@ -204,15 +195,12 @@ fn order<'a>(alloc: Global, routings: &'a [&'a str]) -> Result<Command<'a>, Allo
     let command = subcommand_head(
         alloc,
         ORDER,
-        "Prints the switches in the order by which a plan goes, by spread if no rule is named, a GUID a line, for --order",
+        "Prints the order of switches by which a rule plans, or that held tables follow, for --order",
         ORDER_END,
     );
-    with_routing(
-        alloc,
-        routings,
-        ORDER_ROUTING_HELP,
-        of_files(alloc, command)?,
-    )
+    let command = command.arg(files(alloc))?;
+    let command = with_routing(alloc, routings, ORDER_ROUTING_HELP, command)?;
+    command.arg(held(alloc))
 }
 
 fn audit<'a>(alloc: Global) -> Result<Command<'a>, AllocError>
@@ -221,24 +209,10 @@ fn audit<'a>(alloc: Global) -> Result<Command<'a>, AllocError>
     let command = subcommand_head(
         alloc,
         AUDIT,
-        "Prints how packets fare by the tables that switches hold, in the subnet of the facts of all the \
-         files",
+        "Audits held tables: do all packets arrive, and can they deadlock?",
         AUDIT_END,
     );
-    with_lanes(alloc, with_report(alloc, of_tables(alloc, command)?)?)
-}
-
-fn order_of<'a>(alloc: Global) -> Result<Command<'a>, AllocError>
-    ensures { IfOk result (IsOf order_of_shape) }
-{
-    let command = subcommand_head(
-        alloc,
-        ORDER_OF,
-        "Prints the switches in an order by which the tables that switches hold lead packets up and then \
-         down, a GUID a line, for --order",
-        ORDER_OF_END,
-    );
-    of_tables(alloc, command)
+    with_report(alloc, of_tables(alloc, command)?)
 }
 
 fn next<'a>(alloc: Global, routings: &'a [&'a str]) -> Result<Command<'a>, AllocError>
@@ -247,8 +221,7 @@ fn next<'a>(alloc: Global, routings: &'a [&'a str]) -> Result<Command<'a>, Alloc
     let command = subcommand_head(
         alloc,
         NEXT,
-        "Prints the tables to write next, from those that switches hold towards the plan of the facts of \
-         all the files, so that no packet for a LID that stays is lost meanwhile",
+        "Prints the tables to write next, from the held ones towards the plan, without losing packets meanwhile",
         NEXT_END,
     );
     let command = with_planning(alloc, routings, of_tables(alloc, command)?)?;
@@ -261,7 +234,7 @@ fn run<'a>(alloc: Global, routings: &'a [&'a str]) -> Result<Command<'a>, AllocE
     let command = subcommand_head(
         alloc,
         RUN,
-        "Runs a schedule in the simulated fabric of a topology, and prints what its commands print",
+        "Runs a schedule in a simulated fabric, and prints what its lines print",
         RUN_END,
     );
     let command = command
@@ -284,7 +257,7 @@ fn serve<'a>(alloc: Global, routings: &'a [&'a str]) -> Result<Command<'a>, Allo
     let command = subcommand_head(
         alloc,
         SERVE,
-        "Serves a subnet manager by the lines on standard input, and prints what it sends and tells",
+        "Runs a subnet manager that is driven by lines on standard input",
         SERVE_END,
     );
     with_planning(alloc, routings, of_seat(alloc, command)?)
@@ -308,19 +281,21 @@ fn of_files<'a>(alloc: Global, command: Command<'a>) -> Result<Command<'a>, Allo
     command.arg(files(alloc))?.arg(floor(alloc))
 }
 
-/// Adds the arguments for the text of tables and for the files, and the option for the floor.
+/// Adds the arguments for the text of tables and for the files.
 fn of_tables<'a>(alloc: Global, command: Command<'a>) -> Result<Command<'a>, AllocError>
-    ensures { IfOk result (AddsRules (text_rule (codes "TABLES") ∷ of_files) command.entry) }
+    ensures { IfOk result (AddsRules (text_rule (codes "TABLES") ∷ files_rule ∷ []) command.entry) }
 {
-    let command = command.arg(text(
-        alloc,
-        TABLES,
-        "The LIDs that ports hold and the forwarding tables of switches, as plan prints them",
-    ))?;
-    of_files(alloc, command)
+    command
+        .arg(text(
+            alloc,
+            TABLES,
+            "The held LIDs and forwarding tables, in the form that plan prints",
+        ))?
+        .arg(files(alloc))
 }
 
-/// Adds the options of an audit: how much the audit prints, which load passes, and what is also printed.
+/// Adds the options of an audit: how much the audit prints, which load passes, what is also printed, and the file of
+/// lanes.
 fn with_report<'a>(alloc: Global, command: Command<'a>) -> Result<Command<'a>, AllocError>
     ensures { IfOk result (AddsRules of_report command.entry) }
 {
@@ -328,14 +303,8 @@ fn with_report<'a>(alloc: Global, command: Command<'a>) -> Result<Command<'a>, A
         .arg(all(alloc))?
         .arg(max_load(alloc))?
         .arg(loads(alloc))?
-        .arg(way(alloc))
-}
-
-/// Adds the options for judging by lane: the file of lanes, and which service levels answers have.
-fn with_lanes<'a>(alloc: Global, command: Command<'a>) -> Result<Command<'a>, AllocError>
-    ensures { IfOk result (AddsRules of_lanes command.entry) }
-{
-    command.arg(lanes(alloc))?.arg(answers_as_asked(alloc))
+        .arg(way(alloc))?
+        .arg(lanes(alloc))
 }
 
 /// Adds the options of a step: whether it may go by the order that held tables imply, and the order of the last step.

@@ -7,15 +7,13 @@ ghost use Rattle.clap.specs.Matches.{first_value, found_of};
 ghost use Rattle.clap.specs.Simple.{subcommand_rows_of};
 ghost use Rattle.clap.specs.Values.{kind_of};
 ghost use Rattle.cli_arguments.specs.WayWord.{is_way};
-ghost use Rattle.cli_arguments.specs.Words.{has_conflict, has_conflict_behind, is_guid, is_guid_word, is_key, is_set};
-ghost use Rattle.cli_arguments.specs.Words.{is_wrong_seat, lacks_lanes, lacks_rule, order_rule, planning_conflict};
+ghost use Rattle.cli_arguments.specs.Words.{has_conflict, has_conflict_behind, is_guid, is_guid_word, is_held_and_named};
+ghost use Rattle.cli_arguments.specs.Words.{is_key, is_wrong_seat, lacks_rule, order_rule, planning_conflict};
 
-use crate::arg_matches::{is_named, is_set};
+use crate::arg_matches::is_named;
 use crate::argument_names::{
-    ANSWERS_AS_ASKED, AUDIT, BALANCE, GUID, LANES, NEXT, ORDER, ROOTS, ROUTING, SERVE, SM_KEY,
-    SPREAD, WAY,
+    AUDIT, BALANCE, GUID, HELD, ORDER, ROOTS, ROUTING, SERVE, SM_KEY, SPREAD, WAY,
 };
-use crate::arguments::all;
 use crate::command_line::subcommand;
 use crate::way_word::packet_named;
 use clap::error::ErrorKind;
@@ -23,10 +21,9 @@ use clap::{ArgMatches, Error};
 use std::alloc::{AllocError, Global};
 
 /// Returns whether options contradict each other, or the GUID or the SM_Key of `serve`, or the packet that `audit`
-/// names, is wrong. Options contradict
-/// each other if roots and an order are both named, if roots or an order are named without a rule of routing that
-/// takes them, or if `--answers-as-asked` is set without a file of lanes. The subcommand `order` needs no rule. The
-/// GUID must be 1 to 16 hex digits, and so must the SM_Key if one is named.
+/// names, is wrong. Options contradict each other if roots and an order are both named, if roots or an order are named
+/// without a rule of routing that takes them, or if held tables are named with a rule, roots or an order. The subcommand
+/// `order` needs no rule. The GUID must be 1 to 16 hex digits, and so must the SM_Key if one is named.
 pub(crate) fn has_conflict(matches: &ArgMatches<'_>) -> bool
     ensures { result ≡ has_conflict_behind (subcommand_rows_of matches.now) }
 {
@@ -43,8 +40,8 @@ fn has_conflict_in(name: &str, words: &ArgMatches<'_>) -> bool
 {
     match name {
         SERVE => planning_conflict(name, words) || has_wrong_seat(words),
-        AUDIT => lacks_lanes(words) || !has_way(words),
-        _ => planning_conflict(name, words),
+        AUDIT => !has_way(words),
+        _ => planning_conflict(name, words) || is_held_and_named(words),
     }
 }
 
@@ -58,11 +55,12 @@ fn planning_conflict(name: &str, words: &ArgMatches<'_>) -> bool
     (rooted && ordered) || lacks_rule(name, words, rooted, ordered)
 }
 
-/// Returns whether the flag about the service levels of answers is set, but no file of lanes is named.
-fn lacks_lanes(words: &ArgMatches<'_>) -> bool
-    ensures { result ≡ lacks_lanes (first_value (found_of words.now)) }
+/// Returns whether the order of held tables is asked for, and a rule, roots or an order are named, too.
+fn is_held_and_named(words: &ArgMatches<'_>) -> bool
+    ensures { result ≡ is_held_and_named (first_value (found_of words.now)) }
 {
-    is_set(words, ANSWERS_AS_ASKED) && !is_named(words, LANES)
+    is_named(words, HELD)
+        && (is_named(words, ROUTING) || is_named(words, ROOTS) || is_named(words, ORDER))
 }
 
 /// Returns whether no GUID of 1 to 16 hex digits is named, or whether an SM_Key is named that is not 1 to 16 hex
@@ -131,7 +129,8 @@ fn lacks_rule(name: &str, words: &ArgMatches<'_>, rooted: bool, ordered: bool) -
     }
 }
 
-/// Returns the error for a command line for which `has_conflict` returns true. Returns an outer `Err` if memory is refused.
+/// Returns the error for a command line for which `has_conflict` returns true. Returns an outer `Err` if memory is
+/// refused.
 pub(crate) fn conflict(alloc: Global, matches: &ArgMatches<'_>) -> Result<Error, AllocError>
     ensures { IfOk result (λ error. kind_of error ≡ ErrorKind.ArgumentConflict) }
 {
@@ -139,7 +138,8 @@ pub(crate) fn conflict(alloc: Global, matches: &ArgMatches<'_>) -> Result<Error,
     command.error(ErrorKind::ArgumentConflict, conflict_text(matches))
 }
 
-/// Returns the text of the error for options that contradict each other, or for a wrong GUID, SM_Key or packet. Returns an empty text if there is no subcommand.
+/// Returns the text of the error for options that contradict each other, or for a wrong GUID, SM_Key or packet. Returns
+/// an empty text if there is no subcommand.
 fn conflict_text(matches: &ArgMatches<'_>) -> &'static str {
     let Some((_, words)) = matches.subcommand() else {
         return "";
@@ -153,8 +153,8 @@ fn conflict_text(matches: &ArgMatches<'_>) -> &'static str {
     if !has_way(words) {
         return "invalid value for '--way <G/p,L>': a port and a LID are wanted, as 0000000000000100/1,5";
     }
-    if lacks_lanes(words) {
-        return "the argument '--answers-as-asked' cannot be used without '--lanes <FILE>'";
+    if is_held_and_named(words) {
+        return "the argument '--held <TABLES>' cannot be used with '--routing <RULE>', '--roots <FILE>' or '--order <FILE>'";
     }
     match (is_named(words, ROOTS), is_named(words, ORDER)) {
         (true, true) => "the argument '--roots <FILE>' cannot be used with '--order <FILE>'",

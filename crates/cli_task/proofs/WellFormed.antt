@@ -1,20 +1,21 @@
 -- Well-formed words ask for a task, and name its inputs.
 use Rattle.std.proofs.Common.{◌≡◌, ◌&&◌, ℕ, Bool, not, true, false, List, [], ◌∷◌, Option, None, Some, ap, inl, inr, refl, sym, subst, ◌∙◌}
-use Rattle.std.specs.Prelude.{codes, is_some, option_and_then, option_map}
+use Rattle.std.specs.Prelude.{codes, is_some, option_and_then, option_map, if◌then◌else◌}
 use Rattle.clap.specs.Matches.{subcommand_name_of}
 use Rattle.clap.specs.declared.parser.matches.ArgMatches.{ArgMatches}
-use Rattle.cli_arguments.specs.WellFormed.{HasItsWords, IsGiven, IsNumberWithin, IsRouting, IsWellFormed, NamesFiles, NamesOrder, NamesPlanning, NamesSeat}
-use Rattle.cli_arguments.specs.WellFormed.{facts, join, plan, order, audit, order_of, next, run, serve}
+use Rattle.cli_arguments.specs.WellFormed.{AreNamed, HasItsWords, IsGiven, IsNumberWithin, IsRouting, IsWellFormed, NamesFiles, NamesOrder, NamesPlanning, NamesSeat}
+use Rattle.cli_arguments.specs.WellFormed.{facts, join, plan, order, audit, next, run, serve}
 use Rattle.cli_arguments.specs.WayWord.{is_way, packet_named}
-use Rattle.cli_arguments.specs.Words.{files_named, has_conflict_of, is_guid, is_key, is_set, lacks_lanes, order_rule, word_named}
-use Rattle.sm_cli.specs.declared.audit_asked.AuditAsked.{AuditAsked}
+use Rattle.cli_arguments.specs.Words.{files_named, has_conflict_of, is_guid, is_key, is_set, order_rule, word_named}
 use Rattle.sm_cli.specs.declared.audit_asked.WayAsked.{WayAsked}
 use Rattle.sm_cli.specs.declared.asked.RuleAsked.{RuleAsked}
 use Rattle.sm_cli.specs.declared.asked.RuleAsked.TheVariants.{UpDown, Spread, SpreadFromRoots, SpreadInOrder, Balance, BalanceInOrder}
 use Rattle.sm_cli.specs.StepAsked.{is_named}
-use Rattle.cli_task.specs.Task.{audit_by, held_order_asked}
+use Rattle.sm_cli.specs.declared.asked.Output.TheVariants.{Order}
+use Rattle.cli_task.specs.declared.task.Task.TheVariants.{Answer, OrderOfTables}
+use Rattle.cli_task.specs.Task.{held_order_asked}
 use Rattle.cli_task.specs.InputNames.{followed_by, names_in, text_if, texts_of_rule}
-use Rattle.cli_task.specs.OptionValues.{floor_asked, guid_asked, lmc_asked, max_load_asked, number_in, port_asked}
+use Rattle.cli_task.specs.OptionValues.{floor_asked, guid_asked, lmc_asked, max_load_asked, number_in, order_asked, port_asked}
 use Rattle.cli_task.specs.OptionValues.{priority_asked, sm_key_asked, within, planning_asked, rule_asked, way_asked}
 use Rattle.cli_task.specs.Task.{task_behind}
 use Rattle.cli_task.proofs.Guids.{guid_is_read}
@@ -173,35 +174,30 @@ module _ (word : List ℕ → Option (List ℕ)) (files : Option (List (List ℕ
       let by = planning_there p in
       rw (by.1, floor.1) (both_there (texts_of_rule word by.0.1) (followed_by (Some []) files) by.2 (both_there (Some []) files refl h.named))
 
-  order_asks : NamesFiles word files → NamesOrder word → Asks (codes "order")
-  order_asks h p =
-      let floor = known (floor_asked (word (codes "floor"))) (floor_there (word (codes "floor")) h.floor) in
-      let rule = rule_there (order_rule (word (codes "routing"))) (word (codes "roots")) (word (codes "order"))
-      (order_routing (word (codes "routing")) p.routing) p.apart in
-      rw (rule.1, floor.1) (both_there (texts_of_rule word rule.0) (followed_by (Some []) files) (rule.2 word refl refl)
-      (both_there (Some []) files refl h.named))
+  order_asks : AreNamed files → NamesOrder word → Asks (codes "order")
+  order_asks h p = held_or_not (word (codes "held")) refl
+    where
+      held_or_not : (o : Option (List ℕ)) → word (codes "held") ≡ o
+          → is_some (option_and_then (names_in word files) (if is_some o then Some OrderOfTables
+          else option_map (λ rule. Answer (record { output = Order rule; floor = 1 })) (order_asked word))) ≡ true
+      held_or_not (Some tables) is = both_there (Some []) _ refl (both_there _ files (one_there (word (codes "held")) (ap is_some is)) h)
+      held_or_not None is =
+          let rule = rule_there (order_rule (word (codes "routing"))) (word (codes "roots")) (word (codes "order"))
+          (order_routing (word (codes "routing")) p.routing) p.apart in
+          rw rule.1 (both_there (texts_of_rule word rule.0) (followed_by (Some []) files) (rule.2 word refl refl) (both_there (Some []) files refl h))
 
-  -- an audit, by lane if a file of lanes is named, names its texts and its files
-  asks_by : (asked : AuditAsked) (lanes : Option (List ℕ)) (answers : Bool) → word (codes "lanes") ≡ lanes → (answers && not (is_some lanes)) ≡ false
-      → IsGiven (word (codes "TABLES")) → NamesFiles word files
-      → is_some (option_and_then (names_in word files) (audit_by (is_some lanes) answers asked)) ≡ true
-  asks_by asked (Some lanes) answers is apart t h =
-      both_there (Some []) _ refl (both_there _ files (two_there (word (codes "lanes")) (word (codes "TABLES")) (ap is_some is) t) h.named)
-  asks_by asked None false is apart t h = both_there (Some []) _ refl (both_there _ files (one_there (word (codes "TABLES")) t) h.named)
-  asks_by asked None true is apart t h = absurd (cc)
+  -- the text of an option is named if the option is given
+  text_there : (o : Option (List ℕ)) → is_some (text_if (is_some o) o) ≡ true
+  text_there None = refl
+  text_there (Some name) = refl
 
-  audit_asks : IsGiven (word (codes "TABLES")) → NamesFiles word files → IsNumberWithin 0 4294967295 (word (codes "max-load")) → lacks_lanes word ≡ false
+  audit_asks : IsGiven (word (codes "TABLES")) → AreNamed files → IsNumberWithin 0 4294967295 (word (codes "max-load"))
       → is_way (word (codes "way")) ≡ true → Asks (codes "audit")
-  audit_asks t h m apart w =
-      let floor = known (floor_asked (word (codes "floor"))) (floor_there (word (codes "floor")) h.floor) in
+  audit_asks t h m w =
       let load = known (max_load_asked (word (codes "max-load"))) (max_load_there (word (codes "max-load")) m) in
       let way = known (way_asked (word (codes "way"))) (way_there (word (codes "way")) w) in
-      rw floor.1 rw load.1 rw way.1 (asks_by _ (word (codes "lanes")) (is_set (word (codes "answers-as-asked"))) refl apart t h)
-
-  order_of_asks : IsGiven (word (codes "TABLES")) → NamesFiles word files → Asks (codes "order-of")
-  order_of_asks t h =
-      let floor = known (floor_asked (word (codes "floor"))) (floor_there (word (codes "floor")) h.floor) in
-      rw floor.1 (both_there (Some []) _ refl (both_there _ files (one_there (word (codes "TABLES")) t) h.named))
+      let texts = both_there _ _ (text_there (word (codes "lanes"))) (one_there (word (codes "TABLES")) t) in
+      rw load.1 rw way.1 (both_there (Some []) _ refl (both_there _ files texts h))
 
   -- the last step's order is named if it is asked for
   order_there : (told : Bool) (last : Option (List ℕ)) → is_some (text_if (is_named (held_order_asked told (is_some last))) last) ≡ true
@@ -209,13 +205,12 @@ module _ (word : List ℕ → Option (List ℕ)) (files : Option (List (List ℕ
   order_there false None = refl
   order_there told (Some name) = refl
 
-  next_asks : IsGiven (word (codes "TABLES")) → NamesFiles word files → NamesPlanning word → Asks (codes "next")
+  next_asks : IsGiven (word (codes "TABLES")) → AreNamed files → NamesPlanning word → Asks (codes "next")
   next_asks t h p =
-      let floor = known (floor_asked (word (codes "floor"))) (floor_there (word (codes "floor")) h.floor) in
       let by = planning_there p in
       let last = order_there (is_set (word (codes "told-order"))) (word (codes "last-order")) in
       let texts = both_there _ _ last (one_there (word (codes "TABLES")) t) in
-      rw (by.1, floor.1) (both_there (texts_of_rule word by.0.1) _ by.2 (both_there _ files texts h.named))
+      rw by.1 (both_there (texts_of_rule word by.0.1) _ by.2 (both_there _ files texts h))
 
   run_asks : IsGiven (word (codes "TOPOLOGY")) → IsGiven (word (codes "SCHEDULE")) → NamesPlanning word → Asks (codes "run")
   run_asks t s p =
@@ -237,8 +232,7 @@ module _ (word : List ℕ → Option (List ℕ)) (files : Option (List (List ℕ
   words_ask name (join is h) = subst Asks (sym is) (join_ask h)
   words_ask name (plan is h p) = subst Asks (sym is) (plan_asks h p)
   words_ask name (order is h p) = subst Asks (sym is) (order_asks h p)
-  words_ask name (audit is t h m apart w) = subst Asks (sym is) (audit_asks t h m apart w)
-  words_ask name (order_of is t h) = subst Asks (sym is) (order_of_asks t h)
+  words_ask name (audit is t h m w) = subst Asks (sym is) (audit_asks t h m w)
   words_ask name (next is t h p) = subst Asks (sym is) (next_asks t h p)
   words_ask name (run is t s p) = subst Asks (sym is) (run_asks t s p)
   words_ask name (serve is s p) = subst Asks (sym is) (serve_asks s p)

@@ -9,7 +9,7 @@ use Rattle.sm_cli.specs.declared.asked.RuleAsked.TheVariants.{UpDown, Spread, Sp
 use Rattle.sm_cli.specs.declared.asked.RuleAsked.TheVariants.{BalanceInOrder}
 use Rattle.sm_cli.specs.StepAsked.{is_named}
 use Rattle.cli_task.specs.declared.task.Task.{Task}
-use Rattle.cli_task.specs.declared.task.Task.TheVariants.{Answer, Audit, AuditByLane, OrderOf, Next, Run, Serve}
+use Rattle.cli_task.specs.declared.task.Task.TheVariants.{Answer, OrderOfTables, Audit, Next, Run, Serve}
 use Rattle.cli_task.specs.Task.{task_asked}
 
 -- the names of the texts that a rule takes, from the words for roots and order; None if the name of such a text is
@@ -25,9 +25,8 @@ texts_of_rule word BalanceInOrder = option_map (λ order. order ∷ []) (word (c
 -- the rule that a task plans by; a rule that takes no text if the task does not plan
 abbrev pub rule_of_task : Task → RuleAsked
 rule_of_task (Answer request) = rule_for request.output
+rule_of_task OrderOfTables = UpDown
 rule_of_task (Audit asked) = UpDown
-rule_of_task (AuditByLane asked) = UpDown
-rule_of_task (OrderOf floor) = UpDown
 rule_of_task (Next asked) = asked.rule
 rule_of_task (Run lmc rule) = rule
 rule_of_task (Serve asked) = asked.rule
@@ -41,21 +40,18 @@ abbrev pub text_if : Bool → Option (List ℕ) → Option (List (List ℕ))
 text_if false name = Some []
 text_if true name = option_map (λ text. text ∷ []) name
 
--- the names of the texts of a step: the text of the last step's order, if it is asked for, and the tables; None if one
--- is missing
-abbrev pub step_texts : (List ℕ → Option (List ℕ)) → Bool → Option (List (List ℕ))
-step_texts word ordered =
-    followed_by (text_if ordered (word (codes "last-order"))) (option_map (λ tables. tables ∷ []) (word (codes "TABLES")))
+-- the names of the text of the option `name`, if it is asked for, and of the text of tables; None if one is missing
+abbrev pub texts_before_files : (List ℕ → Option (List ℕ)) → Bool → List ℕ → Option (List (List ℕ))
+texts_before_files word is_asked name =
+    followed_by (text_if is_asked (word name)) (option_map (λ tables. tables ∷ []) (word (codes "TABLES")))
 
 -- the names of the texts that a task takes after the text of its rule; for `serve`, standard input. None if a name is
 -- missing, or if `serve` has no word for the GUID
 abbrev pub texts_asked : (List ℕ → Option (List ℕ)) → Task → Option (List (List ℕ))
 texts_asked word (Answer request) = Some []
-texts_asked word (Audit asked) = option_map (λ tables. tables ∷ []) (word (codes "TABLES"))
-texts_asked word (AuditByLane asked) =
-    option_and_then (λ lanes. option_map (λ tables. lanes ∷ tables ∷ []) (word (codes "TABLES"))) (word (codes "lanes"))
-texts_asked word (OrderOf floor) = option_map (λ tables. tables ∷ []) (word (codes "TABLES"))
-texts_asked word (Next asked) = step_texts word (is_named asked.held_order)
+texts_asked word OrderOfTables = option_map (λ tables. tables ∷ []) (word (codes "held"))
+texts_asked word (Audit asked) = texts_before_files word asked.lanes (codes "lanes")
+texts_asked word (Next asked) = texts_before_files word (is_named asked.held_order) (codes "last-order")
 texts_asked word (Run lmc rule) =
     option_and_then (λ topology. option_map (λ schedule. topology ∷ schedule ∷ []) (word (codes "SCHEDULE")))
     (word (codes "TOPOLOGY"))
@@ -64,9 +60,8 @@ texts_asked word (Serve asked) = option_map (λ guid. codes "/dev/stdin" ∷ [])
 -- a task takes files
 abbrev pub takes_files : Task → Bool
 takes_files (Answer request) = true
+takes_files OrderOfTables = true
 takes_files (Audit asked) = true
-takes_files (AuditByLane asked) = true
-takes_files (OrderOf floor) = true
 takes_files (Next asked) = true
 takes_files (Run lmc rule) = false
 takes_files (Serve asked) = false

@@ -14,31 +14,19 @@ use Rattle.sm_cli.specs.declared.step_asked.HeldOrder.{HeldOrder}
 use Rattle.sm_cli.specs.declared.step_asked.HeldOrder.TheVariants.{Ignored, NearNamed, NearPlan}
 use Rattle.sm_cli.specs.declared.step_asked.StepAsked.{StepAsked}
 use Rattle.cli_task.specs.declared.task.Task.{Task}
-use Rattle.cli_task.specs.declared.task.Task.TheVariants.{Answer, Audit, AuditByLane, OrderOf, Next, Run, Serve}
+use Rattle.cli_task.specs.declared.task.Task.TheVariants.{Answer, OrderOfTables, Audit, Next, Run, Serve}
 use Rattle.cli_task.specs.OptionValues.{floor_asked, planning_asked, order_asked, max_load_asked, guid_asked}
 use Rattle.cli_task.specs.OptionValues.{port_asked, priority_asked, sm_key_asked, way_asked}
 
--- the audit that the words ask for; None if one of them is wrong
+-- the audit that the words ask for, by lane if a file of lanes is named; None if one of them is wrong
 abbrev pub audit_asked : (List ℕ → Option (List ℕ)) → Option AuditAsked
-audit_asked word = option_and_then (λ floor. option_and_then (λ max_load. option_map (λ way. record {
-  floor = floor;
+audit_asked word = option_and_then (λ max_load. option_map (λ way. record {
+  lanes = is_some (word (codes "lanes"));
   all = is_set (word (codes "all"));
   max_load = max_load;
   loads = is_set (word (codes "loads"));
   way = way;
-}) (way_asked (word (codes "way")))) (max_load_asked (word (codes "max-load")))) (floor_asked (word (codes "floor")))
-
--- the task of an audit, lane by lane if the first argument is true; None if `answers`, which is about lanes, is true
--- and the first argument is false
-abbrev pub audit_by : Bool → Bool → AuditAsked → Option Task
-audit_by true answers audit = Some (AuditByLane (record { audit = audit; answers = answers }))
-audit_by false false audit = Some (Audit audit)
-audit_by false true audit = None
-
--- the task of the audit that the words ask for, lane by lane if a file of lanes is named; None if one of them is wrong
-abbrev pub audit_task : (List ℕ → Option (List ℕ)) → Option Task
-audit_task word = option_and_then
-    (audit_by (is_some (word (codes "lanes"))) (is_set (word (codes "answers-as-asked")))) (audit_asked word)
+}) (way_asked (word (codes "way")))) (max_load_asked (word (codes "max-load")))
 
 -- of the orders that the held tables imply, the one that a step may go by: if the second argument is true, the one
 -- nearest to the order that a text names; otherwise, if `told` is true, the one nearest to the plan's order; otherwise
@@ -54,9 +42,8 @@ held_order_of word = held_order_asked (is_set (word (codes "told-order"))) (is_s
 
 -- the step that the words ask for; None if one of them is wrong
 abbrev pub step_asked : (List ℕ → Option (List ℕ)) → Option StepAsked
-step_asked word = option_and_then (λ by. option_map
-    (λ floor. record { lmc = by.0; rule = by.1; floor = floor; held_order = held_order_of word })
-    (floor_asked (word (codes "floor")))) (planning_asked word)
+step_asked word =
+    option_map (λ by. record { lmc = by.0; rule = by.1; held_order = held_order_of word }) (planning_asked word)
 
 -- the manager with this GUID, port, priority and SM_Key, which plans by the LMC and the rule of `by`; None if one of
 -- the four is None
@@ -77,20 +64,32 @@ abbrev pub output_asked : (List ℕ → Option (List ℕ)) → List ℕ → Opti
 output_asked word command =
     if bytes_eq command (codes "facts") then Some Facts
     else (if bytes_eq command (codes "join") then Some Join
-    else (if bytes_eq command (codes "plan") then option_map (λ by. Plan by.0 by.1) (planning_asked word)
-    else (if bytes_eq command (codes "order") then option_map Order (order_asked word) else None)))
+    else (if bytes_eq command (codes "plan") then option_map (λ by. Plan by.0 by.1) (planning_asked word) else None))
+
+-- the task of the subcommand `order` with the words of its arguments: the order of held tables if these are named,
+-- otherwise that of a rule, from files at their own floors; None if one of the words is wrong
+abbrev pub order_task : (List ℕ → Option (List ℕ)) → Option Task
+order_task word =
+    if is_some (word (codes "held")) then Some OrderOfTables
+    else option_map (λ rule. Answer (record { output = Order rule; floor = 1 })) (order_asked word)
+
+-- the task of the subcommand `command`, which is `facts`, `join` or `plan`, with the words of its arguments; None for
+-- another subcommand, or if one of the words is wrong
+abbrev pub answer_task : (List ℕ → Option (List ℕ)) → List ℕ → Option Task
+answer_task word command =
+    option_and_then (λ output. option_map (λ floor. Answer (record { output = output; floor = floor }))
+    (floor_asked (word (codes "floor")))) (output_asked word command)
 
 -- the task of the subcommand `command` with the words of its arguments; None if one of the words is wrong, or there is
 -- no such subcommand
 abbrev pub task_behind : (List ℕ → Option (List ℕ)) → List ℕ → Option Task
 task_behind word command =
-    if bytes_eq command (codes "audit") then audit_task word
-    else (if bytes_eq command (codes "order-of") then option_map OrderOf (floor_asked (word (codes "floor")))
+    if bytes_eq command (codes "order") then order_task word
+    else (if bytes_eq command (codes "audit") then option_map Audit (audit_asked word)
     else (if bytes_eq command (codes "next") then option_map Next (step_asked word)
     else (if bytes_eq command (codes "run") then option_map (λ by. Run by.0 by.1) (planning_asked word)
     else (if bytes_eq command (codes "serve") then option_map Serve (serving_asked word)
-    else option_and_then (λ output. option_map (λ floor. Answer (record { output = output; floor = floor }))
-    (floor_asked (word (codes "floor")))) (output_asked word command)))))
+    else answer_task word command))))
 
 -- the task that the words of the command line ask for; None if the words name no subcommand, or one of the words is
 -- wrong

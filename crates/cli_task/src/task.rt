@@ -1,11 +1,11 @@
 //! The task that the words of the command line ask for.
 ghost use Rattle.std.specs.Prelude.{◌≡◌, IfOk, codes, map, option_map};
 ghost use Rattle.clap.specs.Matches.{first_value, found_of, matched_of, raw_values};
-ghost use Rattle.cli_task.specs.Task.{audit_asked, audit_task, held_order_of, output_asked, step_asked};
+ghost use Rattle.cli_task.specs.Task.{answer_task, audit_asked, held_order_of, order_task, output_asked, step_asked};
 ghost use Rattle.cli_task.specs.Task.{task_asked, task_behind};
-ghost use Rattle.cli_task.specs.InputNames.{step_texts, names_asked, names_in, rule_of_task};
+ghost use Rattle.cli_task.specs.InputNames.{names_asked, names_in, rule_of_task};
 ghost use Rattle.cli_task.specs.Task.{serving_asked};
-ghost use Rattle.cli_task.specs.InputNames.{takes_files, texts_asked, texts_of_rule};
+ghost use Rattle.cli_task.specs.InputNames.{takes_files, texts_asked, texts_before_files, texts_of_rule};
 
 use crate::option_values::{
     floor_of, guid_of, max_load_of, order_of, planning_of, port_of, priority_of, sm_key_of, way_of,
@@ -14,13 +14,11 @@ use arrayvec::ArrayVec;
 use attr_codec::Lmc;
 use clap::ArgMatches;
 use cli_arguments::argument_names::{
-    ALL, ANSWERS_AS_ASKED, AUDIT, FACTS, FILE, GUID, JOIN, LANES, LAST_ORDER, LOADS, NEXT, ORDER,
-    ORDER_OF, PLAN, ROOTS, RUN, SCHEDULE, SERVE, TABLES, TOLD_ORDER, TOPOLOGY,
+    ALL, AUDIT, FACTS, FILE, GUID, HELD, JOIN, LANES, LAST_ORDER, LOADS, NEXT, ORDER, PLAN, ROOTS,
+    RUN, SCHEDULE, SERVE, TABLES, TOLD_ORDER, TOPOLOGY,
 };
 use cli_arguments::is_set;
-use sm_cli::{
-    AuditAsked, HeldOrder, Invocation, LaneAuditAsked, Output, RuleAsked, Serving, StepAsked,
-};
+use sm_cli::{AuditAsked, HeldOrder, Invocation, Output, RuleAsked, Serving, StepAsked};
 use smp_bytes::Generation;
 use std::alloc::{AllocError, Global};
 
@@ -29,13 +27,10 @@ use std::alloc::{AllocError, Global};
 pub enum Task {
     /// Writing what files say together: facts, a store file, a plan or an order.
     Answer(Invocation),
+    /// Writing the order of switches that tables imply in the subnet that files describe.
+    OrderOfTables,
     /// Auditing tables in the subnet that files describe.
     Audit(AuditAsked),
-    /// Auditing tables in the subnet that files describe, with credit loops judged lane by lane.
-    AuditByLane(LaneAuditAsked),
-    /// Writing the order of switches that tables imply in the subnet that files describe. Facts of generations before
-    /// the given one are ignored.
-    OrderOf(Generation),
     /// Writing the tables that are to be written next.
     Next(StepAsked),
     /// Running a schedule in the fabric of a topology, with managers that plan 2^LMC LIDs for each adapter port by the
@@ -55,7 +50,7 @@ impl Task {
     {
         match self {
             Task::Answer(request) => request.output.rule(),
-            Task::Audit(_) | Task::AuditByLane(_) | Task::OrderOf(_) => RuleAsked::UpDown,
+            Task::OrderOfTables | Task::Audit(_) => RuleAsked::UpDown,
             Task::Next(asked) => asked.rule,
             Task::Run(_, rule) => *rule,
             Task::Serve(asked) => asked.rule,
@@ -67,11 +62,7 @@ impl Task {
         ensures { result ≡ takes_files self.now }
     {
         match self {
-            Task::Answer(_)
-            | Task::Audit(_)
-            | Task::AuditByLane(_)
-            | Task::OrderOf(_)
-            | Task::Next(_) => true,
+            Task::Answer(_) | Task::OrderOfTables | Task::Audit(_) | Task::Next(_) => true,
             Task::Run(..) | Task::Serve(_) => false,
         }
     }
@@ -92,35 +83,41 @@ fn task_behind(command: &str, words: &ArgMatches<'_>) -> Option<Task>
     ensures { result ≡ task_behind (first_value (found_of words.now)) command.now }
 {
     match command {
-        AUDIT => audit_task(words),
-        ORDER_OF => Some(Task::OrderOf(floor_of(words)?)),
+        ORDER => order_task(words),
+        AUDIT => Some(Task::Audit(audit_of(words)?)),
         NEXT => Some(Task::Next(step_of(words)?)),
         RUN => {
             let (lmc, rule) = planning_of(words)?;
             Some(Task::Run(lmc, rule))
         }
         SERVE => Some(Task::Serve(serving_of(words)?)),
-        _ => {
-            let output = output_of(command, words)?;
-            let floor = floor_of(words)?;
+        _ => answer_task(command, words),
+    }
+}
+
+/// Returns the task of the subcommand `order`, as asked by `words`, which are those after it. The order is that of held
+/// tables if these are named. Returns `None` if one of the words is wrong.
+fn order_task(words: &ArgMatches<'_>) -> Option<Task>
+    ensures { result ≡ order_task (first_value (found_of words.now)) }
+{
+    match words.get_str(HELD) {
+        Some(_) => Some(Task::OrderOfTables),
+        None => {
+            let output = Output::Order(order_of(words)?);
+            let floor = Generation::new(1)?;
             Some(Task::Answer(Invocation { output, floor }))
         }
     }
 }
 
-/// Returns the task of an audit, as asked by `words`, which are those after a subcommand. The audit is lane by lane if
-/// a file of lanes is named. Returns `None` if one of the words is wrong, or if a flag about lanes is set without a
-/// file of lanes.
-fn audit_task(words: &ArgMatches<'_>) -> Option<Task>
-    ensures { result ≡ audit_task (first_value (found_of words.now)) }
+/// Returns the task of the subcommand `command`, which is `facts`, `join` or `plan`, as asked by `words`, which are
+/// those after it. Returns `None` for another subcommand, or if one of the words is wrong.
+fn answer_task(command: &str, words: &ArgMatches<'_>) -> Option<Task>
+    ensures { result ≡ answer_task (first_value (found_of words.now)) command.now }
 {
-    let audit = audit_of(words)?;
-    let answers = is_set(words, ANSWERS_AS_ASKED);
-    match words.get_str(LANES) {
-        Some(_) => Some(Task::AuditByLane(LaneAuditAsked { audit, answers })),
-        None if !answers => Some(Task::Audit(audit)),
-        None => None,
-    }
+    let output = output_of(command, words)?;
+    let floor = floor_of(words)?;
+    Some(Task::Answer(Invocation { output, floor }))
 }
 
 /// Returns the options of an audit, as asked by `words`, which are those after a subcommand. Returns `None` if one of
@@ -128,11 +125,10 @@ fn audit_task(words: &ArgMatches<'_>) -> Option<Task>
 fn audit_of(words: &ArgMatches<'_>) -> Option<AuditAsked>
     ensures { result ≡ audit_asked (first_value (found_of words.now)) }
 {
-    let floor = floor_of(words)?;
     let max_load = max_load_of(words)?;
     let way = way_of(words)?;
     Some(AuditAsked {
-        floor,
+        lanes: words.get_str(LANES).is_some(),
         all: is_set(words, ALL),
         max_load,
         loads: is_set(words, LOADS),
@@ -146,11 +142,9 @@ fn step_of(words: &ArgMatches<'_>) -> Option<StepAsked>
     ensures { result ≡ step_asked (first_value (found_of words.now)) }
 {
     let (lmc, rule) = planning_of(words)?;
-    let floor = floor_of(words)?;
     Some(StepAsked {
         lmc,
         rule,
-        floor,
         held_order: held_order_of(words),
     })
 }
@@ -187,7 +181,7 @@ fn serving_of(words: &ArgMatches<'_>) -> Option<Serving>
 }
 
 /// Returns the output that the subcommand `command` writes from files. Returns `None` if `command` is not `facts`,
-/// `join`, `plan` or `order`, or if one of `words` is wrong.
+/// `join` or `plan`, or if one of `words` is wrong.
 fn output_of(command: &str, words: &ArgMatches<'_>) -> Option<Output>
     ensures { result ≡ output_asked (first_value (found_of words.now)) command.now }
 {
@@ -198,7 +192,6 @@ fn output_of(command: &str, words: &ArgMatches<'_>) -> Option<Output>
             let (lmc, rule) = planning_of(words)?;
             Some(Output::Plan(lmc, rule))
         }
-        ORDER => Some(Output::Order(order_of(words)?)),
         _ => None,
     }
 }
@@ -262,15 +255,19 @@ fn texts_of_rule<'a>(words: &ArgMatches<'a>, rule: RuleAsked) -> Option<ArrayVec
     Some(texts)
 }
 
-/// Returns the names of a step's texts: the text of the last step's order if `has_order` is true, and the tables.
-/// Returns `None` if one of these texts is not named.
-fn texts_of_step<'a>(words: &ArgMatches<'a>, has_order: bool) -> Option<ArrayVec<&'a str, 2>>
+/// Returns the names of the text `option` if `is_asked` is true, and of the text of tables. Returns `None` if one of
+/// these texts is not named.
+fn texts_before_files<'a>(
+    words: &ArgMatches<'a>,
+    is_asked: bool,
+    option: &str,
+) -> Option<ArrayVec<&'a str, 2>>
     ensures { option_map (λ found. map (λ name. name.now) found.items) result
-        ≡ step_texts (first_value (found_of words.now)) has_order }
+        ≡ texts_before_files (first_value (found_of words.now)) is_asked option.now }
 {
     let mut texts = ArrayVec::new();
-    if has_order {
-        texts.push(words.get_str(LAST_ORDER)?);
+    if is_asked {
+        texts.push(words.get_str(option)?);
     }
     texts.push(words.get_str(TABLES)?);
     Some(texts)
@@ -285,11 +282,10 @@ fn texts_of<'a>(words: &ArgMatches<'a>, task: &Task) -> Option<ArrayVec<&'a str,
     let mut texts = ArrayVec::new();
     match task {
         Task::Answer(_) => {}
-        Task::Audit(_) | Task::OrderOf(_) => texts.push(words.get_str(TABLES)?),
-        Task::Next(asked) => return texts_of_step(words, asked.held_order.is_named()),
-        Task::AuditByLane(_) => {
-            texts.push(words.get_str(LANES)?);
-            texts.push(words.get_str(TABLES)?);
+        Task::OrderOfTables => texts.push(words.get_str(HELD)?),
+        Task::Audit(asked) => return texts_before_files(words, asked.lanes, LANES),
+        Task::Next(asked) => {
+            return texts_before_files(words, asked.held_order.is_named(), LAST_ORDER);
         }
         Task::Run(..) => {
             texts.push(words.get_str(TOPOLOGY)?);

@@ -8,10 +8,10 @@ use Rattle.clap.specs.declared.parser.matches.ArgMatches.{ArgMatches}
 use Rattle.sm_cli.specs.Asked.{rule_for, texts_if}
 use Rattle.sm_cli.specs.StepAsked.{is_named}
 use Rattle.cli_arguments.specs.Words.{files_named, word_named}
-use Rattle.cli_task.specs.InputNames.{followed_by, names_asked, names_in, step_texts, text_if, texts_asked}
+use Rattle.cli_task.specs.InputNames.{followed_by, names_asked, names_in, text_if, texts_asked, texts_before_files}
 use Rattle.cli_task.specs.InputNames.{texts_of_rule}
 use Rattle.cli_task.specs.declared.task.Task.{Task}
-use Rattle.cli_task.specs.declared.task.Task.TheVariants.{Answer, Audit, AuditByLane, OrderOf, Next, Run, Serve}
+use Rattle.cli_task.specs.declared.task.Task.TheVariants.{Answer, OrderOfTables, Audit, Next, Run, Serve}
 use Rattle.cli_task.proofs.RuleTexts.{one_word, texts_counted}
 use Rattle.ibsm.specs.Ending.{HasEnoughNames}
 
@@ -33,12 +33,12 @@ text_counted : (has_text : Bool) (name : Option (List ℕ)) (xs : List (List ℕ
 text_counted false name xs e = ap length (sym (same_Some _ _ e))
 text_counted true name xs e = one_word name xs e
 
--- the texts of a step are that of an order, if there is one, and the tables
-step_counted : (word : List ℕ → Option (List ℕ)) (ordered : Bool) (xs : List (List ℕ)) → step_texts word ordered ≡ Some xs
-    → length xs ≡ texts_if ordered + 1
-step_counted word ordered xs e =
-    let all = both_named (text_if ordered (word (codes "last-order"))) _ xs e in
-    let order = text_counted ordered (word (codes "last-order")) all.0 all.2 in
+-- the texts before the files are that of an option, if it is given, and the tables
+texts_before_counted : (word : List ℕ → Option (List ℕ)) (is_asked : Bool) (name : List ℕ) (xs : List (List ℕ))
+    → texts_before_files word is_asked name ≡ Some xs → length xs ≡ texts_if is_asked + 1
+texts_before_counted word is_asked name xs e =
+    let all = both_named (text_if is_asked (word name)) _ xs e in
+    let text = text_counted is_asked (word name) all.0 all.2 in
     let tables = one_word (word (codes "TABLES")) all.1 all.3 in
     let count = all.4 in omega arith
 
@@ -53,29 +53,23 @@ names_suffice word files (Answer request) names e =
     let all = both_named (texts_of_rule word (rule_for request.output)) (followed_by (Some []) files) names e in
     let texts = texts_counted word (rule_for request.output) all.0 all.2 in
     let count = all.4 in omega arith
+names_suffice word files OrderOfTables names e =
+    let all = both_named (Some []) (followed_by (texts_asked word OrderOfTables) files) names e in
+    let rest = both_named (texts_asked word OrderOfTables) files all.1 all.3 in
+    let one = one_word (word (codes "held")) rest.0 rest.2 in
+    let count = all.4 in
+    let others = rest.4 in omega arith
 names_suffice word files (Audit asked) names e =
     let all = both_named (Some []) (followed_by (texts_asked word (Audit asked)) files) names e in
     let rest = both_named (texts_asked word (Audit asked)) files all.1 all.3 in
-    let one = one_word (word (codes "TABLES")) rest.0 rest.2 in
-    let count = all.4 in
-    let others = rest.4 in omega arith
-names_suffice word files (AuditByLane asked) names e =
-    let all = both_named (Some []) (followed_by (texts_asked word (AuditByLane asked)) files) names e in
-    let rest = both_named (texts_asked word (AuditByLane asked)) files all.1 all.3 in
-    let two = two_words (word (codes "lanes")) (word (codes "TABLES")) rest.0 rest.2 in
-    let count = all.4 in
-    let others = rest.4 in omega arith
-names_suffice word files (OrderOf floor) names e =
-    let all = both_named (Some []) (followed_by (texts_asked word (OrderOf floor)) files) names e in
-    let rest = both_named (texts_asked word (OrderOf floor)) files all.1 all.3 in
-    let one = one_word (word (codes "TABLES")) rest.0 rest.2 in
+    let own = texts_before_counted word asked.lanes (codes "lanes") rest.0 rest.2 in
     let count = all.4 in
     let others = rest.4 in omega arith
 names_suffice word files (Next step) names e =
     let all = both_named (texts_of_rule word step.rule) (followed_by (texts_asked word (Next step)) files) names e in
     let texts = texts_counted word step.rule all.0 all.2 in
     let rest = both_named (texts_asked word (Next step)) files all.1 all.3 in
-    let own = step_counted word (is_named step.held_order) rest.0 rest.2 in
+    let own = texts_before_counted word (is_named step.held_order) (codes "last-order") rest.0 rest.2 in
     let count = all.4 in
     let others = rest.4 in omega arith
 names_suffice word files (Run lmc rule) names e =

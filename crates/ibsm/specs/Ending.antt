@@ -5,7 +5,7 @@ use Rattle.byte_io.specs.Source.{SourceState}
 use Rattle.clap.specs.declared.error.kind.ErrorKind.{ErrorKind}
 use Rattle.clap.specs.declared.error.kind.ErrorKind.TheVariants.{DisplayHelp, DisplayVersion}
 use Rattle.clap.specs.declared.parser.matches.ArgMatches.{ArgMatches}
-use Rattle.sm_cli.specs.Asked.{rule_for, texts_for}
+use Rattle.sm_cli.specs.Asked.{rule_for, texts_for, texts_if}
 use Rattle.sm_cli.specs.ExitStatus.{status_of}
 use Rattle.sm_cli.specs.FaultLine.{fault_text, program_line}
 use Rattle.sm_cli.specs.Run.{HasAnswered, IsFaultOf}
@@ -13,8 +13,7 @@ use Rattle.sm_cli.specs.declared.exit_status.ExitStatus.{ExitStatus}
 use Rattle.sm_cli.specs.declared.exit_status.ExitStatus.TheVariants.{Done, Failed, InputOutput}
 use Rattle.sm_cli.specs.declared.fault.Fault.{Fault}
 use Rattle.sm_cli.specs.declared.fault.Fault.TheVariants.{Open, File, Text, NoRoom, Write, Memory}
-use Rattle.audit_report.specs.AuditRun.{HasAudited, IsAuditFault}
-use Rattle.lane_report.specs.LaneRun.{HasAuditedByLane, IsLaneAuditFault}
+use Rattle.audit_run.specs.AuditRun.{HasAudited, IsAuditFault}
 use Rattle.next_run.specs.NextRun.{HasStepped, IsStepFault, texts_before}
 use Rattle.order_run.specs.OrderRun.{HasPrintedOrder, IsOrderFault}
 use Rattle.record_file.specs.declared.file_fault.FileFault.TheVariants.{Read}
@@ -24,7 +23,7 @@ use Rattle.cli_task.specs.Task.{task_asked}
 use Rattle.cli_task.specs.InputNames.{names_asked}
 use Rattle.ibsm.specs.declared.opener.OpenFault.{OpenFault}
 use Rattle.cli_task.specs.declared.task.Task.{Task}
-use Rattle.cli_task.specs.declared.task.Task.TheVariants.{Answer, Audit, AuditByLane, OrderOf, Next, Run, Serve}
+use Rattle.cli_task.specs.declared.task.Task.TheVariants.{Answer, OrderOfTables, Audit, Next, Run, Serve}
 use Rattle.ibsm.specs.Opening.{AreOpened, IsOpenFault}
 
 -- what is done ----------------------------------------------------------------------------------
@@ -33,9 +32,8 @@ use Rattle.ibsm.specs.Opening.{AreOpened, IsOpenFault}
 -- name
 abbrev pub HasEnoughNames : Task → ℕ → Type 0
 HasEnoughNames (Answer request) count = texts_for (rule_for request.output) ≤ count
-HasEnoughNames (Audit asked) count = 1 ≤ count
-HasEnoughNames (AuditByLane asked) count = 2 ≤ count
-HasEnoughNames (OrderOf floor) count = 1 ≤ count
+HasEnoughNames OrderOfTables count = 1 ≤ count
+HasEnoughNames (Audit asked) count = texts_if asked.lanes + 1 ≤ count
 HasEnoughNames (Next asked) count = texts_before asked + 1 ≤ count
 HasEnoughNames (Run lmc rule) count = count ≡ texts_for rule + 2
 HasEnoughNames (Serve asked) count = count ≡ texts_for asked.rule + 1
@@ -46,12 +44,10 @@ abbrev pub Does : {S : Type 0} → (S → SourceState) → Task → List S → L
     → (List ℕ → Type 0) → Bool → Type 0
 Does state (Answer request) olds news prints says passed =
     (passed ≡ true) × HasAnswered state request olds news prints
+Does state OrderOfTables olds news prints says passed =
+    HasPrintedOrder state olds news prints passed
 Does state (Audit asked) olds news prints says passed =
     HasAudited state asked olds news prints passed
-Does state (AuditByLane asked) olds news prints says passed =
-    HasAuditedByLane state asked olds news prints passed
-Does state (OrderOf floor) olds news prints says passed =
-    HasPrintedOrder state floor olds news prints passed
 Does state (Next asked) olds news prints says passed =
     HasStepped state asked olds news prints says passed
 Does state (Run lmc rule) olds news prints says passed =
@@ -111,12 +107,10 @@ abbrev pub IsFaultOver : {S : Type 0} → (S → SourceState) → Task → List 
     → (List ℕ → Type 0) → (List ℕ → Type 0) → Bool → Fault → Type 0
 IsFaultOver state (Answer request) olds news prints whole output_failed fault =
     IsFaultOf state request olds news output_failed fault
+IsFaultOver state OrderOfTables olds news prints whole output_failed fault =
+    IsOrderFault state olds news output_failed fault
 IsFaultOver state (Audit asked) olds news prints whole output_failed fault =
-    IsAuditFault state asked.floor olds news output_failed fault
-IsFaultOver state (AuditByLane asked) olds news prints whole output_failed fault =
-    IsLaneAuditFault state asked.audit.floor olds news output_failed fault
-IsFaultOver state (OrderOf floor) olds news prints whole output_failed fault =
-    IsOrderFault state floor olds news output_failed fault
+    IsAuditFault state asked.lanes olds news output_failed fault
 IsFaultOver state (Next asked) olds news prints whole output_failed fault =
     IsStepFault state asked olds news output_failed fault
 IsFaultOver state (Run lmc rule) olds news prints whole output_failed fault =

@@ -10,12 +10,11 @@ ghost use Rattle.ibsm.specs.Ending.{fault_line, name_of, status_after};
 ghost use Rattle.ibsm.specs.Opening.{AreOpened, IsOpenFault};
 
 use crate::opener::{OpenFault, Opener};
-use audit_report::run_audit;
+use audit_run::run_audit;
 use byte_io::{Sink, Source, ToWrite};
 use cli_task::Task;
-use lane_report::run_lane_audit;
 use next_run::run_next;
-use order_run::run_order_of;
+use order_run::run_order_of_tables;
 use schedule_run::run_schedule;
 use serve_task::run_serve;
 use sm_cli::{ExitStatus, Fault, run_files, write_fault};
@@ -129,9 +128,8 @@ fn do_task<S: Source, W: Sink, E: Sink>(
             Ok(()) => Ok(true),
             Err(fault) => Err(fault),
         },
+        Task::OrderOfTables => run_order_of_tables(alloc, inputs, output),
         Task::Audit(asked) => run_audit(alloc, inputs, asked, output),
-        Task::AuditByLane(asked) => run_lane_audit(alloc, inputs, asked, output),
-        Task::OrderOf(floor) => run_order_of(alloc, inputs, floor, output),
         Task::Next(asked) => run_next(alloc, inputs, asked, output, errors),
         Task::Run(lmc, rule) => match run_schedule(alloc, inputs, lmc, rule, output) {
             Ok(()) => Ok(true),

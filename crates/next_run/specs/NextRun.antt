@@ -185,7 +185,7 @@ StopsStep at lmc rule facts held sink_failed fault = ⊥
 -- the reader of the inputs after the text that the rule takes: the text of an order, if it is asked for, the tables and
 -- the files
 abbrev pub reader_of : {S : Type 0} → (S → SourceState) → StepAsked → Reader S OrderAndTables
-reader_of state asked = step_reader state asked.floor (is_named asked.held_order)
+reader_of state asked = step_reader state (is_named asked.held_order)
 
 -- the number of texts that a step reads before the tables
 abbrev pub texts_before : StepAsked → ℕ

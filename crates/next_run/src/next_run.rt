@@ -77,7 +77,6 @@ pub fn run_next<S: Source, W: Sink, E: Sink>(
     ensures nothing_told { OnErr result (told.new ≡ told.old) }
 {
     let reader = StepReader {
-        floor: asked.floor,
         has_order: asked.held_order.is_named(),
     };
     match read_inputs(alloc, asked.rule, &reader, inputs) {

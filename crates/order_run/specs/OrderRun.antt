@@ -31,20 +31,20 @@ pub record IsOrderAnswer (facts : Facts) (held : HeldPlan) (prints : List ℕ �
 
 -- the tables and then the files were read. The order that the tables imply, or nothing if they imply none, is
 -- printed, as `prints` says. `has_order` says whether the tables imply an order
-pub record HasPrintedOrder {S : Type 0} (state : S → SourceState) (floor : ℕ) (olds news : List S)
+pub record HasPrintedOrder {S : Type 0} (state : S → SourceState) (olds news : List S)
     (prints : List ℕ → Type 0) (has_order : Bool) : Type 0 where
   pub read_are : TablesAndFacts
-  pub read : AreTablesAndFiles state floor olds news read_are
+  pub read : AreTablesAndFiles state olds news read_are
   pub telling : IsOrderAnswer read_are.store read_are.held prints has_order
 
 -- the tables and the files were read, and writing the order of the tables ended with `fault`
-pub record FailsToTell {S : Type 0} (state : S → SourceState) (floor : ℕ) (olds news : List S)
+pub record FailsToTell {S : Type 0} (state : S → SourceState) (olds news : List S)
     (sink_failed : Bool) (fault : Fault) : Type 0 where
   pub read_are : TablesAndFacts
-  pub read : AreTablesAndFiles state floor olds news read_are
+  pub read : AreTablesAndFiles state olds news read_are
   pub why : IsOutputFault sink_failed fault
 
 -- a run on open inputs ends with `fault`: the inputs are not read, or the order is not written
-abbrev pub IsOrderFault : {S : Type 0} → (S → SourceState) → ℕ → List S → List S → Bool → Fault → Type 0
-IsOrderFault state floor olds news sink_failed fault =
-    AreNoTablesAndFiles state 0 olds news fault ⊎ FailsToTell state floor olds news sink_failed fault
+abbrev pub IsOrderFault : {S : Type 0} → (S → SourceState) → List S → List S → Bool → Fault → Type 0
+IsOrderFault state olds news sink_failed fault =
+    AreNoTablesAndFiles state 0 olds news fault ⊎ FailsToTell state olds news sink_failed fault

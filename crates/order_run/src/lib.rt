@@ -3,4 +3,4 @@
 
 mod order_run;
 
-pub use order_run::run_order_of;
+pub use order_run::run_order_of_tables;

@@ -15,7 +15,7 @@ use fact_store::Store;
 use held_tables::{Held, Subnet};
 use packet_walks::Network;
 use sm_cli::{Fault, read_tables_and_files, write_order};
-use smp_bytes::{Generation, Guid};
+use smp_bytes::Guid;
 use std::alloc::{AllocError, Global};
 use told_order::told_order;
 
@@ -28,22 +28,21 @@ use told_order::told_order;
 ///
 /// Returns the fault of the first input that is refused, `Memory` if memory is refused, or `Write` if a write fails.
 /// Nothing is written unless the error is `Write`; how much is written then is unspecified.
-pub fn run_order_of<S: Source, W: Sink>(
+pub fn run_order_of_tables<S: Source, W: Sink>(
     alloc: Global,
     inputs: &mut [S],
-    floor: Generation,
     sink: &mut W,
 ) -> Result<bool, Fault>
     requires { 1 ≤ length inputs.old }
-    ensures done { IfOk result (HasPrintedOrder S.state floor inputs.old inputs.new
+    ensures done { IfOk result (HasPrintedOrder S.state inputs.old inputs.new
         (Appends (W.written sink.old) (W.written sink.new))) }
     ensures flushed { OnOk result (IsTrue (W.is_flushed sink.new)) }
     ensures sink_works { OnOk result (W.has_failed sink.new ≡ false) }
-    ensures refused { IfErr result (IsOrderFault S.state floor
+    ensures refused { IfErr result (IsOrderFault S.state
         inputs.old inputs.new (W.has_failed sink.new)) }
     ensures nothing_written { OnErr result ((result ≡ Err Fault.Write) ⊎ (sink.new ≡ sink.old)) }
 {
-    match read_tables_and_files(alloc, 0, inputs, floor) {
+    match read_tables_and_files(alloc, 0, inputs) {
         Ok(read) => answer(alloc, sink, &read.store, &read.held),
         Err(fault) => Err(fault),
     }

@@ -1,4 +1,4 @@
-use Rattle.cli_arguments.specs.CommandLine.{audit_shape, facts_shape, join_shape, next_shape, order_of_shape, order_shape, plan_shape, program_app, run_shape}
+use Rattle.cli_arguments.specs.CommandLine.{audit_shape, facts_shape, join_shape, next_shape, order_shape, plan_shape, program_app, run_shape}
 use Rattle.cli_arguments.specs.CommandLine.{serve_shape}
 use Rattle.cli_arguments.proofs.command_line.command_line.Goals as goal
 
@@ -10,7 +10,6 @@ returns c =
     let three = c.with-command-3.ensures _ (plan_shape words) two c.plan.ensures in
     let four = c.with-command-4.ensures _ (order_shape words) three c.order.ensures in
     let five = c.with-command-5.ensures _ audit_shape four c.audit.ensures in
-    let six = c.with-command-6.ensures _ order_of_shape five c.order_of.ensures in
-    let seven = c.with-command-7.ensures _ (next_shape words) six c.next.ensures in
-    let eight = c.with-command-8.ensures _ (run_shape words) seven c.run.ensures in
-    c.with.ensures _ (serve_shape words) eight c.serve.ensures
+    let six = c.with-command-6.ensures _ (next_shape words) five c.next.ensures in
+    let seven = c.with-command-7.ensures _ (run_shape words) six c.run.ensures in
+    c.with.ensures _ (serve_shape words) seven c.serve.ensures

@@ -8,7 +8,7 @@ use Rattle.next_run.proofs.next_run.run_next.Goals as goal
 
 pub returns-in-Ok-clause-done : goal.returns-in-Ok-clause-done
 returns-in-Ok-clause-done g c =
-    let Read : Bool → Type 0 = λ x. AreInputs g.S.Source.state (step_reader g.S.Source.state c.args.asked.floor x) c.args.asked.rule
+    let Read : Bool → Type 0 = λ x. AreInputs g.S.Source.state (step_reader g.S.Source.state x) c.args.asked.rule
     c.args.inputs.now c.read_inputs.new.inputs (value_of c.in-Ok.rule) c.in-Ok.found in
     IfOk-weaker c.step.result _ _ (λ passed step. record {
       rule = value_of c.in-Ok.rule;
@@ -19,7 +19,7 @@ returns-in-Ok-clause-done g c =
 
 pub returns-in-Ok-clause-refused : goal.returns-in-Ok-clause-refused
 returns-in-Ok-clause-refused g c =
-    let Read : Bool → Type 0 = λ x. AreInputs g.S.Source.state (step_reader g.S.Source.state c.args.asked.floor x) c.args.asked.rule
+    let Read : Bool → Type 0 = λ x. AreInputs g.S.Source.state (step_reader g.S.Source.state x) c.args.asked.rule
     c.args.inputs.now c.read_inputs.new.inputs (value_of c.in-Ok.rule) c.in-Ok.found in
     IfErr-weaker c.step.result _ _ (λ fault why. inr (record {
       rule = value_of c.in-Ok.rule;
@@ -31,6 +31,6 @@ returns-in-Ok-clause-refused g c =
 pub returns-in-Err-clause-refused : goal.returns-in-Err-clause-refused
 returns-in-Err-clause-refused g c =
     let state = g.S.Source.state in
-    let Refused : Bool → Type 0 = λ x. IsInputFault state (step_reader state c.args.asked.floor x) c.args.asked.rule
+    let Refused : Bool → Type 0 = λ x. IsInputFault state (step_reader state x) c.args.asked.rule
     c.args.inputs.now c.read_inputs.new.inputs c.in-Err.fault in
     inl (subst Refused c.is_named.ensures c.in-Err.ensures.refused)

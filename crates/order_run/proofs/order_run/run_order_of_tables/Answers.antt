@@ -1,7 +1,7 @@
 -- The inputs were read, and the order that they tell was written.
 use Rattle.std.proofs.Common.{inr}
 use Rattle.std.proofs.lemmas.Result.{IfErr-weaker, IfOk-weaker}
-use Rattle.order_run.proofs.order_run.run_order_of.Goals as goal
+use Rattle.order_run.proofs.order_run.run_order_of_tables.Goals as goal
 
 pub returns-in-Ok-clause-done : goal.returns-in-Ok-clause-done
 returns-in-Ok-clause-done g c =
