@@ -20,21 +20,20 @@ LevelOf = Callable[[End, int], int]
 
 
 class Case(NamedTuple):
-    """A fabric's facts, tables and lanes as texts, and whether answers have the levels of the packets that they
-    answer."""
+    """A fabric's facts, tables and lanes as texts."""
 
     facts: str
     tables: str
     lanes: str
-    with_answers: bool
 
 
 class Row(NamedTuple):
-    """A case, and what an audit finds: the length of a shortest loop, how many pairs have no level, and whether packets
-    are dropped."""
+    """A case, and what an audit finds, with answers or not: the length of a shortest loop, how many pairs have no
+    level, and whether packets are dropped."""
 
     title: str
     case: Case
+    with_answers: bool
     loop: int = 0
     without: int = 0
     drops: bool = False
@@ -78,7 +77,7 @@ def rows() -> Iterator[Row]:
     place = {end: number % 4 for number, end in enumerate(ends)}
 
     def row(title: str, lanes: str, answers: bool = False, **found: int) -> Row:
-        return Row(title, Case(facts, tables, lanes, answers), **found)
+        return Row(title, Case(facts, tables, lanes), answers, **found)
 
     def passes_s4(end: End, lid: int) -> bool:
         """Returns whether packets from an end to a LID go from S4 to S1."""
@@ -213,7 +212,4 @@ def a_case(seed: str) -> Case:
     lanes, levels = chance.choice((1, 2, 2, 3, 8)), chance.choice((1, 2, 2, 4, 16))
     usual, maps = some_maps(chance, fabric, lanes)
     level, lines = some_levels(chance, fabric, levels)
-    return Case(
-        some_facts(chance, fabric), some_tables(chance, fabric).text(), text_of(usual, maps, level, lines),
-        chance.random() < 0.4,
-    )
+    return Case(some_facts(chance, fabric), some_tables(chance, fabric).text(), text_of(usual, maps, level, lines))

@@ -43,8 +43,11 @@ facts) case $last in *.store) cat fab/stored ;; *) cat "$last" ;; esac ;;
 plan) echo "$*" >>fab/planned; cat fab/plan ;;
 order)
     echo "$*" >>fab/ordered
-    case "$*" in *--order*) echo 0x3 ;; *) echo 0x1 ;; esac ;;
-order-of) echo "$*" >>fab/ordered; [ -f fab/told ] && cat fab/told ;;
+    case "$*" in
+    *--held*) [ -f fab/told ] && cat fab/told ;;
+    *--order*) echo 0x3 ;;
+    *) echo 0x1 ;;
+    esac ;;
 next)
     echo "$*" >>fab/stepped
     for file in kept last; do
@@ -416,7 +419,7 @@ def by_a_kept_order(room: Room, fab: Fab, ends: Ends) -> None:
     """Checks rounds that keep the order of switches by which they plan."""
     held = room.text("round.plan")
     words, holds = "--direct --keep-order --routing balance", "the subnet holds the plan"
-    asked = "order-of rd/now.held rd/now.reports\n"
+    asked = "order --held rd/now.held rd/now.reports\n"
 
     def goes_by(name: str, first: str, what: str) -> None:
         """Checks that a round goes by the order in a file, and notes it as the last one at its end."""

@@ -94,12 +94,16 @@ def orders() -> list[tuple[str, Ended]]:
         ("TABLES TABLES .", says(4, ".: read failed")),
         ("TABLES TABLES EMPTY", refused("EMPTY: bad magic")),
         ("TABLES TABLES KNOWN EMPTY", refused("EMPTY: bad magic")),
-        ("FAULTY --answers-as-asked FAULTY EMPTY", refused("FAULTY: line 1: syntax")),
+        ("FAULTY --all FAULTY EMPTY", refused("FAULTY: line 1: syntax")),
     ]
 
 
 # A row: a title, a text of tables, a text of lanes, options, and how the audit ends.
 Row = tuple[str, str, str, str, Ended]
+
+# What is said of answers that use the level of what they answer, if they wait in no loop and none is dropped.
+NO_ANSWERS = "answers credit loop none\n"
+NO_LOOPS = "credit loop none\n" + NO_ANSWERS
 
 # What an audit of the two switches, with tables by which all packets arrive, says before its lines by lane.
 HEAD = audits.counted(16, 4) + audits.BOTH
@@ -122,40 +126,51 @@ def pairs(plan: Callable[..., Ended]) -> Iterator[Row]:
     """Yields audits of two switches and two adapters: with a lane and a level for all packets, without levels, with a
     packet that is dropped for lack of a lane, and of packets for a LID that nobody holds."""
     good = plan(audits.LIDS, *audits.GOOD).printed.decode()
-    yield "one lane", good, ONE_LEVEL, "", prints(HEAD + "credit loop none\n")
-    yield "one lane, and answers", good, ONE_LEVEL, "--answers-as-asked", prints(HEAD + "credit loop none\n")
+    yield "one lane", good, ONE_LEVEL, "", prints(HEAD + NO_LOOPS)
     for bound, ended in ("1", prints), ("0", audits.found):
-        yield "a greatest load", good, ONE_LEVEL, f"--max-load={bound}", ended(HEAD + "credit loop none\n")
+        yield "a greatest load", good, ONE_LEVEL, f"--max-load={bound}", ended(HEAD + NO_LOOPS)
     # Only packets between different adapter ports need a level.
     lacking = ["200/1 3", "100/1 4"]
     for text in "", "lanes %\n":
-        yield "no levels", good, text, "", audits.found(HEAD + without_level(*lacking) + "credit loop none\n")
+        yield "no levels", good, text, "", audits.found(HEAD + without_level(*lacking) + NO_LOOPS)
     one = "".join(f"levels {end} 0 $\n" for end in ENDS[:3]) + f"levels 200/1 0 {levels({1: 0, 2: 15, 4: 0})}\n"
     yield (
         "one packet without a level", good, f"lanes %\n{one}", "",
-        audits.found(HEAD + without_level("200/1 3") + "credit loop none\n"),
+        audits.found(HEAD + without_level("200/1 3") + NO_LOOPS),
     )
     # Of what 100/1 sends by switch 10, only the packets for LID 2 have level 1.
     dropping = f"lanes %\nsl2vl 10 2 1 {bytes_in({1: 15}, 16, 0)}\nlevel 0\nlevels 100/1 0 {levels({2: 1})}\n"
     dropped = f"dropped 2 at {audits.AT_10} 2 1 level 1\n"
-    for words in "", "--answers-as-asked":
-        yield "a lane that lacks", good, dropping, words, audits.found(f"{HEAD}{dropped}credit loop none\n")
+    yield "a lane that lacks", good, dropping, "", audits.found(
+        f"{HEAD}{dropped}credit loop none\nanswers {dropped}{NO_ANSWERS}"
+    )
     yield (
         "a lane that lacks, where no packet has the level", good, dropping.replace(levels({2: 1}), levels({2: 2})), "",
-        prints(HEAD + "credit loop none\n"),
+        prints(HEAD + NO_LOOPS),
+    )
+    # Switch 20 asks 100/1 at level 1, and would get its answer at the same level by switch 10.
+    asking = dropping.replace("levels 100/1", "levels 20/0").replace(levels({2: 1}), levels({3: 1}))
+    yield "a lane that lacks for answers alone", good, asking, "", prints(
+        f"{HEAD}credit loop none\nanswers {dropped}{NO_ANSWERS}"
     )
     unheld = plan(f"{audits.LIDS} 5 300/1", *(f"{row} 1" for row in audits.GOOD)).printed.decode().replace(
         f"lid 5 {0x300:016x}/1\n", ""
     )
     yield "a loop for a LID that nobody holds", unheld, ONE_LEVEL, "", audits.found(
-        f"{HEAD}credit loop by lane 10/1 vl 0 20/1 vl 0\n"
+        waiting(HEAD, "10/1 vl 0 20/1 vl 0")
     )
     yield "the same on another lane", unheld, f"lanes {'0e' * 16}\nlevel 15\n", "", audits.found(
-        f"{HEAD}credit loop by lane 10/1 vl 14 20/1 vl 14\n"
+        waiting(HEAD, "10/1 vl 14 20/1 vl 14")
     )
     yield "that loop cut by a lane that lacks", unheld, f"{ONE_LEVEL}sl2vl 20 1 1 {'0f' * 16}\n", "", audits.found(
         f"{HEAD}dropped 5 at {audits.AT_20} 1 1 level 0\ncredit loop none\n"
+        f"answers dropped 5 at {audits.AT_20} 1 1 level 0\n{NO_ANSWERS}"
     )
+
+
+def waiting(head: str, channels: str) -> str:
+    """Returns the text of an audit whose packets wait in a loop of channels, and so with their answers."""
+    return f"{head}credit loop by lane {channels}\nanswers credit loop by lane {channels}\n"
 
 
 def without_level(*packets: str) -> str:
@@ -169,21 +184,20 @@ def rings(plan: Callable[..., Ended]) -> Iterator[Row]:
     short = audits.ring("0 1 1 2 2", "2 0 1 1 2", "2 2 0 1 1", "1 2 2 0 1", "1 1 2 2 0")
     tables = plan(audits.RING_LIDS, *short).printed.decode()
     head = audits.counted(25, 0) + audits.NEITHER
-    none = prints(head + "credit loop none\n")
-    loop = audits.found(
-        f"{head}credit loop by lane {' '.join(f'{guid:x}/1 vl 0' for guid in audits.RING)}\n"
-    )
+    none = prints(head + NO_LOOPS)
+    round_once = " ".join(f"{guid:x}/1 vl 0" for guid in audits.RING)
+    loop = audits.found(waiting(head, round_once))
     back, forth = f"sl2vl 10 1 2 {'01' * 16}\n", f"sl2vl 10 2 1 {'01' * 16}\n"
     yield "one way round cut", tables, ONE_LEVEL + back, "", loop
     yield "both ways round cut", tables, ONE_LEVEL + back + forth, "", none
-    yield "both ways round cut, and answers", tables, ONE_LEVEL + back + forth, "--answers-as-asked", none
     # What 40 sends for LIDs 1 and 2 is a part of the loop, once each way round.
     two = f"lanes {bytes_in({1: 1}, 16, 0)}\nlevel 0\n"
     yield "another level both ways", tables, f"{two}levels 40/0 0 {levels({1: 1, 2: 1})}\n", "", none
     # Answers to 10, which asks at level 0, close the loop again.
     one = f"{two}{back}levels 40/0 0 {levels({1: 1})}\n"
-    yield "another level one way", tables, one, "", none
-    yield "another level one way, and answers", tables, one, "--answers-as-asked", loop
+    yield "another level one way", tables, one, "", prints(
+        f"{head}credit loop none\nanswers credit loop by lane {round_once}\n"
+    )
 
 
 def rings_and_two(plan: Callable[..., Ended]) -> Iterator[Row]:
@@ -192,7 +206,7 @@ def rings_and_two(plan: Callable[..., Ended]) -> Iterator[Row]:
     lids = f"{audits.RING_LIDS} 6 60/0 7 70/0"
     tables = plan(lids, *short, "60 - - - - - 0 1", "70 - - - - - 1 0").printed.decode()
     head = audits.counted(29, 0) + audits.NEITHER
-    yield "packets of switches without a level", tables, "lanes %\n", "", prints(f"{head}credit loop none\n")
+    yield "packets of switches without a level", tables, "lanes %\n", "", prints(head + NO_LOOPS)
 
 
 # Two switches with three adapters each.
@@ -210,8 +224,8 @@ def sixes(plan: Callable[..., Ended]) -> Iterator[Row]:
     # Of 30 packets between different adapters 12 take two wires, and 18 three: nine each way between the switches.
     head = audits.counted(64, 36) + "hops max 3 mean 2.60\nload max 9 mean 9.00\n"
     yield "30 packets without a level", tables, "lanes %\n", "", audits.found(
-        head + without_level(*lacking[:20]) + "more no-level 10\ncredit loop none\n"
+        head + without_level(*lacking[:20]) + "more no-level 10\n" + NO_LOOPS
     )
     yield "all packets without a level", tables, "lanes %\n", "--all", audits.found(
-        head + without_level(*lacking) + "credit loop none\n"
+        head + without_level(*lacking) + NO_LOOPS
     )

@@ -4,15 +4,14 @@ from __future__ import annotations
 import re
 
 # The commands of the program, and their options.
-FLOOR, PLANS, ORDERS = "--floor", "--lmc --routing --roots --order", "--routing --roots --order"
+FLOOR, PLANS = "--floor", "--lmc --routing --roots --order"
 COMMANDS = {
     "facts": FLOOR,
     "join": FLOOR,
     "plan": f"{FLOOR} {PLANS}",
-    "order": f"{FLOOR} {ORDERS}",
-    "audit": f"{FLOOR} --all --max-load --loads --way --lanes --answers-as-asked",
-    "order-of": FLOOR,
-    "next": f"{FLOOR} {PLANS} --told-order --last-order",
+    "order": "--routing --roots --order --held",
+    "audit": "--all --max-load --loads --way --lanes",
+    "next": f"{PLANS} --told-order --last-order",
     "run": PLANS,
     "serve": f"--sm-key {PLANS}",
     "help": "",
