@@ -16,6 +16,9 @@ from typing import Any, TextIO
 import paths
 import sample_fabrics
 
+# The rule by which rounds and seats plan if a test names no other one: that of `ibsm plan`.
+RULE = "--routing", "updown"
+
 SECONDS = 60
 
 

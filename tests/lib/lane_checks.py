@@ -125,9 +125,8 @@ def as_the_program_says(bench: Bench, loops: dict[str, bool], lanes: dict[str, s
         word = "answers " if name.endswith("answers") else ""
         wanted = f"{word}credit loop {'by lane ' if loops[name] else 'none'}"
         told = [line for line in bench.printed.splitlines() if line.startswith(f"{word}credit loop ")]
-        bench.check(
-            len(told) == 1 and told[0].startswith(wanted), f"audit, {name}: status {status}, {told[0][:100] if told else told}"
-        )
+        is_told = len(told) == 1 and told[0].startswith(wanted)
+        bench.check(is_told, f"audit, {name}: status {status}, {' '.join(told)[:100]}")
 
 
 def judge(bench: Bench, name: str) -> None:

@@ -13,7 +13,7 @@ from typing import Any
 import paths
 import record_files
 import sample_fabrics
-from bench import Bench
+from bench import RULE, Bench
 
 # The bytes of PortInfo that a Set of LIDs changes: the LID, the manager's LID, and the byte that holds the LMC.
 CHANGED = {16, 17, 18, 19, 34}
@@ -28,7 +28,7 @@ def send(bench: Bench, *words: object, **how: Any) -> int:
 def one_round(bench: Bench, *words: object) -> tuple[int, dict[str, Any]]:
     """Runs a round in the folder that OpenSM reads. Returns its exit status and what status.json says."""
     programs = ["--ibsm", bench.program, "--record", bench.room / "out/record", "--send", bench.room / "out/send"]
-    status = bench.run(sys.executable, paths.TOOLS / "round", "d", *programs, *words, simulated=True)
+    status = bench.run(sys.executable, paths.TOOLS / "round", "d", *RULE, *programs, *words, simulated=True)
     return status, json.loads((bench.path / "d/status.json").read_text())
 
 
@@ -170,8 +170,8 @@ def healed(bench: Bench) -> None:
     send(bench, "-q", "min.plan")
     programs = ["--ibsm", bench.program, "--record", bench.room / "out/record", "--send", bench.room / "out/send"]
     words = [
-        sys.executable, paths.TOOLS / "round", "d", *programs, "--direct", "--busier", "--settle", "0.1", "--watch",
-        "0.2",
+        sys.executable, paths.TOOLS / "round", "d", *RULE, *programs, "--direct", "--busier", "--settle", "0.1",
+        "--watch", "0.2",
     ]
     process = subprocess.Popen(
         [str(word) for word in words],

@@ -18,7 +18,7 @@ from typing import Any
 import live_checks
 import paths
 import sample_fabrics
-from bench import Bench
+from bench import RULE, Bench
 from sample_fabrics import Port
 
 SECONDS = 90
@@ -96,7 +96,7 @@ def seated(
     if packets or bend:
         environment["LD_PRELOAD"] = f"{bench.room}/out/bent_replies.so:{bench.library}"
         environment |= {"PACKETS": str(bench.path / packets)} if packets else {"BEND": bend}
-    words = [bench.room / "out/seat", "--ibsm", program or bench.program, "--status", status, "-v", *words]
+    words = [bench.room / "out/seat", "--ibsm", program or bench.program, "--status", status, "-v", *RULE, *words]
     with open(log, "w") as said:
         how = {"cwd": bench.path, "env": environment, "stdin": subprocess.DEVNULL, "stderr": said}
         process = subprocess.Popen([str(word) for word in words], **how)
@@ -167,11 +167,14 @@ def port_guid(bench: Bench, host: str) -> int:
 def dry_run(bench: Bench) -> None:
     """Checks that --dry-run prints what would be written, and writes nothing."""
     words = [bench.room / "out/seat", "-q", "--ibsm", bench.program, "--dry-run"]
-    bench.check(bench.run(*words, simulated=True) == 0, f"--dry-run: status 0 {bench.said}")
-    (bench.path / "dry").write_text(bench.printed)
     bench.record("-q", "-g", 1, "-T", "none", "none.reports")
     bench.texts("none")
-    bench.check(bench.same("dry", "none.plan"), "it prints the plan of a recording")
+    bench.run(bench.program, "plan", "--routing", "spread", "none.reports")
+    (bench.path / "none.spread").write_text(bench.printed)
+    for rule, plan in ((), "none.spread"), (RULE, "none.plan"):
+        bench.check(bench.run(*words, *rule, simulated=True) == 0, f"--dry-run {' '.join(rule)}: status 0 {bench.said}")
+        (bench.path / "dry").write_text(bench.printed)
+        bench.check(bench.same("dry", plan), f"it prints the plan of a recording, {plan}")
     bench.check("lid " not in (bench.path / "none").read_text(), "the subnet has no LIDs still")
     bench.check(
         bench.run(*words, "--lmc", 1, simulated=True) == 0 and " lmc 1\n" in bench.printed,
@@ -193,13 +196,13 @@ def own_program(bench: Bench) -> None:
         (bench.path / seat).parent.mkdir(parents=True)
         shutil.copy(bench.room / "out/seat", bench.path / seat)
         bench.check(
-            bench.run(bench.path / seat, "-q", "--dry-run", simulated=True) == 4
+            bench.run(bench.path / seat, "-q", "--dry-run", *RULE, simulated=True) == 4
             and "there is no program ibsm: " in bench.said,
             f"{seat} without a program: status 4: {bench.said.strip()}",
         )
         (bench.path / program).write_text(f'#!/bin/sh\nexec {bench.program} "$@"\n')
         (bench.path / program).chmod(0o755)
-        status = bench.run(bench.path / seat, "-q", "--dry-run", simulated=True)
+        status = bench.run(bench.path / seat, "-q", "--dry-run", *RULE, simulated=True)
         bench.check(
             status == 0 and bench.printed == (bench.path / "none.plan").read_text(),
             f"with {program}: the plan {bench.said.strip()}",

@@ -36,7 +36,7 @@ static const char usage_text[] =
 "      --sm-key HEX       its SM_Key, 1 to 16 hex digits: that of the other managers, and not 0 beside OpenSM (1, as\n"
 "                         OpenSM has it if its sm_key is not set)\n"
 "  -l, --lmc N            an adapter's port has 2^N LIDs, 0 to 7 (0)\n"
-"  -R, --routing RULE     the rule of routing, as of `ibsm plan` (updown)\n"
+"  -R, --routing RULE     the rule of routing, as of `ibsm plan` (spread)\n"
 "  -f, --roots FILE       with spread: the switches from which it counts distances\n"
 "  -o, --order FILE       with spread or balance: the order by which it grows\n"
 "  -i, --ibsm PROGRAM     the program; else that of this checkout or beside this one, or ibsm on the path\n"
@@ -177,6 +177,7 @@ static void parse(int count, char **texts)
 	called = texts[0];
 	options.timeout_ms = 200;
 	options.outstanding = 16;
+	seat.routing = "spread";
 	while ((letter = getopt_long(count, texts, "p:l:R:f:o:i:s:m:a:dS:C:P:n:t:r:qvhV", words, NULL)) != -1)
 		take_option(letter);
 	if (optind != count)
