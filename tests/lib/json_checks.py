@@ -89,7 +89,7 @@ SOUND_VALUE = {
     "hops": {"max": 3, "mean": 3.0},
     "load": {"max": 1, "mean": 0.33},
     "credit_loop": [],
-    **{"loads": [], "way": None},
+    **{"lanes": None, "loads": [], "way": None},
 }
 UNSOUND_VALUE = {
     **{"form": "audit", "passes": False, "pairs": 25, "arrive": 9},
@@ -114,8 +114,31 @@ UNSOUND_VALUE = {
     "hops": None,
     "load": None,
     "credit_loop": [f"{ONE}/1", f"{TWO}/2", f"{THREE}/1"],
-    **{"loads": [], "way": None},
+    **{"lanes": None, "loads": [], "way": None},
 }
+# The lines by lane, and the parts of their value. In the second text all is wrong, and otherwise with answers.
+BY_LANE = "answers credit loop none\n"
+BY_LANE_VALUE = {"no_level": [], "more_no_level": 0, "dropped": None, "credit_loop": []}
+BY_LANE_VALUE |= {"answers": {"dropped": None, "credit_loop": []}}
+WRONG_BY_LANE = f"""no-level {HOST}/1 3
+no-level {OTHER}/1 2
+more no-level 7
+dropped 4 at {ONE} 1 2 level 5
+credit loop by lane {ONE}/1 vl 0 {TWO}/2 vl 14
+answers dropped 6 at {TWO} 3 4 level 7
+answers credit loop by lane {TWO}/1 vl 2 {THREE}/2 vl 3
+"""
+WRONG_BY_LANE_VALUE = {
+    "no_level": [{"from": f"{HOST}/1", "lid": 3}, {"from": f"{OTHER}/1", "lid": 2}],
+    "more_no_level": 7,
+    "dropped": {"lid": 4, "at": ONE, "in": 1, "out": 2, "level": 5},
+    "credit_loop": [{"channel": f"{ONE}/1", "lane": 0}, {"channel": f"{TWO}/2", "lane": 14}],
+    "answers": {
+        "dropped": {"lid": 6, "at": TWO, "in": 3, "out": 4, "level": 7},
+        "credit_loop": [{"channel": f"{TWO}/1", "lane": 2}, {"channel": f"{THREE}/2", "lane": 3}],
+    },
+}
+ANSWERS_WRONG = f"credit loop none\nanswers dropped 6 at {TWO} 3 4 level 7\nanswers credit loop none\n"
 LOADS = f"channel {ONE}/1 load 0\nchannel {ONE}/2 load 17\n"
 LOADS_VALUE = [{"channel": f"{ONE}/1", "load": 0}, {"channel": f"{ONE}/2", "load": 17}]
 # The line of a way, and its value behind `from` and `lid`.
@@ -226,6 +249,31 @@ TEXTS = (
         f"{SOUND}{LOADS}way {HOST}/1 7: no end port\n",
         SOUND_VALUE | {"loads": LOADS_VALUE, "way": {"from": f"{HOST}/1", "lid": 7, "channels": [], "end": None}},
     ),
+    ("audit", SOUND + BY_LANE, SOUND_VALUE | {"lanes": BY_LANE_VALUE}),
+    (
+        "audit",
+        SOUND.replace("credit loop none\n", WRONG_BY_LANE),
+        SOUND_VALUE
+        | {"passes": False, "credit_loop": [f"{ONE}/1", f"{TWO}/2"], "lanes": WRONG_BY_LANE_VALUE},
+    ),
+    (
+        "audit",
+        SOUND.replace("credit loop none\n", ANSWERS_WRONG),
+        SOUND_VALUE
+        | {"lanes": BY_LANE_VALUE
+           | {"answers": {"dropped": WRONG_BY_LANE_VALUE["answers"]["dropped"], "credit_loop": []}}},
+    ),
+    *(
+        (
+            "audit",
+            SOUND.replace("credit loop none\n", f"{line}\ncredit loop none\n{BY_LANE}"),
+            SOUND_VALUE | {"passes": False, "lanes": BY_LANE_VALUE | {name: WRONG_BY_LANE_VALUE[name]}},
+        )
+        for name, line in (
+            ("dropped", f"dropped 4 at {ONE} 1 2 level 5"),
+            ("no_level", f"no-level {HOST}/1 3\nno-level {OTHER}/1 2"),
+        )
+    ),
     ("next", "credit loop none\n", {"form": "next", "credit_loop": [], "lids": [], "order": []}),
     ("next", LOOP, {"form": "next", "credit_loop": [f"{ONE}/1", f"{TWO}/2"], "lids": [3, 300], "order": []}),
     (
@@ -327,6 +375,7 @@ def faults(room: Room) -> None:
     for text, words, why in (
         (SOUND.replace("credit loop none\n", ""), "it", "it: it is no whole text of audit: is it cut?"),
         (SOUND.replace("hops max 3 mean 3.00\n", ""), "it", "no whole text of audit"),
+        (SOUND.replace("credit loop none\n", WRONG_BY_LANE.rsplit("answers c")[0]), "it", "no whole text of audit"),
         (SOUND[:-1], "it", "its last line has no end"),
         (SOUND.replace("load max 1", "load min 1"), "it", "it: line 6 is no line of a text of audit: load min"),
         (SOUND.replace("round 0", "round 0y"), "it", "line 4 is no line of a text of audit"),

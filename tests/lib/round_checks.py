@@ -320,17 +320,18 @@ def by_orders_handed_on(room: Room, fab: Fab, ends: Ends, process: int) -> None:
     the second, and no order of another round."""
     fab(held=room.text("round.plan"), stepped="", log="ready\n", loop="credit loop none\norder 0x1 0x2\n")
     (room.path / "rd/step.order").write_text("0x5\n")
-    told = ends(f"--opensm {process} --told-order", 0, "audit", "the subnet holds the plan")
+    told = ends(f"--opensm {process} --told-order --routing spread", 0, "audit", "the subnet holds the plan")
     room.check([step["agrees"] for step in told["steps"]] == [1, 1], f"they agree with the plan's: {told['steps']}")
     stepped = room.text("fab/stepped").splitlines()
-    handed = "next --told-order --last-order rd/step.order rd/after.held rd/after.reports"
+    by = "next --routing spread --told-order"
+    handed = f"{by} --last-order rd/step.order rd/after.held rd/after.reports"
     room.check(
-        stepped[:2] == ["next --told-order rd/now.held rd/now.reports", handed]
+        stepped[:2] == [f"{by} rd/now.held rd/now.reports", handed]
         and room.text("rd/step.order") == "0x1\n0x2\n",
         f"the order is handed on: {stepped}",
     )
     # By this order the last step has nothing left to do, so the round asks for a step without the order.
-    room.check(stepped[-1] == "next --told-order rd/after.held rd/after.reports", f"and then begun anew: {stepped}")
+    room.check(stepped[-1] == f"{by} rd/after.held rd/after.reports", f"and then begun anew: {stepped}")
     fab(loop="credit loop none\n")
 
 
@@ -346,8 +347,10 @@ def by_steps(room: Room, fab: Fab, ends: Ends, process: int) -> None:
         f"two steps: {told['steps']}",
     )
     names = ["now", "after", "after"]
+    # A round that names no rule goes by balance.
+    words = "next --routing balance --lmc 0"
     room.check(
-        room.text("fab/stepped") == "".join(f"next --lmc 0 rd/{name}.held rd/{name}.reports\n" for name in names)
+        room.text("fab/stepped") == "".join(f"{words} rd/{name}.held rd/{name}.reports\n" for name in names)
         and room.text("fab/log").count("UP") == 2
         and room.text("fab/held") == plan,
         "each from what is held then",
@@ -678,13 +681,19 @@ def other_files(room: Room, fab: Fab, ends: Ends) -> None:
 
 
 def by_a_file(room: Room, fab: Fab) -> None:
-    """Checks options in a file. Options of the command line take precedence."""
+    """Checks options in a file, and the rule if none is named. Options of the command line take precedence."""
     room.put(round_conf="# where\ndir rd\nrouting spread  # a rule\nlmc=0\nlook\n\n", bad_conf="dir rd\nsing\n")
     fab(planned="")
     words = "--ibsm ./ibsm --record ./record"
     room.prints(f"round --config round.conf {words}", 0, "compare: looked only")
     room.prints(f"round --config round.conf {words} --routing updown", 0, "compare: looked only")
+    for more in "", "--order x.order", "--roots x.roots":
+        room.prints(f"round rd --look {words} {more}", 0, "compare: looked only")
     wanted = [f"plan --routing {rule} --lmc 0 rd/now.reports" for rule in ("spread", "updown")]
+    wanted += [
+        f"plan --routing {rule} rd/now.reports"
+        for rule in ("balance", "balance --order x.order", "spread --roots x.roots")
+    ]
     room.check(room.text("fab/planned").splitlines() == wanted, f"options of a file: {room.text('fab/planned')}")
     room.run(f"round --config bad.conf {words}", 2)
     room.run(f"round {words}", 2)

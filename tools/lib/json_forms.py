@@ -19,6 +19,8 @@ LOSSES = "above top|no entry|no such port|no link"
 WAY = rf"way {PORT} {NUMBER}((?: [0-9a-f]{{16}}/[0-9]{{1,3}})*)"
 # The line of a credit loop, with the method that takes it.
 LOOP = rf"credit loop (?:none|on one lane ({PORT}(?: {PORT})*))", "loop"
+# The line of a credit loop by lane, or of answers, with the method that takes it: each channel with its lane.
+LANE_LOOP = rf"(answers )?credit loop (none|by lane(?: {PORT} vl \d+)+)", "lane_loop"
 # A name after a GUID or an end.
 NAMED = re.compile(r'(?<![0-9A-Za-z_"])((?:0x)?([0-9a-f]{16})(?:/[0-9]{1,3})?) "([^"]*)"')
 
@@ -144,10 +146,15 @@ class AuditRead(Rules):
         (rf"{WAY} (round)", "went"),
         (rf"way {PORT} {NUMBER}()(): no end port", "went"),
         LOOP,
+        LANE_LOOP,
+        (rf"no-level {PORT} {NUMBER}", "unleveled"),
+        (rf"(more no-level) {NUMBER}", "count"),
+        (rf"(answers )?dropped {NUMBER} at {GUID} {NUMBER} {NUMBER} level {NUMBER}", "drop"),
     )
 
     def __init__(self) -> None:
-        self.told, self.counts, self.spreads, self.cycle = {}, {"disputed": 0}, {}, None
+        self.told, self.counts, self.spreads, self.cycle = {}, {"disputed": 0, "more no-level": 0}, {}, None
+        self.no_level, self.drops, self.lane_loops = [], {}, {}
         self.found, self.others = {kind: [] for kind in KINDS}, {}
         self.loads, self.way = {}, None
 
@@ -190,22 +197,50 @@ class AuditRead(Rules):
     def loop(self, ends: str | None, *_: str | None) -> None:
         self.cycle = ends.split(" ") if ends else []
 
+    def lane_loop(self, answers: str | None, loop: str, _: str | None) -> None:
+        channels = [{"channel": end, "lane": int(lane)} for end, lane in re.findall(r"(\S+/\d+) vl (\d+)", loop)]
+        self.lane_loops[bool(answers)] = channels
+        if not answers:
+            self.cycle = [channel["channel"] for channel in channels]
+
+    def unleveled(self, start: str, lid: str) -> None:
+        self.no_level.append({"from": start, "lid": int(lid)})
+
+    def drop(self, answers: str | None, lid: str, at: str, into: str, out: str, level: str) -> None:
+        told = {"lid": int(lid), "at": at, "in": int(into), "out": int(out), "level": int(level)}
+        self.drops[bool(answers)] = told
+
+    def lanes(self) -> dict[str, Any] | None:
+        """Returns what was found by lane, or None for an audit on one lane."""
+        if True not in self.lane_loops:
+            return None
+        both = [
+            {"dropped": self.drops.get(answers), "credit_loop": self.lane_loops.get(answers, [])}
+            for answers in (False, True)
+        ]
+        missing = {"no_level": self.no_level, "more_no_level": self.counts["more no-level"]}
+        return missing | both[0] | {"answers": both[1]}
+
     def lacks(self) -> bool:
         parts = {"", "between_adapters", "with_a_switch", "missed"}
-        return self.cycle is None or set(self.told) != parts or set(self.spreads) != {"hops", "load"}
+        by_lane = self.no_level or self.drops or self.lane_loops.get(False)
+        is_cut = self.cycle is None or bool(by_lane) and True not in self.lane_loops
+        return is_cut or set(self.told) != parts or set(self.spreads) != {"hops", "load"}
 
     def passes(self) -> bool:
         """Returns whether the tables pass. Without end ports there are neither pairs nor ports without a
         LID."""
         all_pairs, found = self.told[""], self.found
         arrive = all_pairs["pairs"] == all_pairs["arrive"] and not self.cycle
+        arrive = arrive and not self.no_level and False not in self.drops
         have_tables = not found["tableless"] or not all_pairs["pairs"]
         return arrive and have_tables and not found["unusable"] and not found["lidless"]
 
     def value_of_text(self) -> dict[str, Any]:
         told = {"passes": self.passes()} | self.told[""]
         told |= {name: self.told[name] for name in ("between_adapters", "with_a_switch", "missed")}
-        told |= self.found | {"more": self.others} | self.counts | self.spreads | {"credit_loop": self.cycle}
+        told |= self.found | {"more": self.others, "disputed": self.counts["disputed"]} | self.spreads
+        told |= {"credit_loop": self.cycle, "lanes": self.lanes()}
         return told | {"loads": [{"channel": end, "load": load} for end, load in self.loads.items()], "way": self.way}
 
 

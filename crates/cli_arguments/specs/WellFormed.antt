@@ -6,7 +6,8 @@ use Rattle.clap.specs.Values.{IsSignedIn}
 use Rattle.clap.specs.Walk.{Text}
 use Rattle.clap.specs.declared.parser.matches.ArgMatches.{ArgMatches}
 use Rattle.cli_arguments.specs.WayWord.{is_way}
-use Rattle.cli_arguments.specs.Words.{files_named, has_conflict_of, is_guid, is_held_and_named, is_key, order_rule, word_named}
+use Rattle.cli_arguments.specs.Words.{files_named, has_conflict_of, is_guid, is_held_and_named, is_key}
+use Rattle.cli_arguments.specs.Words.{order_rule, word_named}
 
 -- the word, if any, is a number from `least` to `most`
 abbrev pub IsNumberWithin : ℕ → ℕ → Option Text → Type 0

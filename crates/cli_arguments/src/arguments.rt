@@ -2,8 +2,8 @@
 ghost use Rattle.std.specs.Prelude.{◌≡◌, codes, false};
 ghost use Rattle.clap.specs.Walk.{rule_of};
 ghost use Rattle.cli_arguments.specs.CommandLine.{all_rule, files_rule, flag_rule, floor_rule};
-ghost use Rattle.cli_arguments.specs.CommandLine.{lmc_rule, loads_rule, max_load_rule, option_rule, port_rule, priority_rule};
-ghost use Rattle.cli_arguments.specs.CommandLine.{routing_rule, text_rule, told_order_rule};
+ghost use Rattle.cli_arguments.specs.CommandLine.{lmc_rule, loads_rule, max_load_rule, option_rule, port_rule};
+ghost use Rattle.cli_arguments.specs.CommandLine.{priority_rule, routing_rule, text_rule, told_order_rule};
 
 use crate::argument_names::{
     ALL, FILE, FLOOR, GUID, HELD, LANES, LAST_ORDER, LMC, LOADS, MAX_LOAD, ORDER, PORT, PRIORITY,

@@ -7,8 +7,9 @@ ghost use Rattle.clap.specs.Matches.{first_value, found_of};
 ghost use Rattle.clap.specs.Simple.{subcommand_rows_of};
 ghost use Rattle.clap.specs.Values.{kind_of};
 ghost use Rattle.cli_arguments.specs.WayWord.{is_way};
-ghost use Rattle.cli_arguments.specs.Words.{has_conflict, has_conflict_behind, is_guid, is_guid_word, is_held_and_named};
-ghost use Rattle.cli_arguments.specs.Words.{is_key, is_wrong_seat, lacks_rule, order_rule, planning_conflict};
+ghost use Rattle.cli_arguments.specs.Words.{has_conflict, has_conflict_behind, is_guid, is_guid_word};
+ghost use Rattle.cli_arguments.specs.Words.{is_held_and_named, is_key, is_wrong_seat, lacks_rule, order_rule};
+ghost use Rattle.cli_arguments.specs.Words.{planning_conflict};
 
 use crate::arg_matches::is_named;
 use crate::argument_names::{
@@ -22,8 +23,8 @@ use std::alloc::{AllocError, Global};
 
 /// Returns whether options contradict each other, or the GUID or the SM_Key of `serve`, or the packet that `audit`
 /// names, is wrong. Options contradict each other if roots and an order are both named, if roots or an order are named
-/// without a rule of routing that takes them, or if held tables are named with a rule, roots or an order. The subcommand
-/// `order` needs no rule. The GUID must be 1 to 16 hex digits, and so must the SM_Key if one is named.
+/// without a rule of routing that takes them, or if held tables are named with a rule, roots or an order. The
+/// subcommand `order` needs no rule. The GUID must be 1 to 16 hex digits, and so must the SM_Key if one is named.
 pub(crate) fn has_conflict(matches: &ArgMatches<'_>) -> bool
     ensures { result ≡ has_conflict_behind (subcommand_rows_of matches.now) }
 {
@@ -154,7 +155,8 @@ fn conflict_text(matches: &ArgMatches<'_>) -> &'static str {
         return "invalid value for '--way <G/p,L>': a port and a LID are wanted, as 0000000000000100/1,5";
     }
     if is_held_and_named(words) {
-        return "the argument '--held <TABLES>' cannot be used with '--routing <RULE>', '--roots <FILE>' or '--order <FILE>'";
+        return "the argument '--held <TABLES>' cannot be used with '--routing <RULE>', '--roots <FILE>' or \
+            '--order <FILE>'";
     }
     match (is_named(words, ROOTS), is_named(words, ORDER)) {
         (true, true) => "the argument '--roots <FILE>' cannot be used with '--order <FILE>'",

@@ -9,9 +9,9 @@ use text_words::{count, node_port};
 /// The greatest LID of an end port (InfiniBand Architecture Specification, Volume 1, local identifiers).
 const GREATEST_LID: u16 = 49151;
 
-/// Returns the node, the port and the LID that `word` names, as in `0000000000000100/1,5`: the port that sends a packet,
-/// and the LID that the packet is sent to. The port is from 0 to 254, the LID from 1 to 49,151. Returns `None` if `word`
-/// is not of this form.
+/// Returns the node, the port and the LID that `word` names, as in `0000000000000100/1,5`: the port that sends a
+/// packet, and the LID that the packet is sent to. The port is from 0 to 254, the LID from 1 to 49,151. Returns `None`
+/// if `word` is not of this form.
 pub fn packet_named(word: &[u8]) -> Option<(Guid, PortNum, Lid)>
     ensures { result ≡ packet_named word.now }
 {

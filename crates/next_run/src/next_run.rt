@@ -169,8 +169,8 @@ fn loop_in_step(alloc: Global, from: &Network, next: &Held) -> Result<StepLoop, 
     StepLoop::of(alloc, from, &after)
 }
 
-/// Writes to `told` the lines of `cycle`, a credit loop that the step can make, and then the line of `order`, if `order`
-/// is not `None`.
+/// Writes to `told` the lines of `cycle`, a credit loop that the step can make, and then the line of `order`, if
+/// `order` is not `None`.
 fn write_loop_and_order<E: Sink>(
     told: &mut E,
     from: &Network,

@@ -33,8 +33,8 @@ positions_by (spread_in order) cells =
 abbrev pub by_positions : List ℕ → List ℕ → List ℕ
 by_positions switches positions = map (at_position switches) (positions_in positions (length positions))
 
--- the usable switches in the order by which a rule plans: by rank and then by GUID for up/down routing; in its own order
--- for a rule that spreads
+-- the usable switches in the order by which a rule plans: by rank and then by GUID for up/down routing; in its own
+-- order for a rule that spreads
 abbrev pub switches_by : RuleValue → Cells → List ℕ
 switches_by up_and_down cells = by_positions (guids_of (graph_of cells)) (positions_by up_and_down cells)
 switches_by (spread_in order) cells = order_of order cells

@@ -14,8 +14,8 @@ use subnet_view::Wires;
 use two_orders::positions_in;
 use updown_routes::Graph;
 
-/// Returns the usable switches of `store` in the order that `rule` plans by. Up/down routing orders switches by rank and
-/// then by GUID. A rule that spreads has its own order. Returns an error if memory runs out.
+/// Returns the usable switches of `store` in the order that `rule` plans by. Up/down routing orders switches by rank
+/// and then by GUID. A rule that spreads has its own order. Returns an error if memory runs out.
 pub fn plan_switches(alloc: Global, store: &Store, rule: &Rule) -> Result<Vec<Guid>, Refused>
     ensures { IfOk result (λ switches.
         switches.items ≡ switches_by (value_of rule.now) (cells_of store.now)) }

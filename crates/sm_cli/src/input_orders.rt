@@ -54,8 +54,8 @@ impl<S: Source> InputReader<S> for StepReader {
     }
 }
 
-/// Reads the text of an order if `has_order` is true, then the text of tables, and then the files. `before` other inputs
-/// come before `inputs`. There must be an input for each text, and at most `usize::MAX` inputs in all.
+/// Reads the text of an order if `has_order` is true, then the text of tables, and then the files. `before` other
+/// inputs come before `inputs`. There must be an input for each text, and at most `usize::MAX` inputs in all.
 ///
 /// # Errors
 ///

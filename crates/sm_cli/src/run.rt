@@ -102,8 +102,8 @@ fn write_plan_by<W: Sink>(
     Ok(())
 }
 
-/// Writes the usable switches of the facts in `store`, in the order by which `rule` plans, and flushes. Returns `Memory`
-/// if memory is refused, or `Write` if a write fails.
+/// Writes the usable switches of the facts in `store`, in the order by which `rule` plans, and flushes. Returns
+/// `Memory` if memory is refused, or `Write` if a write fails.
 fn write_order_by<W: Sink>(
     alloc: Global,
     sink: &mut W,
