@@ -278,7 +278,7 @@ TEXTS = (
     ("next", LOOP, {"form": "next", "credit_loop": [f"{ONE}/1", f"{TWO}/2"], "lids": [3, 300], "order": []}),
     (
         "next",
-        f"credit loop none\norder 0x{TWO} 0x{ONE}\n",
+        f"credit loop none\n0x{TWO}\n0x{ONE}\n",
         {"form": "next", "credit_loop": [], "lids": [], "order": [TWO, ONE]},
     ),
     ("compare", "equal\n", {"form": "compare", "equal": True, "changes": []}),
@@ -418,7 +418,7 @@ def named(room: Room) -> None:
     room.put(it=room.run("names map", 0, stdin="facts"))
     names = {ONE: "the [1] \xfc", HOST: f"node {TWO}"}
     room.check(json.loads(room.run("json it", 0)) == FACTS_VALUE | {"names": names}, "names behind GUIDs")
-    room.put(said=f"credit loop none\norder 0x{TWO} 0x{ONE}\n")
+    room.put(said=f"credit loop none\n0x{TWO}\n0x{ONE}\n")
     room.put(it=room.run("names map", 0, stdin="said"))
     room.check(room.text("it").endswith(f'order 0x{TWO} 0x{ONE} "the [1] \xfc"\n'), "a name behind a GUID after 0x")
     value = {"form": "next", "credit_loop": [], "lids": [], "order": [TWO, ONE], "names": {ONE: names[ONE]}}

@@ -318,7 +318,7 @@ def not_begun(room: Room) -> None:
 def by_orders_handed_on(room: Room, fab: Fab, ends: Ends, process: int) -> None:
     """Checks a round whose two steps go by orders that the held tables imply: the order of the first is handed on to
     the second, and no order of another round."""
-    fab(held=room.text("round.plan"), stepped="", log="ready\n", loop="credit loop none\norder 0x1 0x2\n")
+    fab(held=room.text("round.plan"), stepped="", log="ready\n", loop="credit loop none\n0x1\n0x2\n")
     (room.path / "rd/step.order").write_text("0x5\n")
     told = ends(f"--opensm {process} --told-order --routing spread", 0, "audit", "the subnet holds the plan")
     room.check([step["agrees"] for step in told["steps"]] == [1, 1], f"they agree with the plan's: {told['steps']}")

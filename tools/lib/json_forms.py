@@ -250,7 +250,7 @@ class NextRead(Rules):
     rules = (
         LOOP,
         (r"lids (\d+(?: \d+)*)", "waiting"),
-        (r"order ((?:0x[0-9a-f]{16})(?: 0x[0-9a-f]{16})*)", "by_order"),
+        (rf"0x{GUID}", "by_order"),
     )
 
     def __init__(self) -> None:
@@ -262,8 +262,8 @@ class NextRead(Rules):
     def waiting(self, lids: str) -> None:
         self.lids = [int(lid) for lid in lids.split(" ")]
 
-    def by_order(self, switches: str) -> None:
-        self.order = [switch.removeprefix("0x") for switch in switches.split(" ")]
+    def by_order(self, switch: str) -> None:
+        self.order.append(switch)
 
     def lacks(self) -> bool:
         return self.cycle is None or len(self.cycle) != len(self.lids)

@@ -1,12 +1,11 @@
--- The line of the order that a step goes by.
-use Rattle.std.specs.Prelude.{ℕ, List, [], ◌++◌, Option, None, Some, Vec, codes, length, map, option_map}
-use Rattle.std.specs.List.{flat_map}
+-- The lines of the order that a step goes by.
+use Rattle.std.specs.Prelude.{ℕ, List, [], Option, None, Some, Vec, length, map, option_map}
 use Rattle.std.specs.declared.alloc.Global.{Global}
-use Rattle.smp_bytes.specs.Text.{guid_text}
 use Rattle.subnet_view.specs.Reading.{Cells}
 use Rattle.two_orders.specs.Growth.{positions_in}
 use Rattle.next_tables.specs.SwitchPositions.{switch_at}
 use Rattle.between_orders.specs.Between.{Goal}
+use Rattle.sm_cli.specs.OrderText.{order_text}
 
 -- the GUIDs of the usable switches in the order of their positions
 abbrev pub switches_by : Cells → List ℕ → List ℕ
@@ -20,11 +19,7 @@ order_of_step cells goal = option_map (λ (g : Goal). switches_by cells g.positi
 abbrev pub items_of : Option (Vec ℕ Global) → Option (List ℕ)
 items_of order = option_map (λ switches. switches.items) order
 
--- a space and the GUID of a switch
-abbrev pub switch_word : ℕ → List ℕ
-switch_word guid = codes " 0x" ++ guid_text guid
-
--- if there is an order that a step goes by, its line; otherwise empty
+-- if there is an order that a step goes by, its lines, in the form of a text of an order; otherwise empty
 abbrev pub step_order_text : Option (List ℕ) → List ℕ
 step_order_text None = []
-step_order_text (Some switches) = codes "order" ++ flat_map switch_word switches ++ codes "\n"
+step_order_text (Some switches) = order_text switches

@@ -48,7 +48,7 @@ struct MadeStep {
 ///
 /// Writes to `told` what can happen while these tables are written, under any mixtures of the held and the next
 /// tables: a shortest credit loop and its LIDs, or that there is no credit loop. If the step goes towards a goal in
-/// between, a last line has the switches in the order that the step goes by. Returns whether there is no credit loop. A
+/// between, the last lines have the switches in the order that the step goes by, one on each line. Returns whether there is no credit loop. A
 /// failed write to `told` is not an error.
 ///
 /// # Errors
@@ -169,7 +169,7 @@ fn loop_in_step(alloc: Global, from: &Network, next: &Held) -> Result<StepLoop, 
     StepLoop::of(alloc, from, &after)
 }
 
-/// Writes to `told` the lines of `cycle`, a credit loop that the step can make, and then the line of `order`, if
+/// Writes to `told` the lines of `cycle`, a credit loop that the step can make, and then the lines of `order`, if
 /// `order` is not `None`.
 fn write_loop_and_order<E: Sink>(
     told: &mut E,
