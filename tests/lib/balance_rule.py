@@ -5,6 +5,7 @@ definitions in docs/MODEL.md, independently of the program. Graphs, labels and c
 from __future__ import annotations
 
 import collections
+import math
 from collections.abc import Callable, Iterable
 
 import spread_rule
@@ -74,15 +75,40 @@ def trial_loads(graph: Graph, keys: Keys, adapters: Adapters) -> Loads:
     return loads
 
 
+def keys_by_remoteness(graph: Graph, adapters: Adapters) -> Keys:
+    """Returns the key of each switch: how remote it is, its distance from the least remote switch of its component, and
+    its GUID. A switch is as remote as the sum of squared distances, each as often as there are adapters at the far
+    switch, and once more."""
+    far = {switch: spread_rule.distances(graph, [switch]) for switch in graph}
+    remote = {
+        switch: sum(wires**2 * (1 + adapters[to]) for to, wires in far[switch].items()) for switch in graph
+    }
+    keys = {}
+    for switch in graph:
+        first = min(far[switch], key=lambda one: (remote[one], one))
+        keys[switch] = remote[switch], far[first][switch], switch
+    return keys
+
+
+def starts_of(graph: Graph, keys: Keys) -> list[int]:
+    """Returns the switches from which orders by depth are tried: the first by its key, and then those that are
+    farthest from all before them. No wires at all are farther than any."""
+    found: list[int] = []
+    while len(found) < min(len(graph), TRIED):
+        near = spread_rule.distances(graph, found)
+        found.append(min(graph, key=lambda switch: (-near.get(switch, math.inf), keys[switch])))
+    return found
+
+
 def keys_of(graph: Graph, adapters: Adapters) -> Keys:
-    """Returns the keys that the rule goes by: those without roots if their trial loads are even. Otherwise, of these
+    """Returns the keys that the rule goes by: those by remoteness if their trial loads are even. Otherwise, of these
     and of those by depth, returns the first by which the busiest channel carries least."""
-    keys = spread_rule.keys_of(graph, list(adapters), ())
+    keys = keys_by_remoteness(graph, adapters)
     if is_even(trial_loads(graph, keys, adapters), graph):
         return keys
     tried = [keys]
     for backwards in False, True:
-        for root in sorted(graph)[:TRIED]:
+        for root in starts_of(graph, keys):
             tried.append(spread_rule.keys_as_named(graph, by_depth(graph, keys, root, backwards)))
     return min(tried, key=lambda keys: max(trial_loads(graph, keys, adapters).values(), default=0))
 

@@ -1,4 +1,5 @@
 /* Orders of switches: as they grow from a list, and those that the rule `balance` tries. */
+#include <limits.h>
 #include <stdlib.h>
 #include <string.h>
 #include "search.h"
@@ -67,40 +68,40 @@ void grow(const struct graph *graph, const int *list, int *grown)
 	free(rank);
 }
 
-/* The key of a switch in the order without roots. */
+/* The key of a switch: how remote it is, and its distance from the least remote switch of its component. */
 struct key {
-	int class, far, index;
+	uint64_t remote;
+	int far, index;
 };
 
 static int compare_keys(const void *one, const void *other)
 {
 	const struct key *a = one, *b = other;
 
-	if (a->class != b->class)
-		return a->class < b->class ? -1 : 1;
+	if (a->remote != b->remote)
+		return a->remote < b->remote ? -1 : 1;
 	if (a->far != b->far)
 		return a->far < b->far ? -1 : 1;
 	return a->index < b->index ? -1 : 1;
 }
 
-/* Returns four times the mean of the distances in `far` to switches with adapters, rounded down. */
-static int class_of(const struct graph *graph, const int *far)
+/* Returns how remote a switch is with these distances: the sum of their squares, each as often as there are adapters
+   at the far switch, and once more. */
+static uint64_t remoteness(const struct graph *graph, const int *far)
 {
-	int64_t sum = 0, count = 0;
+	uint64_t sum = 0;
 	int s;
 
 	for (s = 0; s < graph->switches; s++)
-		if (graph->adapters_at[s] && far[s] >= 0) {
-			sum += far[s];
-			count++;
-		}
-	return count ? 4 * sum / count : 0;
+		if (far[s] >= 0)
+			sum += (uint64_t)far[s] * far[s] * (1 + graph->adapters_at[s]);
+	return sum;
 }
 
 /* Returns whether a switch comes before another one as the first of its component. */
 static int is_nearer(const struct key *one, const struct key *other)
 {
-	return one->class < other->class || (one->class == other->class && one->index < other->index);
+	return one->remote < other->remote || (one->remote == other->remote && one->index < other->index);
 }
 
 /* Notes in the keys of a component, to which switch `s` belongs, how far its switches are from the first of it.
@@ -119,7 +120,7 @@ static void measure_component(const struct graph *graph, int s, struct key *keys
 			keys[t].far = far[t];
 }
 
-/* Writes to `list` the switches by their keys without roots. */
+/* Writes to `list` the switches by their keys. */
 static void list_by_keys(const struct graph *graph, int *list)
 {
 	int n = graph->switches, s, *far = room_for(n, sizeof *far);
@@ -127,7 +128,7 @@ static void list_by_keys(const struct graph *graph, int *list)
 
 	for (s = 0; s < n; s++) {
 		distances(graph, s, far);
-		keys[s] = (struct key){ class_of(graph, far), -1, s };
+		keys[s] = (struct key){ remoteness(graph, far), -1, s };
 	}
 	for (s = 0; s < n; s++)
 		if (keys[s].far < 0)
@@ -137,6 +138,30 @@ static void list_by_keys(const struct graph *graph, int *list)
 		list[s] = keys[s].index;
 	free(keys);
 	free(far);
+}
+
+/* Writes to `starts` the switches from which orders by depth are tried: the first of `list`, and then those that are
+   farthest from all before them, the first in `list` of several. Returns how many they are. */
+static int find_starts(const struct graph *graph, const int *list, int *starts)
+{
+	int n = graph->switches, count = 0, i, s, best, *far = room_for(n, sizeof *far), *near = room_for(n, sizeof *near);
+
+	for (s = 0; s < n; s++)
+		near[s] = INT_MAX;
+	for (; count < n && count < TRIED_ROOTS; count++) {
+		best = list[0];
+		for (i = 1; i < n; i++)
+			if (near[list[i]] > near[best])
+				best = list[i];
+		starts[count] = best;
+		distances(graph, best, far);
+		for (s = 0; s < n; s++)
+			if (far[s] >= 0 && far[s] < near[s])
+				near[s] = far[s];
+	}
+	free(near);
+	free(far);
+	return count;
 }
 
 /* How an order by depth grows: the ranks of switches by key, whether greater ones come first, the placed switches,
@@ -205,8 +230,8 @@ static void list_by_depth(struct depth *depth, const int *list, int root)
 /* Writes to `grown` the order by which the rule `balance` plans if none is named. */
 void tried_order(const struct graph *graph, struct room *room, int *grown)
 {
-	int n = graph->switches, i, root, *list = room_for(n, sizeof *list), *rank = room_for(n, sizeof *rank);
-	int *other = room_for(n, sizeof *other);
+	int n = graph->switches, i, count, starts[TRIED_ROOTS], *list = room_for(n, sizeof *list);
+	int *rank = room_for(n, sizeof *rank), *other = room_for(n, sizeof *other);
 	struct depth depth = { graph, rank, 0, 0, room_for(n, sizeof(int)), room_for(n, sizeof(int)) };
 	struct figures least, figures;
 
@@ -215,13 +240,11 @@ void tried_order(const struct graph *graph, struct room *room, int *grown)
 		rank[list[i]] = i;
 	grow(graph, list, grown);
 	least = trial_loads(room, grown);
-	if (!are_even(graph, &least))
-		for (i = 0; i < 2 * TRIED_ROOTS; i++) {
-			root = i % TRIED_ROOTS;
-			if (root >= n)
-				continue;
-			depth.is_backwards = i >= TRIED_ROOTS;
-			list_by_depth(&depth, list, root);
+	if (!are_even(graph, &least)) {
+		count = find_starts(graph, list, starts);
+		for (i = 0; i < 2 * count; i++) {
+			depth.is_backwards = i >= count;
+			list_by_depth(&depth, list, starts[i % count]);
 			grow(graph, depth.found, other);
 			figures = trial_loads(room, other);
 			if (figures.most < least.most) {
@@ -229,6 +252,7 @@ void tried_order(const struct graph *graph, struct room *room, int *grown)
 				memcpy(grown, other, n * sizeof *grown);
 			}
 		}
+	}
 	free(depth.wires);
 	free(depth.found);
 	free(other);

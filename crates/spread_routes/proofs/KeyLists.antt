@@ -27,7 +27,7 @@ all_keyed graph adapters (as_named switches) =
 all_keyed graph adapters (balanced_as switches) =
     length_map (key_as_named switches) (guids_of graph) ∙ length_map (λ (c : SwitchEdges). c.guid) graph
 all_keyed graph adapters least_loaded =
-    keys_long (by_index graph) adapters (keys_from_roots graph adapters []) (keyed_from graph adapters []) ∙ indexed graph
+    keys_long (by_index graph) adapters ∙ indexed graph
 
 pub all_levelled : (graph : List SwitchEdges) (adapters : List ℕ) → length (levels_of (by_index graph) (leaf_vertices adapters)) ≡ length graph
 all_levelled graph adapters = numbers_long (level_of (by_index graph) (leaf_vertices adapters)) 0 (length (by_index graph)) ∙ indexed graph

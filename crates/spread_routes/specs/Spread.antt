@@ -87,11 +87,10 @@ abbrev pub keys_from_roots : List SwitchEdges → List ℕ → List ℕ → List
 keys_from_roots graph adapters roots =
     keys_of (by_index graph) (distance_classes_of (by_index graph) (leaf_vertices adapters) (indices_of graph roots))
 
--- the keys without roots if their trial loads are even. Otherwise, of these keys and the keys by depth, the first that
--- have the least trial load
+-- the keys of the least trial load: those by how remote switches are if their trial loads are even; otherwise, of these
+-- and the keys by depth, the first that have the least trial load
 abbrev pub keys_least_loaded : List SwitchEdges → List ℕ → List VertexKey
-keys_least_loaded graph adapters =
-    least_loaded_keys (by_index graph) adapters (keys_from_roots graph adapters [])
+keys_least_loaded graph adapters = least_loaded_keys (by_index graph) adapters
 
 -- the keys of switches according to how the order is grown: by roots, by a list of switches, or by the least trial load
 abbrev pub keys_by : List SwitchEdges → List ℕ → OrderValue → List VertexKey

@@ -138,7 +138,11 @@ fn least_loaded(
         ≡ levels_of (by_index graph.now) (leaf_vertices adapters.now)) }
 {
     let edges = graph.adjacency();
-    let SwitchKeys { keys, levels } = from_roots(alloc, graph, adapters, &[])?;
-    let keys = least_loaded_keys(alloc, edges, adapters, &keys)?;
+    let leaves = leaf_vertices(alloc, adapters)?;
+    let Grades {
+        distance_classes: _,
+        levels,
+    } = grade(alloc, edges, &leaves, &[])?;
+    let keys = least_loaded_keys(alloc, edges, adapters)?;
     Ok(SwitchKeys { keys, levels })
 }

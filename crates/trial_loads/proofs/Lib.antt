@@ -1,3 +1,4 @@
+pub mod Remote
 pub mod Packets
 pub mod Picked
 pub mod Numbered

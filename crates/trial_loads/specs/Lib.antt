@@ -1,3 +1,4 @@
 pub mod TrialLoads
 pub mod ShareLaws
+pub mod Starts
 pub mod LeastLoaded

@@ -1,19 +1,18 @@
 //! The order of the least trial load.
-ghost use Rattle.std.specs.Prelude.{◌≡◌, ◌<◌, All, IfOk, if◌then◌else◌, length, nat_lt};
+ghost use Rattle.std.specs.Prelude.{◌≡◌, ◌<◌, All, IfOk, if◌then◌else◌, length, map, nat_lt};
 ghost use Rattle.port_graph.specs.Heads.{LeadToVertices};
 ghost use Rattle.spread_labels.specs.LabelLaws.{IsSymmetric};
-ghost use Rattle.trial_loads.specs.LeastLoaded.{keys_by_depth, keys_in, least_by, least_loaded_keys, tried_by_depth};
+ghost use Rattle.trial_loads.specs.LeastLoaded.{keys_by_depth, keys_in, least_by, least_loaded_among, least_loaded_keys};
 ghost use Rattle.trial_loads.specs.TrialLoads.{trial_load};
 
+use crate::remoteness::keys_by_remoteness;
+use crate::starts::starts;
 use crate::trials::{trial_load, trial_loads};
 use balanced_choices::are_even;
 use depth_orders::{Direction, order_by_depth};
 use port_graph::Adjacency;
 use spread_labels::{VertexKey, greatest_of, position_of};
 use std::alloc::{AllocError, Global};
-
-/// The greatest number of vertices from which orders by depth are tried.
-const TRIED: usize = 8;
 
 /// Keys, and the trial load of the order that grows by these keys.
 #[derive(Drop)]
@@ -22,12 +21,30 @@ struct Trial {
     load: usize,
 }
 
-/// Returns `keys` if the trial loads of the order that grows by them are even. Otherwise returns the keys of the
-/// order with the least trial load. The orders tried are that of `keys` and the orders by depth from each of the
-/// first eight vertices, forwards and backwards. If loads are equal, the order tried first counts. There must be a
-/// key for each vertex. For each edge there must be an edge back. `adapters` must have the number of adapters at each
-/// vertex. Computes the trial loads of at most 17 orders. Returns an error if memory runs out.
+/// Returns the keys of the order with the least trial load. The order that grows by remoteness is taken if its trial
+/// loads are even. Otherwise orders by depth from up to eight starts, forwards and backwards, are tried too. If loads
+/// are equal, the order tried first counts. For each edge there must be an edge back. `adapters` must have the number of
+/// adapters at each vertex. Computes the trial loads of at most 17 orders, and does a breadth-first search from each
+/// vertex. Returns an error if memory runs out.
 pub fn least_loaded_keys(
+    alloc: Global,
+    edges: &Adjacency,
+    adapters: &[u16],
+) -> Result<Vec<VertexKey>, AllocError>
+    requires lead { LeadToVertices edges.now }
+    requires symmetric { IsSymmetric edges.now }
+    requires adapters { length adapters.now ≡ length edges.now }
+    ensures { IfOk result (λ found. found.items ≡ least_loaded_keys edges.now adapters.now) }
+{
+    let keys = keys_by_remoteness(alloc, edges, adapters)?;
+    least_loaded_among(alloc, edges, adapters, &keys)
+}
+
+/// Returns `keys` if the trial loads of the order that grows by them are even. Otherwise returns the keys of the order
+/// with the least trial load. The orders tried are that of `keys` and the orders by depth from up to eight starts,
+/// forwards and backwards. There must be a key for each vertex. The other preconditions are those of
+/// `least_loaded_keys`.
+fn least_loaded_among(
     alloc: Global,
     edges: &Adjacency,
     adapters: &[u16],
@@ -37,30 +54,48 @@ pub fn least_loaded_keys(
     requires lead { LeadToVertices edges.now }
     requires symmetric { IsSymmetric edges.now }
     requires adapters { length adapters.now ≡ length edges.now }
-    ensures { IfOk result (λ found. found.items ≡ least_loaded_keys edges.now adapters.now keys.now) }
+    ensures { IfOk result (λ found. found.items ≡ least_loaded_among edges.now adapters.now keys.now) }
 {
     let keys_tried = Vec::from_slice(alloc, keys)?;
     let loads = trial_loads(alloc, edges, adapters, keys)?;
     if are_even(edges, &loads) {
         return Ok(keys_tried);
     }
+    let starts = starts(alloc, edges, keys)?;
     let first = Trial {
         keys: keys_tried,
         load: greatest_of(&loads),
     };
-    let best = try_by_depth(alloc, edges, adapters, keys, Direction::Forwards, first)?;
-    let best = try_by_depth(alloc, edges, adapters, keys, Direction::Backwards, best)?;
+    let best = try_by_depth(
+        alloc,
+        edges,
+        adapters,
+        keys,
+        &starts,
+        Direction::Forwards,
+        first,
+    )?;
+    let best = try_by_depth(
+        alloc,
+        edges,
+        adapters,
+        keys,
+        &starts,
+        Direction::Backwards,
+        best,
+    )?;
     Ok(best.keys)
 }
 
-/// Tries the order by depth in `direction` from each of the first eight vertices, or from all vertices if there are
-/// fewer. Returns whichever of `first` and these trials has the least load. If loads are equal, returns the earliest.
-/// The load of `first` must be its trial load. The other preconditions are those of `least_loaded_keys`.
+/// Tries the order by depth in `direction` from each of `starts`. Returns whichever of `first` and these trials has the
+/// least load. If loads are equal, returns the earliest. The load of `first` must be its trial load, and `starts` must
+/// be vertices. The other preconditions are those of `least_loaded_among`.
 fn try_by_depth(
     alloc: Global,
     edges: &Adjacency,
     adapters: &[u16],
     keys: &[VertexKey],
+    starts: &[usize],
     direction: Direction,
     first: Trial,
 ) -> Result<Trial, AllocError>
@@ -68,14 +103,15 @@ fn try_by_depth(
     requires lead { LeadToVertices edges.now }
     requires symmetric { IsSymmetric edges.now }
     requires adapters { length adapters.now ≡ length edges.now }
+    requires starts { All (λ start. start < length edges.now) starts.now }
     requires first { first.load ≡ trial_load edges.now adapters.now first.keys.items }
     ensures keys { IfOk result (λ best. best.keys.items ≡ least_by (trial_load edges.now adapters.now)
-        first.keys.items (tried_by_depth edges.now keys.now direction)) }
+        first.keys.items (map (keys_by_depth edges.now keys.now direction) starts.now)) }
     ensures load { IfOk result (λ best. best.load ≡ trial_load edges.now adapters.now best.keys.items) }
 {
     let mut best = first;
-    for root in 0..edges.len().min(TRIED) {
-        let tried = keys_by_depth(alloc, edges, keys, direction, root)?;
+    for start in starts {
+        let tried = keys_by_depth(alloc, edges, keys, direction, *start)?;
         let other = trial_of(alloc, edges, adapters, tried)?;
         best = lesser(best, other);
     }

@@ -4,7 +4,9 @@
 
 pub mod laws;
 mod least_loaded;
+mod remoteness;
 mod shared_loads;
+mod starts;
 mod trials;
 mod upward;
 

@@ -1,28 +1,21 @@
-use Rattle.std.proofs.Common.{◌≡◌, sym, ap, ◌∙◌}
-use Rattle.balanced_choices.specs.BalancedChoices.{are_even}
-use Rattle.trial_loads.specs.LeastLoaded.{least_by, tried_by_depth}
-use Rattle.trial_loads.specs.TrialLoads.{trial_load, trial_loads}
-use Rattle.depth_orders.specs.declared.direction.Direction.TheVariants.{Forwards, Backwards}
-use Rattle.trial_loads.proofs.Least.{least_both, found_even, found_least}
+use Rattle.std.proofs.Common.{◌≡◌, List, ap, ◌∙◌, subst, length}
+use Rattle.std.specs.Prelude.{IfOk}
+use Rattle.spread_labels.specs.declared.key_order.VertexKey.{VertexKey}
+use Rattle.spread_labels.specs.GrowthKeys.{key_of}
+use Rattle.spread_labels.proofs.Numbers.{numbers_long}
+use Rattle.trial_loads.specs.LeastLoaded.{least_loaded_among}
+use Rattle.trial_loads.specs.Starts.{all_remoteness}
 use Rattle.trial_loads.proofs.least_loaded.least_loaded_keys.Goals as goal
 
-pub returns-then-are_even : goal.returns-then-are_even
-returns-then-are_even c =
+pub least_loaded_among-requires-clause-keys : goal.least_loaded_among-requires-clause-keys
+least_loaded_among-requires-clause-keys c =
     let edges = c.args.edges.now in
-    let loads : c.deref.result.now ≡ trial_loads edges c.args.adapters.now c.args.keys.now = c.deref.ensures.value ∙ c.in_ok-loads.ensures in
-    c.in_ok-keys_tried.ensures.items
-    ∙ sym (found_even edges c.args.adapters.now c.args.keys.now (ap (are_even edges) (sym loads) ∙ sym c.are_even.ensures ∙ c.if-are_even.true))
+    ap length (c.deref.ensures.value ∙ c.in_ok-keys.ensures)
+    ∙ numbers_long (key_of edges (all_remoteness edges c.args.adapters.now)) 0 (length edges)
 
 pub returns : goal.returns
 returns c =
     let edges = c.args.edges.now in
     let adapters = c.args.adapters.now in
-    let keys = c.args.keys.now in
-    let load = trial_load edges adapters in
-    let forwards = tried_by_depth edges keys Forwards in
-    let backwards = tried_by_depth edges keys Backwards in
-    let loads : c.deref.result.now ≡ trial_loads edges adapters keys = c.deref.ensures.value ∙ c.in_ok-loads.ensures in
-    let best : c.in_ok-best.best.keys.items ≡ least_by load keys forwards =
-    c.in_ok-best.ensures.keys ∙ ap (λ ks. least_by load ks forwards) c.in_ok-keys_tried.ensures.items in
-    c.in_ok-best-2.ensures.keys ∙ ap (λ ks. least_by load ks backwards) best ∙ sym (least_both load keys forwards backwards)
-    ∙ sym (found_least edges adapters keys (ap (are_even edges) (sym loads) ∙ sym c.are_even.ensures ∙ c.if-are_even.false))
+    subst (λ (keys : List VertexKey). IfOk c.least_loaded_among.result (λ found. found.items ≡ least_loaded_among edges adapters keys))
+    (c.deref.ensures.value ∙ c.in_ok-keys.ensures) c.least_loaded_among.ensures

@@ -1,14 +1,13 @@
-use Rattle.std.proofs.Common.{◌≡◌, map}
-use Rattle.spread_labels.specs.Orders.{numbers_from}
+use Rattle.std.proofs.Common.{◌≡◌, map, take}
 use Rattle.trial_loads.specs.LeastLoaded.{keys_by_depth, least_by}
 use Rattle.trial_loads.specs.TrialLoads.{trial_load}
 use Rattle.trial_loads.proofs.least_loaded.try_by_depth.Given as goal
 
 -- the best so far, with its load
-abbrev pub invariant-loop-root : goal.invariant-loop-root
-invariant-loop-root l =
+abbrev pub invariant-loop-start : goal.invariant-loop-start
+invariant-loop-start l =
     record {
       keys : l.best.keys.items ≡ least_by (trial_load l.edges l.adapters) l.fn.first.keys.items
-          (map (keys_by_depth l.edges l.keys l.direction) (numbers_from 0 l.root));
+          (map (keys_by_depth l.edges l.keys l.direction) (take l.start-index l.starts));
       load : l.best.load ≡ trial_load l.edges l.adapters l.best.keys.items;
     }
