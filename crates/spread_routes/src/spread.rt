@@ -94,8 +94,8 @@ impl<'g> Spread<'g> {
     /// Computes the routes. `adapters` must have the number of adapters at each switch, in ascending order of GUID.
     /// `order` says how the order of switches is grown and whether loads are balanced. Ignores GUIDs in `order` that
     /// are not switches of `graph`. Does a breadth-first search from each leaf switch and each root, and two more
-    /// searches for each component unless `order` names switches. For the order of the least trial load, also
-    /// computes trial loads. If `order` asks for it, also balances loads. Returns an error if memory runs out.
+    /// searches for each component unless `order` names switches. For the order of the least trial load, does a
+    /// search from each switch, and computes trial loads. If `order` asks for it, also balances loads. Returns an error if memory runs out.
     pub fn of(
         alloc: Global,
         graph: &'g SwitchGraph,

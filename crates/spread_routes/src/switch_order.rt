@@ -27,9 +27,10 @@ pub enum SwitchOrder {
         /// The switches, as in `AsNamed`.
         switches: Vec<Guid>,
     },
-    /// By the least trial load, with loads balanced. If the trial loads of the order without roots are even, that order
-    /// is taken. Otherwise the order with the least trial load is taken: of that order and the orders by depth from the
-    /// eight switches of least GUID, forwards and backwards. If trial loads are equal, the first counts.
+    /// By the least trial load, with loads balanced. If the trial loads of the order that grows by remoteness are even,
+    /// that order is taken. Otherwise the order with the least trial load is taken: of that order and the orders by
+    /// depth from up to eight switches that are far from each other, forwards and backwards. If trial loads are equal,
+    /// the first counts.
     LeastLoaded,
 }
 
