@@ -4,6 +4,7 @@
 # make uninstall PREFIX=/usr/local: removes what that installed.
 # make dist: makes an archive of the same in out/, which installs without a kit, a compiler or make.
 # make prove: proves and builds the program.
+# make demo: shows what the program does, without hardware or rights; compiles it without proofs if it is not built.
 # Needs the Rattle kit, a C compiler, libibumad (Debian: libibumad-dev) and Python 3.
 PREFIX ?= /usr/local
 DESTDIR ?=
@@ -23,6 +24,9 @@ all:
 prove:
 	./ibsm --prove --version
 
+demo:
+	tools/demo
+
 stage: all
 	tools/stage $(STAGE) $(PROGRAM) tools/record/out $(if $(UNPROVED),--unproved)
 
@@ -36,4 +40,4 @@ dist: stage
 	tar -C out --owner=0 --group=0 --sort=name -czf out/$(NAME).tar.gz $(NAME)
 	cd out && sha256sum $(NAME).tar.gz >$(NAME).tar.gz.sha256
 
-.PHONY: all prove stage install uninstall dist
+.PHONY: all prove demo stage install uninstall dist
