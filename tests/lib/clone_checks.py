@@ -15,7 +15,7 @@ import sample_fabrics
 from bench import Bench, simulated_library
 from paths import ROOT
 
-SECTIONS = "Set up", "Use"
+SECTIONS = "Repair a cut", "Set up", "Use"
 # What is run only if it is asked for, since it takes so long.
 LONG = "make prove"
 # A line that begins so is a command, in a block all of whose lines are.
