@@ -9,18 +9,20 @@ from paths import ROOT
 
 LINK = re.compile(r"\]\(([^)\s]+)\)|\bsrc=\"([^\"]+)\"")
 HEADING = re.compile(r"^#+ (.*)$", re.M)
-CODE = re.compile(r"^```\n.*?^```$|`[^`\n]*`", re.S | re.M)
+BLOCK = re.compile(r"^```\n.*?^```$", re.S | re.M)
+CODE = re.compile(r"`[^`\n]*`")
 
 
 def anchors(text: str) -> set[str]:
     """Returns the names of a document's headings, as links spell them."""
-    return {re.sub(r"[^\w\- ]", "", title.lower()).strip().replace(" ", "-") for title in HEADING.findall(text)}
+    titles = HEADING.findall(BLOCK.sub("", text))
+    return {re.sub(r"[^\w\- ]", "", it.lower()).strip().replace(" ", "-") for it in titles}
 
 
 def dead_links() -> Iterator[str]:
     """Yields each link of a document, at the root or in docs/, that leads nowhere."""
     for page in sorted([*ROOT.glob("*.md"), *ROOT.glob("docs/*.md")]):
-        for link, source in LINK.findall(CODE.sub("", page.read_text())):
+        for link, source in LINK.findall(CODE.sub("", BLOCK.sub("", page.read_text()))):
             name, _, heading = (link or source).partition("#")
             target = (page.parent / name).resolve() if name else page
             if "://" in name:
