@@ -32,7 +32,7 @@ def ended(program: str | pathlib.Path, room: pathlib.Path) -> subprocess.Complet
         cwd=room,
         text=True,
         capture_output=True,
-        timeout=60,
+        timeout=300,
         env=os.environ | {"TMPDIR": str(room / "tmp")},
     )
     check(os.listdir(room / "tmp") == [], f"demo leaves nothing behind with {program}")
