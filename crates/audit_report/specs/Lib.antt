@@ -1,7 +1,7 @@
 pub mod AuditText
 pub mod Passing
 pub mod Appendix
-pub mod AuditRun
+pub mod LineLimit
 pub use Rattle.audit_counts.specs.Packets
 pub use Rattle.audit_counts.specs.Site
 pub use Rattle.audit_counts.specs.declared.sent_packet.SentPacket

@@ -1,10 +1,9 @@
 //! An audit as text.
-ghost use Rattle.std.specs.Prelude.{◌-◌, ◌++◌, IsTrue, OnOk, codes};
+ghost use Rattle.std.specs.Prelude.{◌-◌, codes};
 ghost use Rattle.std.specs.List.{flat_map};
 ghost use Rattle.fact_store.specs.View.{cells_of};
 ghost use Rattle.byte_io.specs.Writes.{Writes};
 ghost use Rattle.byte_io.specs.WritesPart.{WritesPart};
-ghost use Rattle.audit_report.specs.Appendix.{shown};
 ghost use Rattle.audit_report.specs.AuditText.{audit_text, disputed_line};
 ghost use Rattle.audit_report.specs.AuditText.{cause_text, causes_text, count_text, counts_line, findings_text};
 ghost use Rattle.audit_report.specs.AuditText.{listed_text, missed_line};
@@ -15,7 +14,6 @@ ghost use Rattle.audit_report.specs.AuditText.{port_line, kind_text};
 ghost use Rattle.audit_report.specs.AuditText.{lost_text, missed_text, sent_text, switch_line, taken_text};
 ghost use Rattle.audit_report.specs.AuditText.{unmatched_text};
 
-use crate::appendix::Appendix;
 use crate::findings::Audit;
 use audit_channels::{ChannelKind, write_cycle};
 use audit_counts::{
@@ -27,7 +25,7 @@ use packet_walks::{Cause, End, Network};
 use smp_bytes::{Guid, Lid};
 use subnet_view::EndPort;
 
-/// Writes an audit, and flushes:
+/// Writes an audit:
 ///
 /// - how many packets there are and how many arrive: of all packets, of packets between adapter ports, and of packets
 ///   to or from a switch;
@@ -39,18 +37,11 @@ use subnet_view::EndPort;
 /// - how many facts are disputed, if any are;
 /// - the greatest and the mean number of wires that packets between adapter ports take, and the greatest and the mean
 ///   load of a channel;
-/// - the channels of a credit loop, or that there is none;
-/// - the lines of `appendix`.
+/// - the channels of a credit loop, or that there is none.
 ///
 /// Does not allocate.
-pub fn write_audit<W: Sink>(
-    sink: &mut W,
-    audit: &Audit,
-    appendix: &Appendix,
-) -> Result<(), WriteFault>
-    ensures writes { Writes W.written W.has_failed result sink.old sink.new
-        (audit_text audit.now ++ shown (cells_of audit.now.facts) audit.now.held appendix.now) }
-    ensures flushed { OnOk result (IsTrue (W.is_flushed sink.new)) }
+pub fn write_audit<W: Sink>(sink: &mut W, audit: &Audit) -> Result<(), WriteFault>
+    ensures { WritesPart W.written W.has_failed result sink.old sink.new (audit_text audit.now) }
 {
     write_findings(sink, audit)?;
     write_cycle(
@@ -58,14 +49,11 @@ pub fn write_audit<W: Sink>(
         &audit.network,
         ChannelKind::OnOneLane,
         &audit.findings.cycle,
-    )?;
-    appendix.write(sink, &audit.network)?;
-    sink.flush()
+    )
 }
 
-/// Writes `audit` as `write_audit` does, but without the line of the credit loop, and without flushing. Does not
-/// allocate.
-pub fn write_findings<W: Sink>(sink: &mut W, audit: &Audit) -> Result<(), WriteFault>
+/// Writes `audit` as `write_audit` does, but without the line of the credit loop.
+fn write_findings<W: Sink>(sink: &mut W, audit: &Audit) -> Result<(), WriteFault>
     ensures { WritesPart W.written W.has_failed result sink.old sink.new
         (findings_text audit.now.most (cells_of audit.now.facts) audit.now.held) }
 {

@@ -3,11 +3,11 @@
 #![tactic(auto)]
 
 mod appendix;
-mod audit_run;
 mod audit_text;
 mod findings;
+mod line_limit;
 
 pub use appendix::Appendix;
-pub use audit_run::{most_lines, run_audit};
-pub use audit_text::{write_audit, write_findings, write_more};
+pub use audit_text::{write_audit, write_more};
 pub use findings::Audit;
+pub use line_limit::most_lines;

@@ -1,0 +1,125 @@
+-- What an audit does with a text of lanes, if it is given, a text of tables, and files: it reads all of them and writes
+-- what happens to packets, or returns the fault of an input.
+use Rattle.std.specs.Prelude.{◌≡◌, ◌↔◌, ◌⊎◌, ◌++◌, ℕ, Bool, true, false, List, [], Option, None, Some, IsTrue}
+use Rattle.byte_io.specs.Source.{SourceState}
+use Rattle.fact_store.specs.View.{Facts, cells_of}
+use Rattle.subnet_view.specs.Reading.{Cells}
+use Rattle.held_tables.specs.Held.{HeldPlan}
+use Rattle.audit_channels.specs.Waiting.{NoneShorter}
+use Rattle.audit_counts.specs.FirstFew.{all_listed}
+use Rattle.audit_report.specs.Appendix.{appendix_text}
+use Rattle.audit_report.specs.AuditText.{audit_text}
+use Rattle.audit_report.specs.LineLimit.{most_lines}
+use Rattle.audit_report.specs.Passing.{DeliversWithin, IsCycle, PassesWithin}
+use Rattle.lanes_file.specs.Lanes.{LanesSaid}
+use Rattle.lane_channels.specs.declared.dropped.Dropped.{Dropped}
+use Rattle.lane_channels.specs.declared.loops_by_lane.LaneOrder.{LaneOrder}
+use Rattle.lane_channels.specs.LaneNetwork.{SeenByLane}
+use Rattle.lane_channels.specs.Waiting.{IsDroppedByLane, IsLaneCycle, IsSomeDrop, RiseByLane}
+use Rattle.lane_channels.specs.Waiting.{NoneShorter as NoneShorterByLane}
+use Rattle.audit_run.specs.declared.lane_findings.LaneFindings.{LaneFindings}
+use Rattle.audit_run.specs.LaneText.{lanes_text}
+use Rattle.audit_run.specs.LevelsMissing.{missing_levels}
+use Rattle.sm_cli.specs.Fault.{IsOutputFault}
+use Rattle.sm_cli.specs.InputLanes.{AreLanesAndTables, AreNoLanesAndTables}
+use Rattle.sm_cli.specs.declared.audit_asked.AuditAsked.{AuditAsked}
+use Rattle.sm_cli.specs.declared.fault.Fault.{Fault}
+use Rattle.sm_cli.specs.declared.input_lanes.LanesAndTables.{LanesAndTables}
+
+-- facts, tables and lanes together
+abbrev pub seen_of : Facts → HeldPlan → LanesSaid → SeenByLane
+seen_of facts held said = record { seen = record { facts = facts; held = held }; said = said }
+
+-- what is found by lane --------------------------------------------------------------------------
+
+-- a packet that is dropped for want of a lane, and a shortest credit loop by lane, each if there is one. If `answers` is
+-- true, packets that answer other packets also have the levels of those packets
+pub record IsLaneOrder (s : SeenByLane) (answers : Bool) (order : LaneOrder) : Type 0 where
+  pub drop : IsSomeDrop s answers order.dropped
+  pub waits : IsLaneCycle s answers order.cycle.items
+  pub shortest : NoneShorterByLane s answers order.cycle.items
+
+-- the findings by lane are right: packets without a service level, at most `most` of them listed; and drops and credit
+-- loops without answers and with them
+pub record IsFoundByLane (most : ℕ) (s : SeenByLane) (found : LaneFindings) : Type 0 where
+  pub missing_are : found.missing ≡ all_listed most (missing_levels s.said (cells_of s.seen.facts) s.seen.held)
+  pub order : IsLaneOrder s false found.order
+  pub answers : IsLaneOrder s true found.answers
+
+-- if there is a text of lanes, its findings by lane are right; otherwise there are none
+abbrev pub AreFoundByLane : ℕ → Facts → HeldPlan → Option LanesSaid → Option LaneFindings → Type 0
+AreFoundByLane most facts held None found = found ≡ None
+AreFoundByLane most facts held (Some said) None = ⊥
+AreFoundByLane most facts held (Some said) (Some found) = IsFoundByLane most (seen_of facts held said) found
+
+-- the lines of the findings by lane; empty for None
+abbrev pub lane_lines : Cells → Option LaneFindings → List ℕ
+lane_lines cells None = []
+lane_lines cells (Some found) = lanes_text cells found
+
+-- when tables pass -------------------------------------------------------------------------------
+
+-- nothing wrong was found by lane without answers: each packet between adapters has a service level, none is dropped for
+-- want of a lane, and there is no credit loop
+pub record IsSoundByLane (found : LaneFindings) : Type 0 where
+  pub none_missing : found.missing.count ≡ 0
+  pub none_dropped : found.order.dropped ≡ None
+  pub no_cycle : found.order.cycle.items ≡ []
+
+-- what was found says that the tables pass: without findings by lane, by credit loops on one lane; otherwise by the
+-- findings by lane
+abbrev pub IsFoundToPass : Option ℕ → Facts → HeldPlan → Option LaneFindings → Type 0
+IsFoundToPass bound facts held None = PassesWithin bound (cells_of facts) held
+IsFoundToPass bound facts held (Some found) = DeliversWithin bound (cells_of facts) held × IsSoundByLane found
+
+-- the tables pass by lane: they are whole for the facts; packets arrive; each packet between adapters has a service
+-- level; no packet is dropped for want of a lane; and channels by lane can be numbered so that numbers rise, both
+-- without answers. If there is a bound, no channel has a greater load
+pub record PassesByLane (bound : Option ℕ) (s : SeenByLane) : Type 0 where
+  pub delivers : DeliversWithin bound (cells_of s.seen.facts) s.seen.held
+  pub leveled : missing_levels s.said (cells_of s.seen.facts) s.seen.held ≡ []
+  pub carried : (dropped : Dropped) → IsDroppedByLane s false dropped → ⊥
+  pub rise : RiseByLane s false
+
+-- the tables pass: on one lane if there is no text of lanes, otherwise by lane
+abbrev pub PassesAudit : Option ℕ → Facts → HeldPlan → Option LanesSaid → Type 0
+PassesAudit bound facts held None = PassesWithin bound (cells_of facts) held
+PassesAudit bound facts held (Some said) = PassesByLane bound (seen_of facts held said)
+
+-- the run ----------------------------------------------------------------------------------------
+
+-- the audit's text, the findings by lane, if there is a text of lanes, and the lines that `asked` asks for are printed,
+-- as `prints` says, each with a shortest credit loop if there is one. `passed` says whether the tables pass and, if
+-- `asked` has a maximum load, no channel has a greater load
+pub record IsAudited (asked : AuditAsked) (facts : Facts) (held : HeldPlan) (lanes : Option LanesSaid)
+    (prints : List ℕ → Type 0) (passed : Bool) : Type 0 where
+  pub cycle : List ℕ
+  pub waits : IsCycle (cells_of facts) held cycle
+  pub shortest : NoneShorter (cells_of facts) held cycle
+  pub found : Option LaneFindings
+  pub by_lane : AreFoundByLane (most_lines asked.all) facts held lanes found
+  pub answered : prints
+      (audit_text (record { most = most_lines asked.all; facts = facts; held = held; cycle = cycle })
+      ++ lane_lines (cells_of facts) found ++ appendix_text asked (cells_of facts) held)
+  pub judged : IsTrue passed ↔ PassesAudit asked.max_load facts held lanes
+
+-- the lanes, if `asked` says that there are any, the tables and then the files were read, and the text of their audit is
+-- printed, as `prints` says. `passed` says whether the tables pass and, if `asked` has a maximum load, no channel has a
+-- greater load
+pub record HasAudited {S : Type 0} (state : S → SourceState) (asked : AuditAsked) (olds news : List S)
+    (prints : List ℕ → Type 0) (passed : Bool) : Type 0 where
+  pub told : LanesAndTables
+  pub read : AreLanesAndTables state asked.lanes olds news told
+  pub audited : IsAudited asked told.read.store told.read.held told.lanes prints passed
+
+-- the inputs were read as lanes, if `has_lanes` is true, as tables and as files, and their audit ended with `fault`
+pub record FailsToAudit {S : Type 0} (state : S → SourceState) (has_lanes : Bool) (olds news : List S)
+    (sink_failed : Bool) (fault : Fault) : Type 0 where
+  pub told : LanesAndTables
+  pub read : AreLanesAndTables state has_lanes olds news told
+  pub why : IsOutputFault sink_failed fault
+
+-- an audit of open inputs ends with `fault`: the inputs are not read, or their audit fails
+abbrev pub IsAuditFault : {S : Type 0} → (S → SourceState) → Bool → List S → List S → Bool → Fault → Type 0
+IsAuditFault state has_lanes olds news sink_failed fault =
+    AreNoLanesAndTables state has_lanes olds news fault ⊎ FailsToAudit state has_lanes olds news sink_failed fault

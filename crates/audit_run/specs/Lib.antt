@@ -1,0 +1,4 @@
+pub mod LaneText
+pub mod LevelRow
+pub mod LevelsMissing
+pub mod AuditRun

@@ -1,0 +1,224 @@
+//! An audit of a text of lanes, if it is given, of tables and of files of records.
+ghost use Rattle.std.specs.Prelude.{◌≡◌, ◌+◌, ◌≤◌, ◌↔◌, ◌⊎◌, ◌++◌, Err, IfErr, IfOk, IsTrue, OnErr, OnOk, [], None, false, length, true};
+ghost use Rattle.std.specs.Io.KnownBytes.{Appends};
+ghost use Rattle.fact_store.specs.View.{cells_of};
+ghost use Rattle.byte_io.specs.Writes.{Writes};
+ghost use Rattle.byte_io.specs.WritesPart.{WritesPart};
+ghost use Rattle.audit_report.specs.Appendix.{appendix_text, shown};
+ghost use Rattle.audit_report.specs.AuditText.{audit_text};
+ghost use Rattle.audit_run.specs.AuditRun.{AreFoundByLane, HasAudited, IsAuditFault, IsAudited, IsFoundByLane};
+ghost use Rattle.audit_run.specs.AuditRun.{IsFoundToPass, IsLaneOrder, lane_lines, seen_of};
+ghost use Rattle.sm_cli.specs.Asked.{texts_if};
+ghost use Rattle.sm_cli.specs.Fault.{IsOutputFault};
+
+use crate::lane_findings::LaneFindings;
+use crate::levels_missing::pairs_without_level;
+use audit_report::{Appendix, Audit, most_lines, write_audit};
+use byte_io::{Sink, Source, WriteFault};
+use fact_store::Refused;
+use held_tables::Subnet;
+use lane_channels::{LaneNetwork, LaneOrder, lane_order};
+use lanes_file::Lanes;
+use packet_walks::Network;
+use sm_cli::{AuditAsked, Fault, LanesAndTables, read_lanes_and_tables};
+use std::alloc::Global;
+
+/// Reads the lanes from the first input if `asked.lanes` is true, then the tables from the next input, and then the
+/// files from the other inputs, one after the other. There must be an input for each text. Writes what these tables do
+/// with the packets of the subnet that the files describe together and, if there are lanes, what is found by lane, with
+/// answers and without. Then flushes. Returns whether the tables pass and, if there is an `asked.max_load`, no channel
+/// has a greater load. If there are lanes, credit loops are judged by lane, without answers.
+///
+/// # Errors
+///
+/// Returns the fault of the first input that is refused, `Memory` if memory is refused, or `Write` if a write fails.
+/// Nothing is written unless the error is `Write`; how much is written then is unspecified.
+pub fn run_audit<S: Source, W: Sink>(
+    alloc: Global,
+    inputs: &mut [S],
+    asked: AuditAsked,
+    sink: &mut W,
+) -> Result<bool, Fault>
+    requires { texts_if asked.lanes + 1 ≤ length inputs.old }
+    ensures done { IfOk result (HasAudited S.state asked inputs.old inputs.new
+        (Appends (W.written sink.old) (W.written sink.new))) }
+    ensures flushed { OnOk result (IsTrue (W.is_flushed sink.new)) }
+    ensures sink_works { OnOk result (W.has_failed sink.new ≡ false) }
+    ensures refused { IfErr result (IsAuditFault S.state asked.lanes
+        inputs.old inputs.new (W.has_failed sink.new)) }
+    ensures nothing_written { OnErr result ((result ≡ Err Fault.Write) ⊎ (sink.new ≡ sink.old)) }
+{
+    match read_lanes_and_tables(alloc, asked.lanes, inputs) {
+        Ok(told) => answer(alloc, sink, &asked, &told),
+        Err(fault) => Err(fault),
+    }
+}
+
+/// Writes the audit of the tables of `told` in the subnet that its facts describe, by its lanes too if there are any,
+/// and flushes. Returns whether the tables pass and, if there is an `asked.max_load`, no channel has a greater load. If
+/// the fault is not `Write`, nothing was written.
+fn answer<W: Sink>(
+    alloc: Global,
+    sink: &mut W,
+    asked: &AuditAsked,
+    told: &LanesAndTables,
+) -> Result<bool, Fault>
+    ensures audited { IfOk result (IsAudited asked.now told.now.read.store told.now.read.held told.now.lanes
+        (Appends (W.written sink.old) (W.written sink.new))) }
+    ensures flushed { OnOk result (IsTrue (W.is_flushed sink.new)) }
+    ensures sink_works { OnOk result (W.has_failed sink.new ≡ false) }
+    ensures refused { IfErr result (IsOutputFault (W.has_failed sink.new)) }
+    ensures nothing_written { OnErr result ((result ≡ Err Fault.Write) ⊎ (sink.new ≡ sink.old)) }
+{
+    let most = most_lines(asked.all);
+    let Ok(subnet) = Subnet::of(alloc, &told.read.store) else {
+        return Err(Fault::Memory);
+    };
+    let Ok(audit) = Audit::of(alloc, most, &subnet, &told.read.held) else {
+        return Err(Fault::Memory);
+    };
+    let Ok(found) = found_by_lane(alloc, most, &audit, &told.lanes) else {
+        return Err(Fault::Memory);
+    };
+    let Ok(appendix) = Appendix::of(alloc, asked, audit.network()) else {
+        return Err(Fault::Memory);
+    };
+    tell(sink, asked, &audit, &found, &appendix)
+}
+
+/// Finds what `lanes`, if there are any, do with the packets of `audit`. Keeps the first `most` packets without a
+/// service level.
+fn found_by_lane(
+    alloc: Global,
+    most: usize,
+    audit: &Audit,
+    lanes: &Option<Lanes>,
+) -> Result<Option<LaneFindings>, Refused>
+    ensures { IfOk result (AreFoundByLane most audit.now.facts audit.now.held lanes.now) }
+{
+    match lanes {
+        None => Ok(None),
+        Some(lanes) => Ok(Some(findings(alloc, most, audit, lanes)?)),
+    }
+}
+
+/// Finds the packets between adapter ports that have no service level, and drops and credit loops by lane. Keeps the
+/// first `most` packets without a service level.
+fn findings(
+    alloc: Global,
+    most: usize,
+    audit: &Audit,
+    lanes: &Lanes,
+) -> Result<LaneFindings, Refused>
+    ensures { IfOk result (IsFoundByLane most (seen_of audit.now.facts audit.now.held lanes.now)) }
+{
+    let missing = pairs_without_level(alloc, most, audit.network(), lanes)?;
+    let (order, answers) = orders(alloc, audit, lanes)?;
+    Ok(LaneFindings {
+        missing,
+        order,
+        answers,
+    })
+}
+
+/// Finds a shortest credit loop of channels by lane, and a packet that is dropped for want of a lane, without answers
+/// and with them. Neither exists if channels on one lane have numbers that rise, and each packet with a service level has
+/// a lane below 15. Otherwise packets are followed by lane.
+#[tactic(auto, using(crate::proofs::Judged::none_by_lane, lane_channels::proofs::LaneLaws::all_carried))]
+fn orders(alloc: Global, audit: &Audit, lanes: &Lanes) -> Result<(LaneOrder, LaneOrder), Refused>
+    ensures order { IfOk result (λ both.
+        IsLaneOrder (seen_of audit.now.facts audit.now.held lanes.now) false both.0) }
+    ensures answers { IfOk result (λ both.
+        IsLaneOrder (seen_of audit.now.facts audit.now.held lanes.now) true both.1) }
+{
+    if audit.can_rise() && lanes.carries_all() {
+        return Ok((nothing_found(alloc), nothing_found(alloc)));
+    }
+    let by_lane = LaneNetwork::of(alloc, audit.network(), lanes)?;
+    let order = lane_order(alloc, &by_lane, false)?;
+    let answers = lane_order(alloc, &by_lane, true)?;
+    Ok((order, answers))
+}
+
+/// Returns no credit loop and no dropped packet.
+fn nothing_found(alloc: Global) -> LaneOrder
+    ensures cycle { result.cycle.items ≡ [] }
+    ensures dropped { result.dropped ≡ None }
+{
+    LaneOrder {
+        cycle: Vec::new(alloc),
+        dropped: None,
+    }
+}
+
+/// Writes `audit`, what was `found` by lane and the lines of `appendix`, which must be those that `asked` asks for, and
+/// flushes. Returns whether this says that the tables pass and, if there is an `asked.max_load`, no channel has a
+/// greater load. If the fault is not `Write`, nothing was written.
+fn tell<W: Sink>(
+    sink: &mut W,
+    asked: &AuditAsked,
+    audit: &Audit,
+    found: &Option<LaneFindings>,
+    appendix: &Appendix,
+) -> Result<bool, Fault>
+    requires { shown (cells_of audit.now.facts) audit.now.held appendix.now
+        ≡ appendix_text asked.now (cells_of audit.now.facts) audit.now.held }
+    ensures told { IfOk result (λ passed.
+        Appends (W.written sink.old) (W.written sink.new)
+        (audit_text audit.now ++ lane_lines (cells_of audit.now.facts) found.now
+        ++ appendix_text asked.now (cells_of audit.now.facts) audit.now.held)
+        × (IsTrue passed ↔ IsFoundToPass asked.now.max_load audit.now.facts audit.now.held found.now)) }
+    ensures flushed { OnOk result (IsTrue (W.is_flushed sink.new)) }
+    ensures sink_works { OnOk result (W.has_failed sink.new ≡ false) }
+    ensures refused { IfErr result (IsOutputFault (W.has_failed sink.new)) }
+    ensures nothing_written { OnErr result ((result ≡ Err Fault.Write) ⊎ (sink.new ≡ sink.old)) }
+{
+    let passed = passes(asked.max_load, audit, found);
+    write_all(sink, audit, found, appendix)?;
+    Ok(passed)
+}
+
+/// Returns whether `audit` and what was `found` by lane say that the tables pass and, if there is a `bound`, no channel
+/// has a greater load.
+fn passes(bound: Option<u64>, audit: &Audit, found: &Option<LaneFindings>) -> bool
+    ensures { IsTrue result ↔ IsFoundToPass bound audit.now.facts audit.now.held found.now }
+{
+    match found {
+        None => audit.passes_within(bound),
+        Some(found) => audit.delivers_within(bound) && found.is_sound(),
+    }
+}
+
+/// Writes `audit`, what was `found` by lane and the lines of `appendix`, and flushes.
+fn write_all<W: Sink>(
+    sink: &mut W,
+    audit: &Audit,
+    found: &Option<LaneFindings>,
+    appendix: &Appendix,
+) -> Result<(), WriteFault>
+    ensures writes { Writes W.written W.has_failed result sink.old sink.new
+        (audit_text audit.now ++ lane_lines (cells_of audit.now.facts) found.now
+        ++ shown (cells_of audit.now.facts) audit.now.held appendix.now) }
+    ensures flushed { OnOk result (IsTrue (W.is_flushed sink.new)) }
+{
+    let network = audit.network();
+    write_audit(sink, audit)?;
+    write_found(sink, network, found)?;
+    appendix.write(sink, network)?;
+    sink.flush()
+}
+
+/// Writes what was `found` by lane, or nothing if it is `None`.
+fn write_found<W: Sink>(
+    sink: &mut W,
+    network: &Network,
+    found: &Option<LaneFindings>,
+) -> Result<(), WriteFault>
+    ensures { WritesPart W.written W.has_failed result sink.old sink.new
+        (lane_lines (cells_of network.now.facts) found.now) }
+{
+    match found {
+        None => Ok(()),
+        Some(found) => found.write(sink, network),
+    }
+}

@@ -1,4 +1,0 @@
-pub mod LaneText
-pub mod LevelRow
-pub mod LevelsMissing
-pub mod LaneRun
