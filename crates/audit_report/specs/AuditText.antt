@@ -4,7 +4,6 @@ use Rattle.std.specs.Prelude.{if◌then◌else◌}
 use Rattle.std.specs.Option.{option_map_or}
 use Rattle.std.specs.List.{flat_map}
 use Rattle.smp_bytes.specs.Text.{guid_text, port_text}
-use Rattle.fact_store.specs.View.{cells_of}
 use Rattle.subnet_view.specs.declared.end_port.EndPort.{EndPort}
 use Rattle.subnet_view.specs.Reading.{Cells}
 use Rattle.held_tables.specs.declared.held.HeldLid.{HeldLid}
@@ -25,9 +24,6 @@ use Rattle.audit_counts.specs.declared.unmatched.Unmatched.{Unmatched}
 use Rattle.audit_counts.specs.CauseCounts.{causes_of}
 use Rattle.audit_counts.specs.DisputedFacts.{disputed}
 use Rattle.audit_counts.specs.Packets.{arrives, goes_round, is_between, is_lost, is_misdelivered, packets_of}
-use Rattle.audit_channels.specs.declared.cycle_text.ChannelKind.TheVariants.{OnOneLane}
-use Rattle.audit_channels.specs.CycleText.{cycle_line}
-use Rattle.audit_report.specs.Passing.{Audited}
 use Rattle.audit_counts.specs.FirstFew.{Listed, listed_of, more_of}
 use Rattle.audit_counts.specs.Unmatched.{lidless, tableless, twice, unjoined, unknown, unowned, unusable}
 
@@ -208,15 +204,7 @@ ways_told cells held = ways_text (figures_of (hops_of cells held)) (figures_of (
 
 -- the text of an audit without its credit loop: packets, differences between tables and facts, disputed facts, routes
 -- and loads
-abbrev pub findings_text : ℕ → Cells → HeldPlan → List ℕ
+unfoldable pub findings_text : ℕ → Cells → HeldPlan → List ℕ
 findings_text most cells held =
     packets_told most cells held (packets_of cells held) ++ unmatched_told most cells held ++ disputed_line (disputed cells)
     ++ ways_told cells held
-
--- the text of an audit with the credit loop `cycle`, or without one if `cycle` is empty
-abbrev pub text_of : ℕ → Cells → HeldPlan → List ℕ → List ℕ
-text_of most cells held cycle = findings_text most cells held ++ cycle_line cells OnOneLane cycle
-
--- the text of an audit, with the credit loop that was found, if there is one
-unfoldable pub audit_text : Audited → List ℕ
-audit_text audit = text_of audit.most (cells_of audit.facts) audit.held audit.cycle

@@ -4,7 +4,9 @@ ghost use Rattle.std.specs.List.{flat_map};
 ghost use Rattle.fact_store.specs.View.{cells_of};
 ghost use Rattle.byte_io.specs.Writes.{Writes};
 ghost use Rattle.byte_io.specs.WritesPart.{WritesPart};
-ghost use Rattle.audit_report.specs.AuditText.{audit_text, disputed_line};
+ghost use Rattle.audit_channels.specs.CycleText.{cycle_line};
+ghost use Rattle.audit_channels.specs.declared.cycle_text.ChannelKind.TheVariants.{OnOneLane};
+ghost use Rattle.audit_report.specs.AuditText.{disputed_line};
 ghost use Rattle.audit_report.specs.AuditText.{cause_text, causes_text, count_text, counts_line, findings_text};
 ghost use Rattle.audit_report.specs.AuditText.{listed_text, missed_line};
 ghost use Rattle.audit_report.specs.AuditText.{more_line, others_text, pairs_text, tally_text};
@@ -25,7 +27,7 @@ use packet_walks::{Cause, End, Network};
 use smp_bytes::{Guid, Lid};
 use subnet_view::EndPort;
 
-/// Writes an audit:
+/// Writes what `audit` found, except for the credit loop:
 ///
 /// - how many packets there are and how many arrive: of all packets, of packets between adapter ports, and of packets
 ///   to or from a switch;
@@ -36,24 +38,10 @@ use subnet_view::EndPort;
 ///   many more there are;
 /// - how many facts are disputed, if any are;
 /// - the greatest and the mean number of wires that packets between adapter ports take, and the greatest and the mean
-///   load of a channel;
-/// - the channels of a credit loop, or that there is none.
+///   load of a channel.
 ///
 /// Does not allocate.
-pub fn write_audit<W: Sink>(sink: &mut W, audit: &Audit) -> Result<(), WriteFault>
-    ensures { WritesPart W.written W.has_failed result sink.old sink.new (audit_text audit.now) }
-{
-    write_findings(sink, audit)?;
-    write_cycle(
-        sink,
-        &audit.network,
-        ChannelKind::OnOneLane,
-        &audit.findings.cycle,
-    )
-}
-
-/// Writes `audit` as `write_audit` does, but without the line of the credit loop.
-fn write_findings<W: Sink>(sink: &mut W, audit: &Audit) -> Result<(), WriteFault>
+pub fn write_findings<W: Sink>(sink: &mut W, audit: &Audit) -> Result<(), WriteFault>
     ensures { WritesPart W.written W.has_failed result sink.old sink.new
         (findings_text audit.now.most (cells_of audit.now.facts) audit.now.held) }
 {
@@ -62,6 +50,19 @@ fn write_findings<W: Sink>(sink: &mut W, audit: &Audit) -> Result<(), WriteFault
     write_unmatched(sink, &findings.unmatched)?;
     write_disputed(sink, findings.disputed)?;
     write_ways(sink, &findings.ways)
+}
+
+/// Writes the channels of the credit loop on one lane that `audit` found, or that there is none.
+pub fn write_loop<W: Sink>(sink: &mut W, audit: &Audit) -> Result<(), WriteFault>
+    ensures { WritesPart W.written W.has_failed result sink.old sink.new
+        (cycle_line (cells_of audit.now.facts) OnOneLane audit.now.cycle) }
+{
+    write_cycle(
+        sink,
+        &audit.network,
+        ChannelKind::OnOneLane,
+        &audit.findings.cycle,
+    )
 }
 
 /// Writes the counts of packets, and the first of each kind that do not arrive.

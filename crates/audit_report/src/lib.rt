@@ -8,6 +8,6 @@ mod findings;
 mod line_limit;
 
 pub use appendix::Appendix;
-pub use audit_text::{write_audit, write_more};
+pub use audit_text::{write_findings, write_loop, write_more};
 pub use findings::Audit;
 pub use line_limit::most_lines;

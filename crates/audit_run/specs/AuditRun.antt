@@ -5,10 +5,12 @@ use Rattle.byte_io.specs.Source.{SourceState}
 use Rattle.fact_store.specs.View.{Facts, cells_of}
 use Rattle.subnet_view.specs.Reading.{Cells}
 use Rattle.held_tables.specs.Held.{HeldPlan}
+use Rattle.audit_channels.specs.declared.cycle_text.ChannelKind.TheVariants.{OnOneLane}
+use Rattle.audit_channels.specs.CycleText.{cycle_line}
 use Rattle.audit_channels.specs.Waiting.{NoneShorter}
 use Rattle.audit_counts.specs.FirstFew.{all_listed}
 use Rattle.audit_report.specs.Appendix.{appendix_text}
-use Rattle.audit_report.specs.AuditText.{audit_text}
+use Rattle.audit_report.specs.AuditText.{findings_text}
 use Rattle.audit_report.specs.LineLimit.{most_lines}
 use Rattle.audit_report.specs.Passing.{DeliversWithin, IsCycle, PassesWithin}
 use Rattle.lanes_file.specs.Lanes.{LanesSaid}
@@ -52,10 +54,10 @@ AreFoundByLane most facts held None found = found ≡ None
 AreFoundByLane most facts held (Some said) None = ⊥
 AreFoundByLane most facts held (Some said) (Some found) = IsFoundByLane most (seen_of facts held said) found
 
--- the lines of the findings by lane; empty for None
-abbrev pub lane_lines : Cells → Option LaneFindings → List ℕ
-lane_lines cells None = []
-lane_lines cells (Some found) = lanes_text cells found
+-- the line of the credit loop `cycle` on one lane if there are no findings by lane; otherwise the lines of the findings
+abbrev pub loops_text : Cells → List ℕ → Option LaneFindings → List ℕ
+loops_text cells cycle None = cycle_line cells OnOneLane cycle
+loops_text cells cycle (Some found) = lanes_text cells found
 
 -- when tables pass -------------------------------------------------------------------------------
 
@@ -88,8 +90,8 @@ PassesAudit bound facts held (Some said) = PassesByLane bound (seen_of facts hel
 
 -- the run ----------------------------------------------------------------------------------------
 
--- the audit's text, the findings by lane, if there is a text of lanes, and the lines that `asked` asks for are printed,
--- as `prints` says, each with a shortest credit loop if there is one. `passed` says whether the tables pass and, if
+-- what an audit finds, the findings by lane, or else a shortest credit loop on one lane if there is one, and the lines
+-- that `asked` asks for are printed, as `prints` says. `passed` says whether the tables pass and, if
 -- `asked` has a maximum load, no channel has a greater load
 pub record IsAudited (asked : AuditAsked) (facts : Facts) (held : HeldPlan) (lanes : Option LanesSaid)
     (prints : List ℕ → Type 0) (passed : Bool) : Type 0 where
@@ -99,8 +101,8 @@ pub record IsAudited (asked : AuditAsked) (facts : Facts) (held : HeldPlan) (lan
   pub found : Option LaneFindings
   pub by_lane : AreFoundByLane (most_lines asked.all) facts held lanes found
   pub answered : prints
-      (audit_text (record { most = most_lines asked.all; facts = facts; held = held; cycle = cycle })
-      ++ lane_lines (cells_of facts) found ++ appendix_text asked (cells_of facts) held)
+      (findings_text (most_lines asked.all) (cells_of facts) held ++ loops_text (cells_of facts) cycle found
+      ++ appendix_text asked (cells_of facts) held)
   pub judged : IsTrue passed ↔ PassesAudit asked.max_load facts held lanes
 
 -- the lanes, if `asked` says that there are any, the tables and then the files were read, and the text of their audit is

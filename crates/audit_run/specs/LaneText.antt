@@ -34,15 +34,10 @@ abbrev pub dropped_text : Cells → List ℕ → Option Dropped → List ℕ
 dropped_text cells lead None = []
 dropped_text cells lead (Some d) = drop_line cells lead d
 
--- the line of a credit loop by lane; it says that there is none by lane if the list is empty
-abbrev pub loop_line : Cells → List ℕ → List ℕ
-loop_line cells [] = codes "credit loop by lane none\n"
-loop_line cells (channel ∷ later) = cycle_line cells ByLane (channel ∷ later)
-
 -- a dropped packet if there is one, and the credit loop, or that there is none, as lines that begin with `lead`
 abbrev pub order_text : Cells → List ℕ → LaneOrder → List ℕ
 order_text cells lead order =
-    dropped_text cells lead order.dropped ++ lead ++ loop_line cells order.cycle.items
+    dropped_text cells lead order.dropped ++ lead ++ cycle_line cells ByLane order.cycle.items
 
 -- the findings by lane, as lines: the first packets without a service level and how many more there are; a dropped
 -- packet if there is one, and the credit loop, or that there is none; and the same for answers

@@ -5,21 +5,20 @@ ghost use Rattle.fact_store.specs.View.{cells_of};
 ghost use Rattle.byte_io.specs.Writes.{Writes};
 ghost use Rattle.byte_io.specs.WritesPart.{WritesPart};
 ghost use Rattle.audit_report.specs.Appendix.{appendix_text, shown};
-ghost use Rattle.audit_report.specs.AuditText.{audit_text};
+ghost use Rattle.audit_report.specs.AuditText.{findings_text};
 ghost use Rattle.audit_run.specs.AuditRun.{AreFoundByLane, HasAudited, IsAuditFault, IsAudited, IsFoundByLane};
-ghost use Rattle.audit_run.specs.AuditRun.{IsFoundToPass, IsLaneOrder, lane_lines, seen_of};
+ghost use Rattle.audit_run.specs.AuditRun.{IsFoundToPass, IsLaneOrder, loops_text, seen_of};
 ghost use Rattle.sm_cli.specs.Asked.{texts_if};
 ghost use Rattle.sm_cli.specs.Fault.{IsOutputFault};
 
 use crate::lane_findings::LaneFindings;
 use crate::levels_missing::pairs_without_level;
-use audit_report::{Appendix, Audit, most_lines, write_audit};
+use audit_report::{Appendix, Audit, most_lines, write_findings, write_loop};
 use byte_io::{Sink, Source, WriteFault};
 use fact_store::Refused;
 use held_tables::Subnet;
 use lane_channels::{LaneNetwork, LaneOrder, lane_order};
 use lanes_file::Lanes;
-use packet_walks::Network;
 use sm_cli::{AuditAsked, Fault, LanesAndTables, read_lanes_and_tables};
 use std::alloc::Global;
 
@@ -124,7 +123,6 @@ fn findings(
 /// Finds a shortest credit loop of channels by lane, and a packet that is dropped for want of a lane, without answers
 /// and with them. Neither exists if channels on one lane have numbers that rise, and each packet with a service level has
 /// a lane below 15. Otherwise packets are followed by lane.
-#[tactic(auto, using(crate::proofs::Judged::nothing_by_lane))]
 fn orders(alloc: Global, audit: &Audit, lanes: &Lanes) -> Result<(LaneOrder, LaneOrder), Refused>
     ensures order { IfOk result (λ both.
         IsLaneOrder (seen_of audit.now.facts audit.now.held lanes.now) false both.0) }
@@ -165,7 +163,8 @@ fn tell<W: Sink>(
         ≡ appendix_text asked.now (cells_of audit.now.facts) audit.now.held }
     ensures told { IfOk result (λ passed.
         Appends (W.written sink.old) (W.written sink.new)
-        (audit_text audit.now ++ lane_lines (cells_of audit.now.facts) found.now
+        (findings_text audit.now.most (cells_of audit.now.facts) audit.now.held
+        ++ loops_text (cells_of audit.now.facts) audit.now.cycle found.now
         ++ appendix_text asked.now (cells_of audit.now.facts) audit.now.held)
         × (IsTrue passed ↔ IsFoundToPass asked.now.max_load audit.now.facts audit.now.held found.now)) }
     ensures flushed { OnOk result (IsTrue (W.is_flushed sink.new)) }
@@ -197,28 +196,28 @@ fn write_all<W: Sink>(
     appendix: &Appendix,
 ) -> Result<(), WriteFault>
     ensures writes { Writes W.written W.has_failed result sink.old sink.new
-        (audit_text audit.now ++ lane_lines (cells_of audit.now.facts) found.now
+        (findings_text audit.now.most (cells_of audit.now.facts) audit.now.held
+        ++ loops_text (cells_of audit.now.facts) audit.now.cycle found.now
         ++ shown (cells_of audit.now.facts) audit.now.held appendix.now) }
     ensures flushed { OnOk result (IsTrue (W.is_flushed sink.new)) }
 {
-    let network = audit.network();
-    write_audit(sink, audit)?;
-    write_found(sink, network, found)?;
-    appendix.write(sink, network)?;
+    write_findings(sink, audit)?;
+    write_loops(sink, audit, found)?;
+    appendix.write(sink, audit.network())?;
     sink.flush()
 }
 
-/// Writes what was `found` by lane, or nothing if it is `None`.
-fn write_found<W: Sink>(
+/// Writes what was `found` by lane or, if it is `None`, the credit loop on one lane of `audit`.
+fn write_loops<W: Sink>(
     sink: &mut W,
-    network: &Network,
+    audit: &Audit,
     found: &Option<LaneFindings>,
 ) -> Result<(), WriteFault>
     ensures { WritesPart W.written W.has_failed result sink.old sink.new
-        (lane_lines (cells_of network.now.facts) found.now) }
+        (loops_text (cells_of audit.now.facts) audit.now.cycle found.now) }
 {
     match found {
-        None => Ok(()),
-        Some(found) => found.write(sink, network),
+        None => write_loop(sink, audit),
+        Some(found) => found.write(sink, audit.network()),
     }
 }

@@ -5,7 +5,7 @@ ghost use Rattle.fact_store.specs.View.{cells_of};
 ghost use Rattle.byte_io.specs.Writes.{Writes};
 ghost use Rattle.byte_io.specs.WritesPart.{WritesPart};
 ghost use Rattle.lane_channels.specs.Stops.{guid_at};
-ghost use Rattle.audit_run.specs.LaneText.{drop_line, dropped_text, loop_line, missing_text, order_text, pair_line};
+ghost use Rattle.audit_run.specs.LaneText.{drop_line, dropped_text, missing_text, order_text, pair_line};
 
 use crate::levels_missing::PacketPair;
 use audit_channels::{ChannelKind, write_cycle};
@@ -60,7 +60,7 @@ pub(crate) fn write_order<W: Sink>(
 {
     write_dropped(sink, network, lead, order.dropped)?;
     sink.write(lead.as_bytes())?;
-    write_loop(sink, network, &order.cycle)
+    write_cycle(sink, network, ChannelKind::ByLane, &order.cycle)
 }
 
 /// Writes the line of `dropped`, a packet that is dropped for want of a lane, or nothing if `dropped` is `None`. The line
@@ -103,17 +103,6 @@ fn write_drop<W: Sink>(
     sink.write(b" level ")?;
     write_number(sink, u64::from(dropped.level))?;
     sink.write(b"\n")
-}
-
-/// Writes the line of the credit loop `cycle`, or that there is none by lane if `cycle` is empty.
-fn write_loop<W: Sink>(sink: &mut W, network: &Network, cycle: &[usize]) -> Result<(), WriteFault>
-    ensures { WritesPart W.written W.has_failed result sink.old sink.new
-        (loop_line (cells_of network.now.facts) cycle.now) }
-{
-    if cycle.is_empty() {
-        return sink.write(b"credit loop by lane none\n");
-    }
-    write_cycle(sink, network, ChannelKind::ByLane, cycle)
 }
 
 /// Returns the GUID of the usable switch at `index`, or GUID 0 if no usable switch has this index.

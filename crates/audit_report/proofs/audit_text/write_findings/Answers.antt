@@ -13,6 +13,7 @@ use Rattle.audit_channels.proofs.Written.{part_then}
 use Rattle.audit_report.proofs.audit_text.write_findings.Goals as goal
 
 pub returns : goal.returns
+unfolding findings_text
 returns g c =
     let a = c.audit.inside in
     let f = a.findings in

@@ -7,10 +7,10 @@ use Rattle.fact_store.specs.View.{Facts, cells_of}
 use Rattle.held_tables.specs.Held.{HeldPlan}
 use Rattle.audit_channels.specs.Waiting.{NoneShorter}
 use Rattle.audit_report.specs.Appendix.{appendix_text, shown}
-use Rattle.audit_report.specs.AuditText.{audit_text}
+use Rattle.audit_report.specs.AuditText.{findings_text}
 use Rattle.audit_report.specs.LineLimit.{most_lines}
 use Rattle.audit_report.specs.Passing.{Audited, IsCycle}
-use Rattle.audit_run.specs.AuditRun.{AreFoundByLane, IsFoundToPass, lane_lines}
+use Rattle.audit_run.specs.AuditRun.{AreFoundByLane, IsFoundToPass, loops_text}
 use Rattle.audit_run.proofs.Judged.{judged}
 use Rattle.audit_run.proofs.audit_run.answer.Goals as goal
 
@@ -42,7 +42,8 @@ returns-clause-audited g c =
       found = found;
       by_lane = right;
       answered = subst (λ (x : Audited). Appends (written c.args.sink.now) (written c.tell.new.sink)
-          (audit_text x ++ lane_lines (cells_of x.facts) found ++ appendix_text asked (cells_of x.facts) x.held)) same says.0;
+          (findings_text x.most (cells_of x.facts) x.held ++ loops_text (cells_of x.facts) x.cycle found
+          ++ appendix_text asked (cells_of x.facts) x.held)) same says.0;
       judged = judged asked.max_load (most_lines asked.all) facts held told.lanes found passed right
           (subst (λ (x : Audited). IsTrue passed ↔ IsFoundToPass asked.max_load x.facts x.held found) same says.1);
     }) c.tell.ensures.told

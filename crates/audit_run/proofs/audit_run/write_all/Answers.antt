@@ -5,8 +5,8 @@ use Rattle.std.proofs.lemmas.Result.{on_ok_weaker}
 use Rattle.fact_store.specs.View.{cells_of}
 use Rattle.record_file.proofs.Writing.{appends_then}
 use Rattle.audit_report.specs.Appendix.{shown}
-use Rattle.audit_report.specs.AuditText.{audit_text}
-use Rattle.audit_run.specs.AuditRun.{lane_lines}
+use Rattle.audit_report.specs.AuditText.{findings_text}
+use Rattle.audit_run.specs.AuditRun.{loops_text}
 use Rattle.audit_run.proofs.audit_run.write_all.Goals as goal
 
 pub returns-clause-writes : goal.returns-clause-writes
@@ -14,18 +14,18 @@ returns-clause-writes g c =
     let a = c.args in
     let audit = a.audit.now in
     let found = a.found.now in
-    let network = c.network-network.result.now in
-    let is = c.network-network.ensures in
+    let network = c.network.result.now in
+    let is = c.network.ensures in
     let written = g.W.Sink.written in
     let start = written a.sink.now in
-    let first = audit_text audit in
-    let lanes = lane_lines (cells_of network.facts) found in
+    let first = findings_text audit.most (cells_of audit.facts) audit.held in
+    let lanes = loops_text (cells_of audit.facts) audit.cycle found in
     let more = shown (cells_of network.facts) network.held a.appendix.now in
-    let both = appends_then start (written c.write_audit.new.sink) (written c.write_found.new.sink) first lanes c.in_ok-write_audit.ensures.ok
-    c.in_ok-write_found.ensures.ok in
-    let all = appends_then start (written c.write_found.new.sink) (written c.write.new.sink) (first ++ lanes) more both c.in_ok-write.ensures.ok in
-    let whole : ((first ++ lanes) ++ more) ≡ ((first ++ lane_lines (cells_of audit.facts) found) ++ shown (cells_of audit.facts) audit.held a.appendix.now) =
-    λ i. (first ++ lane_lines (cells_of (is.facts i)) found) ++ shown (cells_of (is.facts i)) (is.held i) a.appendix.now in
+    let both = appends_then start (written c.write_findings.new.sink) (written c.write_loops.new.sink) first lanes c.in_ok-write_findings.ensures.ok
+    c.in_ok-write_loops.ensures.ok in
+    let all = appends_then start (written c.write_loops.new.sink) (written c.write.new.sink) (first ++ lanes) more both c.in_ok-write.ensures.ok in
+    let whole : ((first ++ lanes) ++ more) ≡ ((first ++ lanes) ++ shown (cells_of audit.facts) audit.held a.appendix.now) =
+    λ i. (first ++ lanes) ++ shown (cells_of (is.facts i)) (is.held i) a.appendix.now in
     record {
       ok = on_ok_weaker c.flush.result
           (λ none. subst (Appends start (written c.flush.new.self)) (append-nil ((first ++ lanes) ++ more) ∙ whole)
