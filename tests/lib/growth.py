@@ -5,17 +5,21 @@ from __future__ import annotations
 
 import collections
 import concurrent.futures
+import contextlib
 import itertools
 import os
 import pathlib
 import re
 import subprocess
-from collections.abc import Callable, Iterable, Sequence
+from collections.abc import Callable, Iterable, Iterator, Sequence
 
+import measured_options
 import paths
 import record_files as make
+import sample_fabrics
+import served_lines
 from built_program import ENTRIES
-from noted_costs import ALLOCATIONS, INSTRUCTIONS, Noted
+from noted_costs import ALLOCATIONS, INSTRUCTIONS, MEMORY, Noted
 from scale import Fabric, Tree, chain, check
 
 # What twice the size may cost: two times as much for linear cost, four times for quadratic, and a third more for
@@ -30,19 +34,30 @@ LEAST = 20000
 SPREAD = "--routing", "spread"
 # The GUID of a switch without wires.
 LONE = 0x8000
-# The words after `ibsm` on a command line.
+# The words after `ibsm` on a command line. Behind the word `<` is the file that is standard input.
 Words = tuple[str, ...]
 
 
 # Counting --------------------------------------------------------------------------------------------
 
 
-NOWHERE = dict.fromkeys(("stdin", "stdout", "stderr"), subprocess.DEVNULL)
+Command = Sequence[str | os.PathLike[str]]
 
 
-def ran(command: Sequence[str | os.PathLike[str]], folder: pathlib.Path) -> int:
+@contextlib.contextmanager
+def begun(command: Command, folder: pathlib.Path, env: dict[str, str] | None = None) -> Iterator[subprocess.Popen]:
+    """Starts a command without output. Its last two words may be `<` and the name of its standard input."""
+    command, given = (command[:-2], folder / command[-1]) if "<" in command else (command, os.devnull)
+    with open(given, "rb") as stdin:
+        yield subprocess.Popen(
+            command, cwd=folder, env=env, stdin=stdin, stdout=subprocess.DEVNULL, stderr=subprocess.DEVNULL
+        )
+
+
+def ran(command: Command, folder: pathlib.Path, env: dict[str, str] | None = None) -> int:
     """Runs a command without output, and returns its exit status."""
-    return subprocess.run(command, cwd=folder, **NOWHERE).returncode
+    with begun(command, folder, env) as process:
+        return process.wait()
 
 
 class Perf:
@@ -90,9 +105,9 @@ class Clock:
         del log
         costs = []
         for _ in range(TIMES):
-            process = subprocess.Popen([self.program, *words], cwd=self.folder, **NOWHERE)
-            _, status, used = os.wait4(process.pid, 0)
-            process.returncode = os.waitstatus_to_exitcode(status)
+            with begun([self.program, *words], self.folder) as process:
+                _, status, used = os.wait4(process.pid, 0)
+                process.returncode = os.waitstatus_to_exitcode(status)
             costs.append(int(1e6 * (used.ru_utime + used.ru_stime)))
         return process.returncode, min(costs)
 
@@ -142,7 +157,7 @@ class Costs:
         def count(words: Words) -> int:
             told = self.log()
             env = {"LD_PRELOAD": library, "REFUSE": "alloc", "REFUSE_AT": "0", "REFUSE_COUNT": told}
-            subprocess.run([self.program, *words], cwd=self.folder, env=env, **NOWHERE)
+            ran([self.program, *words], self.folder, env)
             return int(told.read_text())
 
         with concurrent.futures.ThreadPoolExecutor(os.cpu_count()) as pool:
@@ -258,6 +273,17 @@ def printed(costs: Costs, *words: str) -> str:
     )
 
 
+def without_one(costs: Costs, tables: str) -> str:
+    """Makes tables that lack one entry of some tables: that for the greatest LID at the last switch."""
+    def made() -> str:
+        text = (costs.folder / tables).read_text()
+        at = 2 * (int(re.findall(r"top (\d+)", text)[-1]) % ENTRIES)
+        head, _, digits = text.rpartition(" ")
+        return f"{head} {digits[:at]}ff{digits[at + 2 :]}"
+
+    return costs.put(f"{tables}without_one", made)
+
+
 def swept(costs: Costs, adapters: int) -> str:
     """Makes a sweep that reaches adapters at fifty switches in turn, and then all of them again."""
     def made() -> bytes:
@@ -308,17 +334,57 @@ def one_lane(costs: Costs, maps: int) -> str:
     return costs.put(f"lanes{maps}", lambda: f"lanes {lanes}\nlevel 0\n{said}")
 
 
-def scheduled(costs: Costs, hosts: int, line: str, times: int) -> tuple[str, str, str]:
+def scheduled(
+    costs: Costs, hosts: int, line: str, times: int, conduct: str = "", options: Sequence[str] = ()
+) -> Words:
     """Makes a run in a tree of four switches with `hosts` adapters each: manager A, which writes, standby B, and then
     `line` repeated `times` times."""
     tree = tree_of(4, hosts)
     topology = costs.put(f"topology{hosts}", tree.topology)
-    seats = [f'manager {name} "H{guid:x}"[1] {priority}' for name, guid, priority in zip("AB", tree.adapters, (2, 1))]
-    begun = ["sweep A", "drain 1000000", "write A", "drain 1000000", "sweep B", "drain 1000000"]
-    first = tree.lids()[1][0]
-    line = line.replace("LID", str(first)).replace("SEAT", f'"H{tree.adapters[0]:x}"[1]')
-    text = "".join(f"{it}\n" for it in [*seats, *begun, *line.split("/") * times])
-    return "run", topology, costs.put(f"schedule{len(costs.files)}of{hosts}", lambda: text)
+    seats = [
+        f'manager {name} "H{guid:x}"[1] {priority}{conduct}'
+        for name, guid, priority in zip("AB", tree.adapters, (2, 1))
+    ]
+    first = ["sweep A", "drain 1000000", "write A", "drain 1000000", "sweep B", "drain 1000000"]
+    guid, port, switch, out = tree.ends[-1]
+    for word, text in (
+        ("LID", str(tree.lids()[1][0])),
+        ("SEAT", f'"H{tree.adapters[0]:x}"[1]'),
+        ("CUT", f'cut "H{guid:x}"[{port}]'),
+        ("PLUG", f'plug "H{guid:x}"[{port}] "S{switch}"[{out}]'),
+    ):
+        line = line.replace(word, text)
+    text = "".join(f"{it}\n" for it in [*seats, *first, *line.split("/") * times])
+    return "run", *options, topology, costs.put(f"schedule{len(costs.files)}of{hosts}", lambda: text)
+
+
+def served(costs: Costs, hosts: int, line: str, times: int, *options: str) -> Words:
+    """Makes the lines for a manager of six switches in two levels, with `hosts` adapters at each of the four lower
+    ones: it sweeps and writes, and then gets `line` `times` times."""
+    fabric = sample_fabrics.two_levels(4, 2, hosts)
+    words = "serve", *options, *served_lines.seat(fabric)
+    first = costs.put("".join((*words, str(hosts))), lambda: "".join(
+        f"{it}\n" for it in served_lines.bringing_up(costs.program, costs.folder, words, fabric)
+    ))
+    text = "".join(f"{it}\n" for it in line.replace("PACKET", served_lines.PACKET_FROM_7).split("/") * times)
+    return *words, "<", costs.put(f"lines{len(costs.files)}", lambda: (costs.folder / first).read_text() + text)
+
+
+def served_order(costs: Costs, count: int) -> str:
+    """Makes a text of the last `count` switches of the fabric of a served manager, the last one first."""
+    return costs.put(f"served_order{count}", lambda: "".join(f"0x{16 * it:x}\n" for it in range(6, 6 - count, -1)))
+
+
+def in_order(costs: Costs, switches: int) -> Words:
+    """Returns the options for plans of a mesh in an order."""
+    return *SPREAD, "--order", order(costs, switches)
+
+
+# The live conduct of managers, lines by which a switch sends a trap twice, and lines that a served manager answers from
+# what it has at hand.
+LIVE = " live 1"
+TRAPS = "traps/CUT/drain 100/PLUG/drain 100/resend"
+SHOWS = "state/progress/silent/written/managers/floor 1/timeout/poll/handover/PACKET"
 
 
 # A command: `words` makes it for a size, `limit` bounds how many times as much it costs at twice that size, `status` is
@@ -363,6 +429,10 @@ GROWING = (
         lambda c, n: ("audit", "--way", "100000/1,1", planned(c, 8, n), known(c, 8, n)), 100, LINEAR),
     Row("audit of switches in a row, a way",
         lambda c, n: ("audit", "--way", f"10/0,{n}", row_planned(c, n, 4), row(c, n, 4)), 40, SQUARED),
+    Row("audit by adapters, all lines",
+        lambda c, n: ("audit", "--all", holed(c, 40, n), known(c, 40, n)), 6, SQUARED, 1),
+    Row("audit by adapters, a greatest load",
+        lambda c, n: ("audit", "--max-load", "4294967295", planned(c, 8, n), known(c, 8, n)), 100, LINEAR),
     Row("audit of links alone", lambda c, n: ("audit", remarks(c, 1), strangers(c, n)), 2000, LINEAR, 1),
     Row("audit of switches in a row", lambda c, n: ("audit", row_planned(c, n, 4), row(c, n, 4)), 40, SQUARED),
     Row("audit by lane by adapters",
@@ -391,13 +461,40 @@ GROWING = (
         lambda c, n: ("next", printed(c, "plan", *SPREAD, mesh(c, n)), mesh(c, n)), 50, SQUARED),
     Row("next by switches, to the other rule",
         lambda c, n: ("next", *SPREAD, printed(c, "plan", mesh(c, n)), mesh(c, n)), 50, SQUARED),
+    Row("next by switches, in an order",
+        lambda c, n: ("next", *in_order(c, n), printed(c, "plan", *in_order(c, n), mesh(c, n)), mesh(c, n)), 50,
+        SQUARED),
+    Row("next by switches, in an order, an entry gone",
+        lambda c, n: (
+            "next", *in_order(c, n), without_one(c, printed(c, "plan", *in_order(c, n), mesh(c, n))), mesh(c, n)
+        ), 50, SQUARED),
+    Row("next by switches, in the order of the tables",
+        lambda c, n: ("next", "--told-order", *SPREAD, printed(c, "plan", mesh(c, n)), mesh(c, n)), 50, SQUARED),
+    Row("next by switches, in the order of the last step",
+        lambda c, n: (
+            "next", *SPREAD, "--last-order", order(c, n), printed(c, "plan", *in_order(c, n), mesh(c, n)), mesh(c, n)
+        ), 50, SQUARED),
+    Row("next by adapters, LMC 3",
+        lambda c, n: ("next", "--lmc", "3", planned(c, 40, n, 3), known(c, 40, n)), 6, LINEAR),
     Row("audit of tables by comments", lambda c, n: ("audit", remarked(c, n), known(c, 8, 10)), 5000, LINEAR),
     Row("run by adapters", lambda c, n: scheduled(c, n, "state A", 1), 60, LINEAR),
+    Row("run by adapters, in an order",
+        lambda c, n: scheduled(c, n, "plan A", 1, "", (*SPREAD, "--order", served_order(c, 6))), 60, LINEAR),
+    Row("run by adapters, live managers", lambda c, n: scheduled(c, n, "state A", 1, LIVE), 60, LINEAR),
+    Row("run by polls, live managers", lambda c, n: scheduled(c, 10, "poll B LID/drain 100", n, LIVE), 1500, LINEAR),
+    Row("run by traps", lambda c, n: scheduled(c, 10, TRAPS, n, LIVE), 700, LINEAR),
     Row("run by pings", lambda c, n: scheduled(c, 10, "ping SEAT LID", n), 4000, LINEAR),
     Row("run of a topology of comments", lambda c, n: ("run", remarks(c, n), remarks(c, 1)), 5000, LINEAR),
+    Row("serve by adapters", lambda c, n: served(c, n, "facts/plan", 1), 30, LINEAR),
+    Row("serve by adapters, in an order",
+        lambda c, n: served(c, n, "plan", 1, "--lmc", "1", *SPREAD, "--order", served_order(c, 6)), 30, LINEAR),
+    Row("serve by lines", lambda c, n: served(c, 5, SHOWS, n, "--sm-key", "5"), 500, LINEAR),
+    Row("serve by plans from roots",
+        lambda c, n: served(c, 5, "plan", n, *SPREAD, "--roots", served_order(c, 2)), 50, LINEAR),
 )
 
-# Lines of a schedule that cost the same in a fabric of any size, except for a search among its ports.
+# Lines of a schedule, and then lines of `serve`, that cost the same in a fabric of any size, except for a search among
+# its ports.
 STEADY = (
     ("a poll that is answered", "poll B LID/drain 100"),
     ("a poll over a path", "poll B/drain 100"),
@@ -411,6 +508,7 @@ STEADY = (
     ("a refused writing", "write B"),
     ("a packet that is lost", "poll B LID/lose last/timeout A"),
 )
+STEADY_SERVED = (("lines of serve", SHOWS),)
 
 
 def check_all(program: pathlib.Path, folder: pathlib.Path, noted: Noted) -> tuple[str, int]:
@@ -426,6 +524,8 @@ def check_all(program: pathlib.Path, folder: pathlib.Path, noted: Noted) -> tupl
         costs.at_most(costs.known[two], costs.known[one], case.limit, f"{case.title}, of twice the size")
         noted.find(INSTRUCTIONS, case.title, costs.known[two] / 10**6)
         noted.find(ALLOCATIONS, case.title, count)
+    # The titles of what is noted of memory are the words of runs.
+    measured_options.check_all(program, [two for _, _, two in growing] + [it.split() for it in noted.found[MEMORY]])
     check_apart(costs)
     check_steady(costs)
     return costs.counter.name, len(costs.known)
@@ -440,11 +540,12 @@ def check_apart(costs: Costs) -> None:
 
 
 def check_steady(costs: Costs) -> None:
-    """Checks that what a line of a schedule costs does not grow with the fabric."""
+    """Checks that what a line of a schedule or of `serve` costs does not grow with the fabric."""
     few, many, hosts = (250, 500, 25) if costs.counter.is_exact else (1000, 8000, 25)
     steady = [
-        (title, [[scheduled(costs, size, line, times) for times in (few, many)] for size in (hosts, 4 * hosts)])
-        for title, line in STEADY
+        (title, [[words(costs, size, line, times) for times in (few, many)] for size in (hosts, 4 * hosts)])
+        for words, lines in ((scheduled, STEADY), (served, STEADY_SERVED))
+        for title, line in lines
     ]
     costs.take(words for _, rows in steady for both in rows for words in both)
     for title, rows in steady:
