@@ -366,7 +366,7 @@ def served(costs: Costs, hosts: int, line: str, times: int, *options: str) -> Wo
     first = costs.put("".join((*words, str(hosts))), lambda: "".join(
         f"{it}\n" for it in served_lines.bringing_up(costs.program, costs.folder, words, fabric)
     ))
-    text = "".join(f"{it}\n" for it in line.replace("PACKET", served_lines.PACKET_FROM_7).split("/") * times)
+    text = "".join(f"{it}\n" for it in line.replace("PACKET", served_lines.ASKED).split("/") * times)
     return *words, "<", costs.put(f"lines{len(costs.files)}", lambda: (costs.folder / first).read_text() + text)
 
 

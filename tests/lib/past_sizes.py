@@ -8,6 +8,7 @@ import pathlib
 import paths  # noqa: F401
 import record_files as make
 import sample_audits as audits
+import served_lines
 from noted_costs import MEMORY, Noted
 from scale import Fabric, Run, Tree, chain, check, levels
 
@@ -194,6 +195,14 @@ def check_lines(room: Room) -> None:
     room.prints(text.format(serial + 2 * (LINES - 1000)), "run", "long", "many")
 
 
+def check_serving(room: Room) -> None:
+    """Checks that a served manager answers more than 65,536 requests for its SMInfo, and counts them."""
+    room.put("asked", "".join(f"{line}\n" for line in ["state", *[served_lines.ASKED] * LINES, "state"]))
+    state = "state discovering\n.\n"
+    told = "".join(f"send {served_lines.tells(count)} to 7\n.\n" for count in range(1, LINES + 1))
+    room.prints(state + told + state, "serve", *served_lines.WHO, "<", "asked")
+
+
 def padded(text: str, count: int) -> bytes:
     """Returns `count` lines, each the same comment."""
     return (text.ljust(PADDED - 1, "-") + "\n").encode() * count
@@ -204,6 +213,6 @@ def check_all(program: pathlib.Path, folder: pathlib.Path, noted: Noted) -> None
     room = Room(program, folder, noted)
     for part in (
         check_tree, check_ranges, check_cells, check_switches, check_managers, check_writing, check_rooted_run,
-        check_lines,
+        check_lines, check_serving,
     ):
         part(room)

@@ -48,7 +48,8 @@ def check(holds: object, text: str) -> None:
 def started(
     command: Sequence[str | os.PathLike[str]], folder: pathlib.Path, stdout: pathlib.Path, stderr: pathlib.Path
 ) -> tuple[int, float, int]:
-    """Runs a command, and returns its exit status, its processor time and its peak memory."""
+    """Runs a command, and returns its exit status, its processor time and its peak memory. Its last two words may be
+    `<` and the name of its standard input."""
     if not starters:
         starters.append(
             subprocess.Popen(
@@ -56,7 +57,8 @@ def started(
             )
         )
     written = os.O_WRONLY | os.O_CREAT | os.O_TRUNC
-    streams = (os.devnull, os.O_RDONLY), (str(stdout), written), (str(stderr), written)
+    command, given = (command[:-2], str(folder / command[-1])) if "<" in command else (command, os.devnull)
+    streams = (given, os.O_RDONLY), (str(stdout), written), (str(stderr), written)
     starters[0].stdin.write(json.dumps([[str(it) for it in command], str(folder), *streams]) + "\n")
     starters[0].stdin.flush()
     return tuple(json.loads(starters[0].stdout.readline()))

@@ -1,4 +1,5 @@
-"""Lines for `ibsm serve` by which a manager is brought up: what a program that carries its packets would write."""
+"""Lines for `ibsm serve`: those by which a manager is brought up, as a program that carries its packets would write
+them, and a question with its answer."""
 from __future__ import annotations
 
 import collections
@@ -12,9 +13,17 @@ from sample_fabrics import Fabric
 
 # The end of an answer.
 END = b".\n"
-# A Get of SMInfo by LIDs, as a standby sends it to the master.
-SM_INFO = "0101010100000000" + "0000000000000005" + "0020000000000000" + "00" * 232
-PACKET_FROM_7 = f"packet {SM_INFO} from 7"
+# A manager with GUID 0x101 and priority 5.
+WHO = "101", "1", "5"
+# A Get of SMInfo by LIDs from LID 7.
+ASKS = "0101010100000000" + "0000000000000005" + "0020000000000000" + "00" * 232
+ASKED = f"packet {ASKS} from 7"
+
+
+def tells(count: int, key: int = 1) -> str:
+    """Returns the answer to ASKS of a manager that discovers: GUID 0x101, the SM_Key, `count` answers, priority 5."""
+    head = "01010181" + "00" * 4 + "0000000000000005" + "0020000000000000" + "00" * 40
+    return head + f"{0x101:016x}{key:016x}{count:08x}" + "51" + "00" * 171
 
 
 def seat(fabric: Fabric) -> tuple[str, str, str]:
