@@ -1,11 +1,14 @@
 //! An audit of a text of lanes, if it is given, of tables and of files of records.
-ghost use Rattle.std.specs.Prelude.{◌≡◌, ◌+◌, ◌≤◌, ◌↔◌, ◌⊎◌, ◌++◌, Err, IfErr, IfOk, IsTrue, OnErr, OnOk, [], None, false, length, true};
+ghost use Rattle.std.specs.Prelude.{◌≡◌, ◌+◌, ◌≤◌, ◌↔◌, ◌⊎◌, ◌++◌, [], Err, IfErr, IfOk, IsTrue, None, OnErr, OnOk};
+ghost use Rattle.std.specs.Prelude.{false, length, true};
 ghost use Rattle.std.specs.Io.KnownBytes.{Appends};
 ghost use Rattle.fact_store.specs.View.{cells_of};
 ghost use Rattle.byte_io.specs.Writes.{Writes};
 ghost use Rattle.byte_io.specs.WritesPart.{WritesPart};
 ghost use Rattle.audit_report.specs.Appendix.{appendix_text, shown};
 ghost use Rattle.audit_report.specs.AuditText.{findings_text};
+ghost use Rattle.audit_report.specs.Passing.{CanRise};
+ghost use Rattle.lanes_file.specs.Carried.{CarriesAll};
 ghost use Rattle.audit_run.specs.AuditRun.{AreFoundByLane, HasAudited, IsAuditFault, IsAudited, IsFoundByLane};
 ghost use Rattle.audit_run.specs.AuditRun.{IsFoundToPass, IsLaneOrder, loops_text, seen_of};
 ghost use Rattle.sm_cli.specs.Asked.{texts_if};
@@ -121,21 +124,28 @@ fn findings(
 }
 
 /// Finds a shortest credit loop of channels by lane, and a packet that is dropped for want of a lane, without answers
-/// and with them. Neither exists if channels on one lane have numbers that rise, and each packet with a service level has
-/// a lane below 15. Otherwise packets are followed by lane.
+/// and with them. Follows packets by lane, unless there is nothing to find.
 fn orders(alloc: Global, audit: &Audit, lanes: &Lanes) -> Result<(LaneOrder, LaneOrder), Refused>
     ensures order { IfOk result (λ both.
         IsLaneOrder (seen_of audit.now.facts audit.now.held lanes.now) false both.0) }
     ensures answers { IfOk result (λ both.
         IsLaneOrder (seen_of audit.now.facts audit.now.held lanes.now) true both.1) }
 {
-    if audit.can_rise() && lanes.carries_all() {
+    if has_nothing_to_find(audit, lanes) {
         return Ok((nothing_found(alloc), nothing_found(alloc)));
     }
     let by_lane = LaneNetwork::of(alloc, audit.network(), lanes)?;
     let order = lane_order(alloc, &by_lane, false)?;
     let answers = lane_order(alloc, &by_lane, true)?;
     Ok((order, answers))
+}
+
+/// Returns whether there is nothing to find by lane: channels on one lane have numbers that rise, and each packet with a
+/// service level has a lane below 15.
+fn has_nothing_to_find(audit: &Audit, lanes: &Lanes) -> bool
+    ensures { IsTrue result → CanRise (cells_of audit.now.facts) audit.now.held × CarriesAll lanes.now }
+{
+    audit.can_rise() && lanes.carries_all()
 }
 
 /// Returns no credit loop and no dropped packet.
