@@ -34,8 +34,8 @@ seen_of facts held said = record { seen = record { facts = facts; held = held };
 
 -- what is found by lane --------------------------------------------------------------------------
 
--- a packet that is dropped for want of a lane, and a shortest credit loop by lane, each if there is one. If `answers` is
--- true, packets that answer other packets also have the levels of those packets
+-- a packet that is dropped for want of a lane, and a shortest credit loop by lane, each if there is one. If `answers`
+-- is true, packets that answer other packets also have the levels of those packets
 pub record IsLaneOrder (s : SeenByLane) (answers : Bool) (order : LaneOrder) : Type 0 where
   pub drop : IsSomeDrop s answers order.dropped
   pub waits : IsLaneCycle s answers order.cycle.items
@@ -61,8 +61,8 @@ loops_text cells cycle (Some found) = lanes_text cells found
 
 -- when tables pass -------------------------------------------------------------------------------
 
--- nothing wrong was found by lane without answers: each packet between adapters has a service level, none is dropped for
--- want of a lane, and there is no credit loop
+-- nothing wrong was found by lane without answers: each packet between adapters has a service level, none is dropped
+-- for want of a lane, and there is no credit loop
 pub record IsSoundByLane (found : LaneFindings) : Type 0 where
   pub none_missing : found.missing.count ≡ 0
   pub none_dropped : found.order.dropped ≡ None
@@ -105,9 +105,9 @@ pub record IsAudited (asked : AuditAsked) (facts : Facts) (held : HeldPlan) (lan
       ++ appendix_text asked (cells_of facts) held)
   pub judged : IsTrue passed ↔ PassesAudit asked.max_load facts held lanes
 
--- the lanes, if `asked` says that there are any, the tables and then the files were read, and the text of their audit is
--- printed, as `prints` says. `passed` says whether the tables pass and, if `asked` has a maximum load, no channel has a
--- greater load
+-- the lanes, if `asked` says that there are any, the tables and then the files were read, and the text of their audit
+-- is printed, as `prints` says. `passed` says whether the tables pass and, if `asked` has a maximum load, no channel
+-- has a greater load
 pub record HasAudited {S : Type 0} (state : S → SourceState) (asked : AuditAsked) (olds news : List S)
     (prints : List ℕ → Type 0) (passed : Bool) : Type 0 where
   pub told : LanesAndTables

@@ -22,8 +22,8 @@ pair_line pair =
 abbrev pub missing_text : Listed PacketPair → List ℕ
 missing_text few = flat_map pair_line few.first ++ more_line (codes "no-level") (more_of few)
 
--- the line of a dropped packet: `lead`, its LID, the switch, the ports by which the packet comes in and would leave, and
--- its service level
+-- the line of a dropped packet: `lead`, its LID, the switch, the ports by which the packet comes in and would leave,
+-- and its service level
 abbrev pub drop_line : Cells → List ℕ → Dropped → List ℕ
 drop_line cells lead d =
     lead ++ codes "dropped " ++ decimal d.lid ++ codes " at " ++ guid_text (guid_at cells (d.stop / 256)) ++ codes " "

@@ -140,8 +140,8 @@ fn orders(alloc: Global, audit: &Audit, lanes: &Lanes) -> Result<(LaneOrder, Lan
     Ok((order, answers))
 }
 
-/// Returns whether there is nothing to find by lane: channels on one lane have numbers that rise, and each packet with a
-/// service level has a lane below 15.
+/// Returns whether there is nothing to find by lane: channels on one lane have numbers that rise, and each packet with
+/// a service level has a lane below 15.
 fn has_nothing_to_find(audit: &Audit, lanes: &Lanes) -> bool
     ensures { IsTrue result → CanRise (cells_of audit.now.facts) audit.now.held × CarriesAll lanes.now }
 {

@@ -48,7 +48,8 @@ fn write_pair<W: Sink>(sink: &mut W, pair: &PacketPair) -> Result<(), WriteFault
     sink.write(b"\n")
 }
 
-/// Writes the line of a dropped packet, if one was found, and the line of the credit loop. Each line begins with `lead`.
+/// Writes the line of a dropped packet, if one was found, and the line of the credit loop. Each line begins with
+/// `lead`.
 pub(crate) fn write_order<W: Sink>(
     sink: &mut W,
     network: &Network,
@@ -63,8 +64,8 @@ pub(crate) fn write_order<W: Sink>(
     write_cycle(sink, network, ChannelKind::ByLane, &order.cycle)
 }
 
-/// Writes the line of `dropped`, a packet that is dropped for want of a lane, or nothing if `dropped` is `None`. The line
-/// begins with `lead`.
+/// Writes the line of `dropped`, a packet that is dropped for want of a lane, or nothing if `dropped` is `None`. The
+/// line begins with `lead`.
 fn write_dropped<W: Sink>(
     sink: &mut W,
     network: &Network,
