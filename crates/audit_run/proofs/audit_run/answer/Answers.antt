@@ -32,7 +32,7 @@ returns-clause-audited g c =
     let audit_is = c.in-Ok-of.ensures in
     let written = g.W.Sink.written in
     let same : ◌≡◌ {A = Audited} audit (record { most = most_lines asked.all; facts = facts; held = held; cycle = audit.cycle }) =
-    λ i. record { most = (audit_is.most ∙ c.most_lines.ensures) i; facts = (audit_is.facts ∙ subnet_is) i; held = audit_is.held i; cycle = audit.cycle } in
+    λ i. record { most = (audit_is.most ∙ c.most_lines-most.ensures) i; facts = (audit_is.facts ∙ subnet_is) i; held = audit_is.held i; cycle = audit.cycle } in
     let right : AreFoundByLane (most_lines asked.all) facts held told.lanes found =
     subst (λ (x : Audited). AreFoundByLane x.most x.facts x.held told.lanes found) same c.in-Ok-found_by_lane.ensures in
     IfOk-weaker c.tell.result _ _ (λ passed says. record {
