@@ -1,5 +1,5 @@
 -- What was found of the facts, the tables and the lanes is written and told.
-use Rattle.std.proofs.Common.{◌≡◌, ◌∙◌, ◌++◌, IsTrue, subst}
+use Rattle.std.proofs.Common.{◌≡◌, ◌∙◌, ◌++◌, ℕ, IsTrue, subst, sym}
 use Rattle.std.proofs.lemmas.Result.{IfOk-weaker}
 use Rattle.std.specs.Prelude.{◌↔◌}
 use Rattle.std.specs.Io.KnownBytes.{Appends}
@@ -34,7 +34,8 @@ returns-clause-audited g c =
     let same : ◌≡◌ {A = Audited} audit (record { most = most_lines asked.all; facts = facts; held = held; cycle = audit.cycle }) =
     λ i. record { most = (audit_is.most ∙ c.most_lines-most.ensures) i; facts = (audit_is.facts ∙ subnet_is) i; held = audit_is.held i; cycle = audit.cycle } in
     let right : AreFoundByLane (most_lines asked.all) facts held told.lanes found =
-    subst (λ (x : Audited). AreFoundByLane x.most x.facts x.held told.lanes found) same c.in-Ok-found_by_lane.ensures in
+    subst (λ (x : Audited). AreFoundByLane x.most x.facts x.held told.lanes found) same
+    (subst (λ (most : ℕ). AreFoundByLane most audit.facts audit.held told.lanes found) (sym audit_is.most) c.in-Ok-found_by_lane.ensures) in
     IfOk-weaker c.tell.result _ _ (λ passed says. record {
       cycle = audit.cycle;
       waits = subst (λ (f : Facts). IsCycle (cells_of f) held audit.cycle) subnet_is audit_is.cycle;
