@@ -192,12 +192,10 @@ def rings(plan: Callable[..., Ended]) -> Iterator[Row]:
     yield "both ways round cut", tables, ONE_LEVEL + back + forth, "", none
     # What 40 sends for LIDs 1 and 2 is a part of the loop, once each way round.
     two = f"lanes {bytes_in({1: 1}, 16, 0)}\nlevel 0\n"
-    yield "another level both ways", tables, f"{two}levels 40/0 0 {levels({1: 1, 2: 1})}\n", "", none
-    # Answers to 10, which asks at level 0, close the loop again.
-    one = f"{two}{back}levels 40/0 0 {levels({1: 1})}\n"
-    yield "another level one way", tables, one, "", prints(
-        f"{head}credit loop none\nanswers credit loop by lane {round_once}\n"
-    )
+    # Answers to 10 and 20, which ask at level 0, close the loop again.
+    answers = prints(audits.spelled(f"{head}credit loop none\nanswers credit loop by lane {round_once}\n"))
+    yield "another level both ways", tables, f"{two}levels 40/0 0 {levels({1: 1, 2: 1})}\n", "", answers
+    yield "another level one way", tables, f"{two}{back}levels 40/0 0 {levels({1: 1})}\n", "", answers
 
 
 def rings_and_two(plan: Callable[..., Ended]) -> Iterator[Row]:
