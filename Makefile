@@ -1,6 +1,6 @@
 # make install PREFIX=/usr/local: installs the program, which is first proved and built or, with UNPROVED=1, compiled
 # without its proofs; also the tools for live subnets, manual pages, completion for bash and zsh, and the documents on
-# what they read and write (FORMATS) and how they go together (OPERATORS).
+# what they read and write (FORMATS) and how they go together (OPERATORS, LOOK, CHANGE, MANAGE).
 # make uninstall PREFIX=/usr/local: removes what that installed.
 # make dist: makes an archive of the same in out/, which installs without a kit, a compiler or make.
 # make prove: proves and builds the program.
