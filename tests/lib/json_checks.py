@@ -420,7 +420,7 @@ def named(room: Room) -> None:
     room.check(json.loads(room.run("json it", 0)) == FACTS_VALUE | {"names": names}, "names behind GUIDs")
     room.put(said=f"credit loop none\n0x{TWO}\n0x{ONE}\n")
     room.put(it=room.run("names map", 0, stdin="said"))
-    room.check(room.text("it").endswith(f'order 0x{TWO} 0x{ONE} "the [1] \xfc"\n'), "a name behind a GUID after 0x")
+    room.check(room.text("it").endswith(f'\n0x{TWO}\n0x{ONE} "the [1] \xfc"\n'), "a name behind a GUID after 0x")
     value = {"form": "next", "credit_loop": [], "lids": [], "order": [TWO, ONE], "names": {ONE: names[ONE]}}
     for words in "json it", "json it --form next":
         room.check(json.loads(room.run(words, 0)) == value, "names behind GUIDs after 0x")
