@@ -105,11 +105,11 @@ def orders_found(room: Room, program: pathlib.Path) -> None:
 
 def searches_repeated(room: Room) -> None:
     """Checks that equal searches print equal orders, that a search goes on from an order, and what it brings."""
-    room.put(o_facts=make.dragonfly(9, 4, 2).facts())
+    room.put(o_facts=make.random_fabric(50, 5, 200).facts())
     words = f"find-order o.facts {QUICK} --no-audit"
     printed = room.run(f"{words} --seed 3", 0)
     first = told(room)
-    room.check(first[1] < 0.9 * first[0], f"a dragonfly gets a tenth less busy: {first}")
+    room.check(first[1] < 0.9 * first[0], f"a random fabric gets a tenth less busy: {first}")
     room.check(room.run(f"{words} --seed 3 -o o.order", 0) == "" and room.text("o.order") == printed, "the same order")
     room.check(told(room) == first, "the same figures")
     room.check(room.run(f"{words} --seed 4", 0) != printed, "another seed, another order")
