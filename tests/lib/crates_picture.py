@@ -30,10 +30,10 @@ TEXT_WIDTH, FIRST_LINE, LINE_GAP = 610, 684, 44
 # A font of fixed width: a letter takes 0.6 of its size, and a little more in some fonts.
 SIZE, LETTER, ROW = 12, 7.4, 17
 TOP = 58
-TITLE = "The groups of crates, the lowest at the bottom, and the ways of five commands through them"
+LABEL = "The groups of crates from the laws down to the wire, and the ways of plan, audit, next, run and serve."
 LEGEND = (
-    "Each box stands on those below it. A line is the way of a command, from what it reads (bottom) to",
-    "what it prints (top); a dot marks a group that it goes through. The laws are about all groups.",
+    "The lowest groups are at the bottom. A line is the way of a command from what it reads, at the bottom,",
+    "to what it prints; each dot is in a group that it goes through. No command goes through the laws.",
 )
 
 
@@ -63,12 +63,11 @@ def picture(groups: list[tuple[str, list[str]]]) -> str:
         boxes.append((heading, rows, y, height))
         y += height + GAP
     height = y - GAP + MARGIN
-    label = "The groups of crates from the laws down to the wire, and which of them plan, audit, next, run and serve use"
     return "\n".join(
         (
             f'<svg xmlns="http://www.w3.org/2000/svg" width="{WIDTH}" height="{height}" '
             f'viewBox="0 0 {WIDTH} {height}" role="img" aria-labelledby="crates-title">',
-            f'<title id="crates-title">{label}.</title>',
+            f'<title id="crates-title">{LABEL}</title>',
             f'<rect width="{WIDTH}" height="{height}" fill="white"/>',
             '<g font-family="sans-serif" font-size="13" fill="#222222">',
             *(text_at(MARGIN, 22 + 18 * number, line) for number, line in enumerate(LEGEND)),
