@@ -26,7 +26,7 @@ WAYS = {
 }
 WIDTH, MARGIN, GAP = 900, 16, 10
 # Where text ends and lines begin, and how far these are apart.
-TEXT_WIDTH, FIRST_LINE, LINE_GAP = 610, 684, 44
+TEXT_WIDTH, FIRST_LINE, LINE_GAP = 610, 664, 46
 # A font of fixed width: a letter takes 0.6 of its size, and a little more in some fonts.
 SIZE, LETTER, ROW = 12, 7.4, 17
 TOP = 58
