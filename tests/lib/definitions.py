@@ -24,6 +24,8 @@ TEXT = re.compile(r'"[^"\n]*"')
 FIELD = re.compile(r"(?<=[{;])(\s*)[^\s(){};=]+\s+=(?=\s)")
 OWN_FIELD = re.compile(r"^  (?:pub )?[^\s(){}]+ :(?= |$)", re.M)
 BOUND = re.compile(r"(?<=[({])(?:[^\s(){}:,;]+ )+:(?=\s)")
+# Where a clause begins.
+CLAUSES = re.compile(r"\n(?=\S)")
 WORD = re.compile(r"[^\s(){}\[\];,]+|\[\]")
 # What has to be in scope, but for what is built in: a single capital is a type parameter.
 CAPITAL, BUILT_IN = re.compile(r"[A-Z]\w*[a-z]"), {"Type", "Unit", "Self"}
@@ -113,8 +115,23 @@ class Item:
             known = (self.scope.names, self.scope.modules, self.own, bound, BUILT_IN)
             if CAPITAL.match(first) and not any(first in it for it in known):
                 raise Unknown(f"{self.path}: {self.name} names {first}, which is not in scope")
-        yield from self.scope.targets(self.said, self.own)
+        for clause in CLAUSES.split(self.said):
+            hidden = self.variables(clause.partition(" =")[0]) if " =" in clause else set()
+            own = {it: to for it, to in self.own.items() if it not in hidden}
+            taken = {it: to for it, to in self.scope.names.items() if it not in hidden}
+            yield from Scope(self.path, taken, self.scope.modules).targets(clause, own)
         yield from self.types
+
+    def variables(self, pattern: str) -> set[str]:
+        """Returns the words of a clause's left side that are variables, though definitions have their names. Only
+        constructors are no variables there."""
+        found = set()
+        for it in WORD.findall(pattern):
+            to = self.own.get(it) or self.scope.names.get(it)
+            if to and it[0].islower() and it != self.name and file_of(resolved(to.module)):
+                if definition(to, self.path).name == to.name:
+                    found.add(it)
+        return found
 
 
 def dedented(lines: list[str]) -> Iterator[tuple[str, str]]:
