@@ -119,7 +119,7 @@ def searches_repeated(room: Room) -> None:
     room.check(again == printed, "without time the order stays")
     room.put(some_order="0x50\n# no more\nffff\n")
     room.run(f"{words} --from some.order", 0)
-    room.check(len(room.out.splitlines()) == 36, "an order that names one of the switches is completed")
+    room.check(len(room.out.splitlines()) == 50, "an order that names one of the switches is completed")
 
 
 def searches_refused(room: Room) -> None:
