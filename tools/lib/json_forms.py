@@ -1,4 +1,4 @@
-"""The texts of ibsm and its tools as values for JSON. docs/FORMATS.md has the schema under "As JSON".
+"""The texts of ibsm and its tools as values for JSON. The help of tools/json has the schema.
 
 A reader takes the lines of a text one by one, and returns for each whether it belongs to the text's form.
 """
