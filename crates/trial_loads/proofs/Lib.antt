@@ -1,3 +1,5 @@
+pub mod NearTargets
+pub mod Shares
 pub mod Remote
 pub mod Packets
 pub mod Picked

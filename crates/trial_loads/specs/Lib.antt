@@ -1,4 +1,5 @@
 pub mod TrialLoads
 pub mod ShareLaws
 pub mod Starts
+pub mod NearTargets
 pub mod LeastLoaded

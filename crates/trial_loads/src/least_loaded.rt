@@ -2,7 +2,8 @@
 ghost use Rattle.std.specs.Prelude.{◌≡◌, ◌<◌, All, IfOk, if◌then◌else◌, length, map, nat_lt};
 ghost use Rattle.port_graph.specs.Heads.{LeadToVertices};
 ghost use Rattle.spread_labels.specs.LabelLaws.{IsSymmetric};
-ghost use Rattle.trial_loads.specs.LeastLoaded.{keys_by_depth, keys_in, least_by, least_loaded_among, least_loaded_keys};
+ghost use Rattle.trial_loads.specs.LeastLoaded.{keys_by_depth, keys_in, least_by};
+ghost use Rattle.trial_loads.specs.LeastLoaded.{least_loaded_among, least_loaded_keys};
 ghost use Rattle.trial_loads.specs.TrialLoads.{trial_load};
 
 use crate::remoteness::keys_by_remoteness;
@@ -23,9 +24,9 @@ struct Trial {
 
 /// Returns the keys of the order with the least trial load. The order that grows by remoteness is taken if its trial
 /// loads are even. Otherwise orders by depth from up to eight starts, forwards and backwards, are tried too. If loads
-/// are equal, the order tried first counts. For each edge there must be an edge back. `adapters` must have the number of
-/// adapters at each vertex. Computes the trial loads of at most 17 orders, and does a breadth-first search from each
-/// vertex. Returns an error if memory runs out.
+/// are equal, the order tried first counts. For each edge there must be an edge back. `adapters` must have the number
+/// of adapters at each vertex. Computes the trial loads of at most 17 orders, and finds the distances between all
+/// vertices. Returns an error if memory runs out.
 pub fn least_loaded_keys(
     alloc: Global,
     edges: &Adjacency,

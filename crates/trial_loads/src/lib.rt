@@ -4,6 +4,7 @@
 
 pub mod laws;
 mod least_loaded;
+mod near_targets;
 mod remoteness;
 mod shared_loads;
 mod starts;

@@ -1,17 +1,22 @@
 //! How remote vertices are.
-ghost use Rattle.std.specs.Prelude.{◌≡◌, IfOk, length};
+ghost use Rattle.std.specs.Prelude.{◌≡◌, ◌<◌, ◌≤◌, ◌+◌, ℕ, Some, All, IfOk, OnOk, length, slice_index};
 ghost use Rattle.port_graph.specs.Heads.{LeadToVertices};
 ghost use Rattle.spread_labels.specs.LabelLaws.{IsSymmetric};
-ghost use Rattle.trial_loads.specs.Starts.{all_remoteness, keys_by_remoteness, remote_share, remoteness};
+ghost use Rattle.spread_labels.specs.Orders.{numbers_from};
+ghost use Rattle.trial_loads.specs.NearTargets.{AreWithShares, new_shares, shares_at, shares_in};
+ghost use Rattle.trial_loads.specs.Starts.{all_remoteness, capped, keys_by_remoteness, remote_share};
 
-use port_graph::{Adjacency, distances};
-use spread_labels::{VertexKey, keys};
+use crate::near_targets::{at_targets, has_target, one_further};
+use port_graph::Adjacency;
+use spread_labels::{TARGETS, VertexKey, keys};
 use std::alloc::{AllocError, Global};
 
 /// Returns the keys of vertices by how remote they are, and then by the distance from the least remote vertex of their
 /// component. A vertex is as remote as the sum, over all vertices that walks lead to, of the squared distance times one
 /// more than the number of adapters there. Sums are capped at 2^64 - 1. `adapters` must have the number of adapters at
-/// each vertex. For each edge there must be an edge back. Does a breadth-first search from each vertex.
+/// each vertex. For each edge there must be an edge back. Finds the distances of all vertices to 64 vertices at a time,
+/// in rounds. Each round takes time linear in the number of vertices and edges. There is at most one round more than
+/// the greatest distance.
 pub(crate) fn keys_by_remoteness(
     alloc: Global,
     edges: &Adjacency,
@@ -26,7 +31,8 @@ pub(crate) fn keys_by_remoteness(
     keys(alloc, edges, &remote)
 }
 
-/// Returns how remote each vertex is. `adapters` must have the number of adapters at each vertex.
+/// Returns how remote each vertex is. `adapters` must have the number of adapters at each vertex. Adds up the shares of
+/// 64 vertices at a time.
 fn all_remoteness(
     alloc: Global,
     edges: &Adjacency,
@@ -36,37 +42,124 @@ fn all_remoteness(
     requires adapters { length adapters.now ≡ length edges.now }
     ensures { IfOk result (λ found. found.items ≡ all_remoteness edges.now adapters.now) }
 {
-    let mut found = Vec::with_capacity(alloc, edges.len())?;
-    for vertex in 0..edges.len() {
-        let distances = distances(alloc, edges, vertex)?;
-        found.push(remoteness(adapters, &distances) as u128)?;
+    let vertices = all_vertices(alloc, edges.len())?;
+    let mut sums = vec![in alloc; 0; edges.len()]?;
+    let mut first = 0;
+    while first < vertices.len() {
+        let end = first + TARGETS.min(vertices.len() - first);
+        add_shares(alloc, edges, adapters, &vertices[first..end], &mut sums)?;
+        first = end;
     }
-    Ok(found)
+    widened(alloc, &sums)
 }
 
-/// Returns how remote a vertex is that has these `distances` to all vertices. `adapters` must have the number of
-/// adapters at each vertex.
-fn remoteness(adapters: &[u16], distances: &[Option<usize>]) -> usize
-    requires { length adapters.now ≡ length distances.now }
-    ensures { result ≡ remoteness adapters.now distances.now }
+/// Returns `sums`, in 128 bits each.
+fn widened(alloc: Global, sums: &[usize]) -> Result<Vec<u128>, AllocError>
+    ensures { IfOk result (λ wide. wide.items ≡ sums.now) }
 {
-    let mut sum: usize = 0;
-    for vertex in 0..distances.len() {
-        let share = remote_share(adapters[vertex], distances[vertex]);
-        sum = sum.saturating_add(share);
+    let mut wide = Vec::with_capacity(alloc, sums.len())?;
+    for sum in sums {
+        wide.push(*sum as u128)?;
+    }
+    Ok(wide)
+}
+
+/// Returns the vertices of a graph with `count` vertices.
+fn all_vertices(alloc: Global, count: usize) -> Result<Vec<usize>, AllocError>
+    ensures numbers { IfOk result (λ vertices. vertices.items ≡ numbers_from 0 count) }
+    ensures vertices { IfOk result (λ vertices. All (λ vertex. vertex < count) vertices.items) }
+{
+    let mut vertices = Vec::with_capacity(alloc, count)?;
+    for vertex in 0..count {
+        vertices.push(vertex)?;
+    }
+    Ok(vertices)
+}
+
+/// Adds to the sum of each vertex what each of `targets` adds to how remote the vertex is. Sums are capped at 2^64 - 1.
+/// `targets` must have at most 64 vertices. `adapters` and `sums` must have a number for each vertex, and all edges
+/// must lead to vertices. Returns an error if memory runs out.
+fn add_shares(
+    alloc: Global,
+    edges: &Adjacency,
+    adapters: &[u16],
+    targets: &[usize],
+    sums: &mut [usize],
+) -> Result<(), AllocError>
+    requires lead { LeadToVertices edges.now }
+    requires few { length targets.now ≤ 64 }
+    requires vertices { All (λ target. target < length edges.now) targets.now }
+    requires adapters { length adapters.now ≡ length edges.now }
+    requires sums { length sums.old ≡ length edges.now }
+    ensures { OnOk result (AreWithShares edges.now adapters.now targets.now (length edges.now) sums.old sums.new) }
+{
+    let mut near = at_targets(alloc, edges.len(), targets)?;
+    for distance in 1..edges.len() {
+        let next = one_further(alloc, edges, &near)?;
+        if next == near {
+            break;
+        }
+        let shares = shares_at(alloc, adapters, targets, distance)?;
+        add_new_shares(&near, &next, &shares, sums);
+        near = next;
+    }
+    Ok(())
+}
+
+/// Returns what each of `targets` adds to how remote a vertex at the given distance from it is. `adapters` must have a
+/// number for each of `targets`.
+fn shares_at(
+    alloc: Global,
+    adapters: &[u16],
+    targets: &[usize],
+    distance: usize,
+) -> Result<Vec<usize>, AllocError>
+    requires { All (λ target. target < length adapters.now) targets.now }
+    ensures { IfOk result (λ shares. shares.items ≡ shares_at adapters.now targets.now distance) }
+{
+    let mut shares = Vec::with_capacity(alloc, targets.len())?;
+    for target in targets {
+        shares.push(remote_share(adapters[*target], distance))?;
+    }
+    Ok(shares)
+}
+
+/// Adds to the sum of each vertex the shares of the targets that `next` has for the vertex, but not `near`. Sums are
+/// capped at 2^64 - 1. `near` and `next` must have a set for each sum, and there must be at most 64 shares.
+fn add_new_shares(near: &[u64], next: &[u64], shares: &[usize], sums: &mut [usize])
+    requires near { length near.now ≡ length sums.old }
+    requires next { length next.now ≡ length sums.old }
+    requires few { length shares.now ≤ 64 }
+    ensures { (s : ℕ) → s < length sums.old → slice_index sums.new s ≡ capped (slice_index sums.old s
+        + new_shares shares.now (slice_index near.now s) (slice_index next.now s)) }
+{
+    for (vertex, sum) in sums.iter_mut().enumerate() {
+        *sum = with_shares(*sum, shares, next[vertex] & !near[vertex]);
+    }
+}
+
+/// Returns `sum` with the shares of the targets in `set` added, capped at 2^64 - 1. There must be at most 64 shares.
+fn with_shares(sum: usize, shares: &[usize], set: u64) -> usize
+    requires { length shares.now ≤ 64 }
+    ensures { result ≡ capped (sum + shares_in shares.now set) }
+{
+    if set == 0 {
+        return sum;
+    }
+    let mut sum = sum;
+    for (k, share) in shares.iter().enumerate() {
+        if has_target(set, k) {
+            sum = sum.saturating_add(*share);
+        }
     }
     sum
 }
 
-/// Returns what a vertex with `adapters` adapters adds to how remote another vertex is, given the `distance` between
-/// the two.
-fn remote_share(adapters: u16, distance: Option<usize>) -> usize
-    ensures { result ≡ remote_share adapters distance }
+/// Returns what a vertex with `adapters` adapters adds to how remote a vertex at the given distance is.
+fn remote_share(adapters: u16, distance: usize) -> usize
+    ensures { result ≡ remote_share adapters (Some distance) }
 {
-    match distance {
-        Some(distance) => distance
-            .saturating_mul(distance)
-            .saturating_mul(usize::from(adapters) + 1),
-        None => 0,
-    }
+    distance
+        .saturating_mul(distance)
+        .saturating_mul(usize::from(adapters) + 1)
 }

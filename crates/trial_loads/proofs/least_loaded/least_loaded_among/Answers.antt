@@ -1,4 +1,4 @@
-use Rattle.std.proofs.Common.{◌≡◌, ℕ, List, sym, ap, ◌∙◌, length, map}
+use Rattle.std.proofs.Common.{◌≡◌, sym, ap, ◌∙◌, length, map}
 use Rattle.std.specs.Prelude.{min}
 use Rattle.spread_labels.specs.KeyOrder.{before_by}
 use Rattle.balanced_choices.specs.BalancedChoices.{are_even}

@@ -1,9 +1,18 @@
-use Rattle.std.proofs.Common.{◌≡◌, map}
-use Rattle.spread_labels.specs.GrowthKeys.{distances_from}
-use Rattle.spread_labels.specs.Orders.{numbers_from}
-use Rattle.trial_loads.specs.Starts.{remoteness}
+use Rattle.std.proofs.Common.{◌≡◌, ◌<◌, ◌≤◌, ◌-◌, ℕ, length, take}
+use Rattle.std.specs.Prelude.{slice_index}
+use Rattle.std.specs.List.{sum_by}
+use Rattle.trial_loads.specs.NearTargets.{share_within}
+use Rattle.trial_loads.specs.Starts.{capped}
 use Rattle.trial_loads.proofs.remoteness.all_remoteness.Given as goal
 
--- how remote the vertices so far are
-abbrev pub invariant-loop-vertex : goal.invariant-loop-vertex
-invariant-loop-vertex l = l.found.items ≡ map (λ s. remoteness l.adapters (distances_from l.edges s)) (numbers_from 0 l.vertex)
+-- the sums of the shares of the vertices so far
+abbrev pub invariant-loop-first : goal.invariant-loop-first
+invariant-loop-first l = record {
+  first : l.first ≤ l.vertices.len;
+  long : l.sums.len ≡ length l.edges;
+  sums : (s : ℕ) → s < length l.edges
+      → slice_index l.sums.items s ≡ capped (sum_by (share_within l.edges l.adapters (length l.edges) s) (take l.first l.vertices.items));
+}
+
+abbrev pub decreases-loop-first : goal.decreases-loop-first
+decreases-loop-first l = l.vertices.len - l.first

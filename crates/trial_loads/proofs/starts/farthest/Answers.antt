@@ -3,7 +3,7 @@ use Rattle.std.specs.Prelude.{Some}
 use Rattle.spread_labels.specs.KeyOrder.{before_by}
 use Rattle.spread_labels.specs.Growth.{earlier_of, earliest_of}
 use Rattle.spread_labels.specs.Orders.{numbers_from}
-use Rattle.spread_labels.proofs.Earlier.{IsBelow, earlier_below, earliest_more}
+use Rattle.spread_labels.proofs.Earlier.{earlier_below, earliest_more}
 use Rattle.trial_loads.specs.Starts.{starts_before}
 use Rattle.trial_loads.proofs.Remote.{numbers_to}
 use Rattle.trial_loads.proofs.starts.farthest.Goals as goal

@@ -1,9 +1,8 @@
-use Rattle.std.proofs.Common.{rules, replicate, ◌≡◌, ◌<◌, ◌+◌, ◌++◌, ◌∙◌, ℕ, suc, List, [], ◌∷◌, Vec, Global, All, add-one, ap, sym, subst, length, map, arith}
-use Rattle.std.specs.Prelude.{Option, None, Some, MatchOption}
+use Rattle.std.proofs.Common.{rules, replicate, ◌≡◌, ◌<◌, ◌+◌, ◌++◌, ◌∙◌, ℕ, List, [], ◌∷◌, Vec, Global, All, add-one, ap, sym, subst, length, map, arith}
+use Rattle.std.specs.Prelude.{Option, None}
 use Rattle.std.specs.List.{zip}
 use Rattle.std.proofs.lemmas.List.Elements.{All-push}
 use Rattle.spread_labels.specs.Growth.{earliest_of}
-use Rattle.spread_labels.specs.GrowthKeys.{distances_from}
 use Rattle.spread_labels.specs.KeyOrder.{before_by}
 use Rattle.spread_labels.specs.Orders.{numbers_from}
 use Rattle.spread_labels.proofs.Numbers.{distances_are, numbers_long}

@@ -1,4 +1,4 @@
-use Rattle.std.proofs.Common.{◌≡◌, ◌<◌, ◌+◌, All, length}
+use Rattle.std.proofs.Common.{◌≡◌, ◌<◌, All, length}
 use Rattle.spread_labels.specs.KeyOrder.{before_by}
 use Rattle.trial_loads.specs.Starts.{near_starts, starts}
 use Rattle.trial_loads.proofs.starts.starts.Given as goal
