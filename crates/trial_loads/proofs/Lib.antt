@@ -1,5 +1,6 @@
 pub mod NearTargets
 pub mod Shares
+pub mod FarStarts
 pub mod Remote
 pub mod Packets
 pub mod Picked

@@ -2,4 +2,5 @@ pub mod TrialLoads
 pub mod ShareLaws
 pub mod Starts
 pub mod NearTargets
+pub mod StartsLaw
 pub mod LeastLoaded
