@@ -1,7 +1,7 @@
 -- Choices among candidates that balance the loads of channels. Packets go to ends (adapters), each of which is at a
 -- position. For each end, each position chooses one of its candidates.
 use Rattle.std.specs.Prelude.{ℕ, zero, suc, ◌+◌, ◌*◌, ◌%◌, Bool, not, List, [], ◌-◌, ◌/◌, ◌^◌, min, nat_le, nat_lt, if◌then◌else◌}
-use Rattle.std.specs.Prelude.{◌∷◌, ◌++◌, filter, length, map, replicate, reverse, slice_index, slice_index_or, slice_set}
+use Rattle.std.specs.Prelude.{◌∷◌, ◌++◌, filter, length, map, replicate, reverse, slice_index, slice_index_or, slice_set, take}
 use Rattle.std.specs.List.{list_any}
 use Rattle.port_graph.specs.declared.edge.Edge.{Edge}
 use Rattle.port_graph.specs.Heads.{edges_at}
@@ -11,7 +11,7 @@ use Rattle.spread_labels.specs.Orders.{numbers_from}
 use Rattle.balanced_choices.specs.declared.ways.Change.TheVariants.{Add, Remove}
 use Rattle.balanced_choices.specs.declared.choice_rounds.Destination.{Destination}
 use Rattle.balanced_choices.specs.declared.level_digit.LevelDigit.{LevelDigit}
-use Rattle.balanced_choices.specs.Ways.{candidates_at, lightest, way_from, with_changes}
+use Rattle.balanced_choices.specs.Ways.{lightest, way_from, with_changes}
 
 -- for one end, the number of the candidate that each position chooses; and, for all ends together, the loads of
 -- channels
@@ -70,12 +70,17 @@ leads_higher digits edges p = list_any (λ e. nat_lt (digit_at digits p).level (
 abbrev pub weight_among : List LevelDigit → List Edge → ℕ → ℕ
 weight_among digits edges p = if leads_higher digits edges p then (digit_at digits p).weight else 1
 
--- the number of the candidate that is the first choice of position `p` towards the end with the number `number`. It is
--- `number` divided by the weight of the digit (`weight_among`), rounded down, plus `p`, modulo the number of
--- candidates; 0 if there are no candidates
+-- the number of the candidate among `edges` that is the first choice of position `p` towards the end with the number
+-- `number`: `number` divided by `weight`, rounded down, plus `p`, modulo the number of candidates. If there are more than
+-- 256 candidates, only the first 256 count; 0 if there are no candidates
+abbrev pub choice_among : List Edge → ℕ → ℕ → ℕ → ℕ
+choice_among edges weight p number = in_turn (length (take 256 edges)) (digits_from weight number + p)
+
+-- the number of the candidate that is the first choice of position `p` towards the end with the number `number`, by the
+-- weight of the digit of `p` (`weight_among`)
 abbrev pub first_choice : List (List Edge) → List LevelDigit → ℕ → ℕ → ℕ
 first_choice ways digits number p =
-    in_turn (length (candidates_at ways p)) (digits_from (weight_among digits (edges_at ways p) p) number + p)
+    choice_among (edges_at ways p) (weight_among digits (edges_at ways p) p) p number
 
 -- the first choices of the positions of `order` towards the end with the number `number`; and the loads, with the
 -- packets to that end added

@@ -1,12 +1,12 @@
 //! The loads of channels by first choices.
-ghost use Rattle.std.specs.Prelude.{◌≡◌, ◌<◌, ◌≤◌, ◌+◌, ◌*◌, ℕ, [], ◌∷◌, All, IfOk, OnOk, length, map, replicate};
-ghost use Rattle.std.specs.Prelude.{reverse, slice_index, slice_index_or};
-ghost use Rattle.port_graph.specs.Heads.{LeadToVertices};
+ghost use Rattle.std.specs.Prelude.{◌≡◌, ◌<◌, ◌≤◌, ◌*◌, [], ◌∷◌, All, IfOk, OnOk, length};
+ghost use Rattle.std.specs.Prelude.{reverse};
+ghost use Rattle.port_graph.specs.Heads.{LeadToVertices, edges_at};
 ghost use Rattle.spread_labels.specs.Orders.{numbers_from};
 ghost use Rattle.balanced_choices.specs.declared.ways.Change.TheVariants.{Add};
-ghost use Rattle.balanced_choices.specs.BalancedChoices.{near_first};
-ghost use Rattle.balanced_choices.specs.Loads.{first_loads, loads_with, loads_with_all, passed_to};
-ghost use Rattle.balanced_choices.specs.Ways.{channel_by, with_changes};
+ghost use Rattle.balanced_choices.specs.BalancedChoices.{near_first, weight_among};
+ghost use Rattle.balanced_choices.specs.Loads.{first_loads, loads_with_all, passed_on, passed_to, repeated};
+ghost use Rattle.balanced_choices.specs.Ways.{with_changes};
 
 use crate::choice_order::near_first;
 use crate::choice_rounds::{Destination, positions_of};
@@ -14,7 +14,7 @@ use crate::level_digit::{LevelDigit, weight_among};
 use crate::loads::{PORTS, no_loads};
 use crate::round_robin::RoundRobin;
 use crate::target_ways::ways_towards;
-use port_graph::{Adjacency, Edge};
+use port_graph::Adjacency;
 use spread_labels::{CandidateSets, TARGETS};
 use std::alloc::{AllocError, Global};
 
@@ -73,35 +73,36 @@ fn add_packets(
 {
     let targets = positions_of(alloc, destinations)?;
     let sets = CandidateSets::towards(alloc, graph, &targets)?;
+    let mut had = Vec::new(alloc);
     for (k, destination) in destinations.iter().enumerate() {
         let ways = ways_towards(alloc, graph, &sets, k)?;
-        add_packets_to(alloc, &ways, sent, digits, destination, loads)?;
+        repeat(sent, destination.ends, &mut had)?;
+        add_packets_to(alloc, &ways, digits, destination, &mut had, loads)?;
     }
     Ok(())
 }
 
 /// Adds the packets to all ends of `destination`, by first choices, to the loads of channels. `ways` must have the
-/// candidates of each position towards the position of `destination`. `sent` and `digits` must have an entry for each
-/// position, and `loads` must have 256 loads for each position.
+/// candidates of each position towards the position of `destination`. At first `had` must have the packets that each
+/// position sends to each end. Packets that reach a position are added to its numbers in `had`. `digits` must have an
+/// entry for each position, and `loads` must have 256 loads for each position.
 fn add_packets_to(
     alloc: Global,
     ways: &Adjacency,
-    sent: &[usize],
     digits: &[LevelDigit],
     destination: &Destination,
+    had: &mut [usize],
     loads: &mut [usize],
 ) -> Result<(), AllocError>
-    requires sent { length sent.now ≡ length ways.now }
     requires digits { length digits.now ≡ length ways.now }
+    requires had { length had.old ≡ length ways.now * destination.now.ends }
     requires loads { length loads.old ≡ 256 * length ways.now }
-    ensures { OnOk result (loads.new ≡ loads_with ways.now sent.now digits.now loads.old destination.now) }
+    ensures { OnOk result (loads.new ≡ (passed_on ways.now digits.now destination.now.number destination.now.ends
+        (record { had = had.old; loads = loads.old }) (reverse (near_first ways.now))).loads) }
 {
     let order = far_first(alloc, ways)?;
-    let mut had = copies(alloc, sent, destination.ends)?;
     for position in &order {
-        let edges = ways.at(*position);
-        let weight = weight_among(digits, edges, *position);
-        pass_on(edges, weight, *position, destination, &mut had, loads);
+        pass_on(ways, digits, *position, destination, had, loads);
     }
     Ok(())
 }
@@ -117,63 +118,56 @@ fn far_first(alloc: Global, ways: &Adjacency) -> Result<Vec<usize>, AllocError>
     Ok(order)
 }
 
-/// Returns `count` copies of `list`.
-fn copies(alloc: Global, list: &[usize], count: u16) -> Result<Vec<Vec<usize>>, AllocError>
-    ensures { IfOk result (λ copies. map (λ own. own.items) copies.items ≡ replicate count list.now) }
+/// Makes `copies` have `count` copies of each number of `list`.
+fn repeat(list: &[usize], count: u16, copies: &mut Vec<usize>) -> Result<(), AllocError>
+    ensures { OnOk result (copies.new.items ≡ repeated count list.now) }
 {
-    let mut copies = Vec::with_capacity(alloc, usize::from(count))?;
-    for _ in 0..count {
-        copies.push(Vec::from_slice(alloc, list)?)?;
+    copies.clear();
+    for number in list {
+        for _ in 0..count {
+            copies.push(*number)?;
+        }
     }
-    Ok(copies)
+    Ok(())
 }
 
 /// Passes on, from `position`, the packets that `had` has for it, for each end of `destination`: its own and those that
-/// have reached it. `edges` are the candidates of `position`, and `weight` is the weight of its digit. Adds the packets
-/// to the loads of channels. Does nothing if there is no candidate.
+/// have reached it. `ways` must have the candidates of each position, `had` a number for each end at each position, and
+/// `loads` 256 loads for each position. Adds the packets to the loads of channels. Does nothing if `position` has no
+/// candidate.
 fn pass_on(
-    edges: &[Edge],
-    weight: usize,
+    ways: &Adjacency,
+    digits: &[LevelDigit],
     position: usize,
     destination: &Destination,
-    had: &mut [Vec<usize>],
+    had: &mut [usize],
     loads: &mut [usize],
 )
-    requires ends { length had.old ≡ destination.now.ends }
-    requires had { All (λ own. position < length own.items) had.old }
-    requires loads { 256 * position + 256 ≤ length loads.old }
-    ensures passed { passed_to edges.now weight position destination.now.number
-        (record { had = map (λ own. own.items) had.old; loads = loads.old })
-        (numbers_from 0 destination.now.ends)
-        ≡ record { had = map (λ own. own.items) had.new; loads = loads.new } }
-    ensures had { (k : ℕ) → length (slice_index_or (map (λ own. own.items) had.new) k [])
-        ≡ length (slice_index_or (map (λ own. own.items) had.old) k []) }
+    requires position { position < length ways.now }
+    requires had { length had.old ≡ length ways.now * destination.now.ends }
+    requires loads { length loads.old ≡ 256 * length ways.now }
+    ensures { passed_to destination.now.ends (edges_at ways.now position)
+        (weight_among digits.now (edges_at ways.now position) position) position destination.now.number
+        (record { had = had.old; loads = loads.old }) (numbers_from 0 destination.now.ends)
+        ≡ record { had = had.new; loads = loads.new } }
 {
+    let edges = ways.at(position);
     let count = edges.len().min(PORTS);
     if count == 0 {
         return;
     }
-    let mut turn = RoundRobin::first(weight, position, count);
-    for k in 0..destination.ends {
-        let k = usize::from(k);
+    let ends = usize::from(destination.ends);
+    let mut turn = RoundRobin::first(weight_among(digits, edges, position), position, count);
+    for k in 0..ends {
         turn.go_to(destination.number as usize + k);
-        pass_by(edges[turn.choice()], position, &mut had[k], loads);
+        let edge = edges[turn.choice()];
+        let packets = had[position * ends + k];
+        if edge.to < ways.len() {
+            add_at(had, edge.to * ends + k, packets);
+        }
+        let channel = PORTS * position + usize::from(edge.port.number());
+        add_at(loads, channel, packets);
     }
-}
-
-/// Passes on, by `edge`, the packets that `had` has for `position`. Adds these packets to the load of the channel of
-/// `edge`.
-fn pass_by(edge: Edge, position: usize, had: &mut [usize], loads: &mut [usize])
-    requires position { position < length had.old }
-    requires loads { 256 * position + 256 ≤ length loads.old }
-    ensures had { had.new ≡ with_changes (Add (slice_index had.old position)) had.old (edge.to ∷ []) }
-    ensures loads { loads.new
-        ≡ with_changes (Add (slice_index had.old position)) loads.old (channel_by position edge ∷ []) }
-{
-    let packets = had[position];
-    add_at(had, edge.to, packets);
-    let channel = PORTS * position + usize::from(edge.port.number());
-    add_at(loads, channel, packets);
 }
 
 /// Adds `packets` to the number at `index`, but to at most 2^64 - 1. Does nothing if there is no such index.

@@ -7,8 +7,10 @@ use Rattle.port_graph.specs.Heads.{edges_at}
 use Rattle.spread_labels.specs.MarkSets.{picked, sets_at}
 use Rattle.spread_labels.proofs.Numbers.{numbers_long}
 use Rattle.balanced_choices.specs.declared.choice_rounds.Destination.{Destination}
-use Rattle.balanced_choices.specs.BalancedChoices.{towards}
-use Rattle.balanced_choices.specs.Loads.{loads_with, loads_with_all}
+use Rattle.balanced_choices.specs.BalancedChoices.{near_first, towards}
+use Rattle.balanced_choices.specs.Loads.{loads_with, loads_with_all, passed_on}
+use Rattle.balanced_choices.proofs.FirstLoads.{repeated_long}
+use Rattle.std.specs.Prelude.{reverse}
 use Rattle.balanced_choices.proofs.EachEnd.{ways_are}
 use Rattle.balanced_choices.proofs.first_choice_loads.add_packets.Goals as goal
 
@@ -17,12 +19,6 @@ towards-requires-clause-vertices c =
     let P : ℕ → Type 0 = λ t. t < length c.args.graph.now in
     subst (All P) (sym (c.deref.ensures.value ∙ c.in_ok-targets.ensures))
     (All-map P (λ (d : Destination). d.position) c.args.destinations.now c.requires.destinations)
-
-pub add_packets_to-requires-clause-sent : goal.add_packets_to-requires-clause-sent
-add_packets_to-requires-clause-sent c =
-    let graph = c.args.graph.now in
-    let f : ℕ → List Edge = λ p. picked c.loop-k.k (sets_at c.in_ok-sets.sets p) (edges_at graph p) in
-    c.requires.sent ∙ sym (ap length c.in_ok-ways.ensures ∙ numbers_long f 0 (length graph))
 
 pub add_packets_to-requires-clause-digits : goal.add_packets_to-requires-clause-digits
 add_packets_to-requires-clause-digits c =
@@ -35,6 +31,14 @@ add_packets_to-requires-clause-loads c =
     let graph = c.args.graph.now in
     let f : ℕ → List Edge = λ p. picked c.loop-k.k (sets_at c.in_ok-sets.sets p) (edges_at graph p) in
     c.loop-k.auto.loads ∙ c.requires.loads ∙ ap (λ n. 256 * n) (sym (ap length c.in_ok-ways.ensures ∙ numbers_long f 0 (length graph)))
+
+pub add_packets_to-requires-clause-had : goal.add_packets_to-requires-clause-had
+add_packets_to-requires-clause-had c =
+    let graph = c.args.graph.now in
+    let f : ℕ → List Edge = λ p. picked c.loop-k.k (sets_at c.in_ok-sets.sets p) (edges_at graph p) in
+    let ends = (get_or c.args.destinations.now c.loop-k.k (record { position = 0; ends = 0; number = 0 })).ends in
+    ap length (c.deref_mut.ensures.value ∙ c.in_ok-repeat.ensures) ∙ repeated_long ends c.args.sent.now
+    ∙ ap (λ n. n * ends) (c.requires.sent ∙ sym (ap length c.in_ok-ways.ensures ∙ numbers_long f 0 (length graph)))
 
 pub loop-k-preserved : goal.loop-k-preserved
 loop-k-preserved c =
@@ -52,6 +56,9 @@ loop-k-preserved c =
     ap (λ ts. get_or ts k 0) all ∙ get_or-map (λ (x : Destination). x.position) ds k none 0 c.loop-k-test.true in
     let ways : c.in_ok-ways.ways ≡ towards graph d.position =
     c.in_ok-ways.ensures ∙ ways_are graph targets c.in_ok-sets.sets k d.position c.in_ok-sets.ensures below target in
-    ap (λ l. loads_with_all graph sent digits l (drop (k + 1) ds))
-    (c.in_ok-add_packets_to.ensures ∙ ap (λ w. loads_with w sent digits c.loop-k.loads d) ways)
+    let had = c.deref_mut.ensures.value ∙ c.in_ok-repeat.ensures in
+    let added : c.add_packets_to.new.loads ≡ loads_with (towards graph d.position) sent digits c.loop-k.loads d =
+    c.in_ok-add_packets_to.ensures
+    ∙ (λ i. (passed_on (ways i) digits d.number d.ends (record { had = had i; loads = c.loop-k.loads }) (reverse (near_first (ways i)))).loads) in
+    ap (λ l. loads_with_all graph sent digits l (drop (k + 1) ds)) added
     ∙ sym (ap (loads_with_all graph sent digits c.loop-k.loads) (drop_more ds k none c.loop-k-test.true)) ∙ c.loop-k.invariant

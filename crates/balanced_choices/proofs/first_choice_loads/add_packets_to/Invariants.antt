@@ -1,4 +1,4 @@
-use Rattle.std.proofs.Common.{◌≡◌, All, drop, length, map, replicate}
+use Rattle.std.proofs.Common.{◌≡◌, drop}
 use Rattle.std.specs.Prelude.{reverse}
 use Rattle.balanced_choices.specs.BalancedChoices.{near_first}
 use Rattle.balanced_choices.specs.Loads.{Passing, passed_on}
@@ -9,11 +9,6 @@ abbrev pub invariant-loop-position : goal.invariant-loop-position
 invariant-loop-position l =
     let d = l.destination in
     let order = reverse (near_first l.ways) in
-    let now : Passing = record { had = map (λ own. own.items) l.had.items; loads = l.loads } in
-    let before : Passing = record { had = replicate d.ends l.sent; loads = l.fn.loads } in
-    record {
-      left : passed_on l.ways l.digits d.number d.ends now (drop l.position-index order)
-          ≡ passed_on l.ways l.digits d.number d.ends before order;
-      rows : All (λ own. length own.items ≡ length l.ways) l.had.items;
-      ends : length l.had.items ≡ d.ends;
-    }
+    let now : Passing = record { had = l.had; loads = l.loads } in
+    let before : Passing = record { had = l.fn.had; loads = l.fn.loads } in
+    passed_on l.ways l.digits d.number d.ends now (drop l.position-index order) ≡ passed_on l.ways l.digits d.number d.ends before order
