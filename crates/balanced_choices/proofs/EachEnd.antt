@@ -1,6 +1,7 @@
 -- Ends, one destination after the other.
 use Rattle.std.proofs.Common.{◌≡◌, ◌<◌, ◌≤◌, ◌+◌, ◌-◌, ◌++◌, ℕ, List, [], ◌∷◌, refl, sym, ap, ◌∙◌, arith, drop, get_or, length, map, take}
-use Rattle.std.proofs.lemmas.List.{drop-drop, drop_more, take-append-drop, take_more}
+use Rattle.std.proofs.lemmas.List.{drop-drop, drop_more, get_or-map, take-append-drop, take_more}
+use Rattle.port_graph.proofs.Counts.{length_map}
 use Rattle.std.specs.Prelude.{slice_index}
 use Rattle.port_graph.specs.declared.edge.Edge.{Edge}
 use Rattle.port_graph.specs.Heads.{edges_at}
@@ -57,7 +58,7 @@ all_both round graph sent digits old n (d ∷ ds) es =
     (with_ends round ways sent digits (near_first ways) d.number n old (numbers_from n d.ends)) (n + d.ends) ds es
 
 -- the edges whose sets have a target are the candidates towards it
-pub ways_are : (graph : List (List Edge)) (targets : List ℕ) (sets : List (List TargetSet)) (k t : ℕ) → AreCandidateSets graph targets sets
+ways_are : (graph : List (List Edge)) (targets : List ℕ) (sets : List (List TargetSet)) (k t : ℕ) → AreCandidateSets graph targets sets
     → k < length targets → slice_index targets k ≡ t
     → map (λ p. picked k (sets_at sets p) (edges_at graph p)) (numbers_from 0 (length graph)) ≡ towards graph t
 ways_are graph targets sets k t are below is =
@@ -65,3 +66,12 @@ ways_are graph targets sets k t are below is =
     let f : ℕ → List Edge = λ p. picked k (sets_at sets p) (edges_at graph p) in
     made_all (candidates graph t) n (map f (numbers_from 0 n)) [] (numbers_long f 0 n)
     (λ p h. made_at f n p [] h ∙ are.each k p below h ∙ ap (λ q. candidates graph q p) is)
+
+-- the candidates towards the position of one of the destinations
+pub ways_at : (graph : List (List Edge)) (targets : List ℕ) (ds : List Destination) (none : Destination) (sets : List (List TargetSet)) (k : ℕ)
+    → targets ≡ map (λ d. d.position) ds → AreCandidateSets graph targets sets → k < length ds
+    → map (λ p. picked k (sets_at sets p) (edges_at graph p)) (numbers_from 0 (length graph)) ≡ towards graph (get_or ds k none).position
+ways_at graph targets ds none sets k all are h =
+    let below : k < length targets = omega (arith, h, ap length all ∙ length_map (λ (d : Destination). d.position) ds) in
+    ways_are graph targets sets k (get_or ds k none).position are below
+    (ap (λ ts. get_or ts k 0) all ∙ get_or-map (λ (d : Destination). d.position) ds k none 0 h)

@@ -1,3 +1,8 @@
+pub mod UpDown
+pub mod Sweeps
+pub mod Sums
+pub mod Conserved
+pub mod CarriedTo
 pub mod AsLong
 pub mod EdgeByEdge
 pub mod EdgesTaken

@@ -7,3 +7,4 @@ pub mod Loads
 pub mod RoundRobin
 pub mod Traffic
 pub mod Ways
+pub mod FirstLoadsLaw

@@ -1,4 +1,5 @@
-//! The laws of choices.
+//! The laws of choices and of loads.
+ghost use Rattle.balanced_choices.specs.FirstLoadsLaw.{FirstLoadsLaw};
 ghost use Rattle.balanced_choices.specs.LeastPeakLaw.{LightestIsLeast};
 ghost use Rattle.balanced_choices.specs.LightestLaw.{BalancedAreLightest};
 
@@ -12,4 +13,10 @@ pub fn lightest_is_least()
 /// lower greatest load, and no earlier ones an equal.
 pub fn balanced_are_lightest()
     ensures { BalancedAreLightest }
+{}
+
+/// By first choices, a channel carries the packets whose ways take it, from each position to each end, but at most
+/// 2^64 - 1 of them.
+pub fn first_loads_law()
+    ensures { FirstLoadsLaw }
 {}

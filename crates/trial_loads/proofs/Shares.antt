@@ -1,5 +1,5 @@
 -- Sums of what targets add to how remote vertices are.
-use Rattle.std.proofs.Common.{◌≡◌, ◌<◌, ◌≤◌, ◌+◌, ◌*◌, ◌^◌, ℕ, zero, suc, List, [], ◌∷◌, inl, inr, refl, sym, ap}
+use Rattle.std.proofs.Common.{◌≡◌, ◌<◌, ◌≤◌, ◌+◌, ◌*◌, ◌^◌, ℕ, suc, List, [], ◌∷◌, inl, inr, refl, sym, ap}
 use Rattle.std.proofs.Common.{◌∙◌, arith, true, false, not, Bool, cond, ◌&&◌, length, map, add-one, bit_and, w64, ◌==◌}
 use Rattle.std.specs.Int.{bit_not}
 use Rattle.std.specs.Prelude.{Option, None, Some, is_some, slice_index, slice_index_or, slice_set}
@@ -18,6 +18,8 @@ use Rattle.spread_labels.specs.Orders.{numbers_from}
 use Rattle.spread_labels.proofs.Earlier.{numbers_more}
 use Rattle.spread_labels.proofs.TargetBits.{no_bit, without_bit}
 use Rattle.spread_labels.proofs.Numbers.{made_all, made_at, numbers_long}
+use Rattle.balanced_choices.proofs.Sums.{sum_equal, sum_none, sum_plus}
+use Rattle.balanced_choices.proofs.Sweeps.{numbers_below}
 use Rattle.trial_loads.specs.NearTargets.{AreNear, AreWithShares, has_target, is_near, new_shares, share_within, shares_at, shares_in}
 use Rattle.trial_loads.specs.Starts.{all_remoteness, capped, remote_share, remoteness}
 use Rattle.trial_loads.proofs.NearTargets.{least_last, shortest_ended}
@@ -57,24 +59,11 @@ capped_same f a n sum none is =
     is ∙ ap capped all
 
 pub sum_alike : (f g : ℕ → ℕ) (n : ℕ) → ((k : ℕ) → k < n → f k ≡ g k) → sum_by f (numbers_from 0 n) ≡ sum_by g (numbers_from 0 n)
-sum_alike f g zero same = refl
-sum_alike f g (suc n) same =
-    sum_to f n ∙ (λ i. sum_alike f g n (λ k h. same k (omega arith)) i + same n (omega arith) i) ∙ sym (sum_to g n)
+sum_alike f g n same = sum_equal f g (numbers_from 0 n) (λ k h. same k (omega (arith, numbers_below n 0 k h)))
 
 pub sum_both : (f g h : ℕ → ℕ) (n : ℕ) → ((k : ℕ) → k < n → f k ≡ g k + h k)
     → sum_by f (numbers_from 0 n) ≡ sum_by g (numbers_from 0 n) + sum_by h (numbers_from 0 n)
-sum_both f g h zero each = refl
-sum_both f g h (suc n) each =
-    let before = sum_both f g h n (λ k l. each k (omega arith)) in
-    let here : f n ≡ g n + h n = each n (omega arith) in
-    omega (arith, sum_to f n, sum_to g n, sum_to h n, before, here)
-
-pub sum_none : (f : ℕ → ℕ) (n : ℕ) → ((k : ℕ) → k < n → f k ≡ 0) → sum_by f (numbers_from 0 n) ≡ 0
-sum_none f zero none = refl
-sum_none f (suc n) none =
-    let before = sum_none f n (λ k l. none k (omega arith)) in
-    let here : f n ≡ 0 = none n (omega arith) in
-    omega (arith, sum_to f n, before, here)
+sum_both f g h n each = sum_alike f (λ k. g k + h k) n each ∙ sum_plus g h (numbers_from 0 n)
 
 sum_made : (f g : ℕ → ℕ) (ks : List ℕ) → sum_by f (map g ks) ≡ sum_by (λ k. f (g k)) ks
 sum_made f g [] = refl
@@ -170,7 +159,7 @@ shares_without shares near next few small =
 -- the shares of no target
 pub no_shares : (shares : List ℕ) (sum set : ℕ) → set ≡ 0 → sum < 2 ^ 64 → sum ≡ capped (sum + shares_in shares set)
 no_shares shares sum set none small =
-    let nothing = sum_none (λ k. cond (has_target set k) (slice_index shares k) 0) (length shares)
+    let nothing = sum_none (λ k. cond (has_target set k) (slice_index shares k) 0) (numbers_from 0 (length shares))
     (λ k h. ap (λ b. cond b (slice_index shares k) 0) (no_bit set k none)) in
     let is : sum ≡ capped (sum + 0) = omega arith in
     is ∙ ap (λ x. capped (sum + x)) (sym nothing)

@@ -1,21 +1,18 @@
 -- The turns in which vertices share.
 use Rattle.std.proofs.Common.{◌≡◌, ◌<◌, ◌≤◌, ◌+◌, ◌++◌, ℕ, zero, suc, List, [], ◌∷◌, inl, inr, refl, sym, ap, ◌∙◌, subst, arith}
 use Rattle.std.proofs.Common.{true, false, Bool, cond, length, length-append}
-use Rattle.std.proofs.lemmas.Bool.{cases_eq, lt-ltb, ltb-true}
+use Rattle.std.proofs.lemmas.Bool.{cases_eq}
 use Rattle.std.proofs.Math.Nat.{mul-div-le}
 use Rattle.std.proofs.lemmas.List.Elements.{Contains-append_cases, Contains-append_left, Contains-append_right}
-use Rattle.std.specs.Prelude.{Contains, Option, None, Some, filter, nat_lt, not}
+use Rattle.std.specs.Prelude.{Contains, filter, not}
 use Rattle.smp_bytes.proofs.Members.{contains_cases, contains_filter, contains-from_filter, contains_here, contains_later, contains_none}
 use Rattle.port_graph.specs.declared.edge.Edge.{Edge}
-use Rattle.port_graph.proofs.WalkLemmas.{list_any_at, list_any_found}
-use Rattle.spread_labels.specs.declared.label.Label.TheVariants.{Down}
-use Rattle.spread_labels.specs.declared.label.Mark.{Mark}
-use Rattle.spread_labels.specs.Labels.{candidates, candidates_by, marks}
-use Rattle.spread_labels.specs.LabelLaws.{IsStep}
+use Rattle.spread_labels.specs.Labels.{candidates}
 use Rattle.spread_labels.specs.Orders.{numbers_from}
 use Rattle.spread_labels.proofs.Earlier.{filter_more, numbers_more}
 use Rattle.spread_labels.proofs.Growing.{numbers_there}
-use Rattle.spread_labels.proofs.Steps.{candidates_in_words}
+use Rattle.balanced_choices.proofs.Sweeps.{numbers_least}
+use Rattle.balanced_choices.proofs.UpDown.{comes_up, leads_down}
 use Rattle.trial_loads.specs.ShareLaws.{ShareWhenAllHasCome, SharesLaw, TurnsLaw}
 use Rattle.trial_loads.specs.TrialLoads.{goes_up, in_turn, last_first}
 
@@ -35,14 +32,6 @@ last_there (suc n) x h =
     elim (cases_eq n x) [
       | inl same ↦ subst (λ (y : ℕ). Contains (n ∷ last_first n) y) same (contains_here n (last_first n))
       | inr other ↦ (let less : x < n = grind arith in contains_later n x (last_first n) (last_there n x less))
-    ]
-
-numbers_least : (n k x : ℕ) → Contains (numbers_from k n) x → k ≤ x
-numbers_least zero k x h = absurd (contains_none x h)
-numbers_least (suc n) k x h =
-    elim (contains_cases k x (numbers_from (suc k) n) h) [
-      | inl same ↦ omega (arith, same)
-      | inr r ↦ omega (arith, numbers_least n (suc k) x r)
     ]
 
 -- as many pass a test or fail it as there are
@@ -68,40 +57,6 @@ module _ (graph : List (List Edge)) (t : ℕ) where
   abbrev downs : ℕ → ℕ → List ℕ
   downs k n = filter (λ s. not (goes_up towards s)) (numbers_from k n)
 
-  marked_by : (s : ℕ) (e : Edge) (o : Option Mark) → Contains (candidates_by graph t s o) e → (m : Mark) × (o ≡ Some m)
-  marked_by s e None h = absurd (contains_none e h)
-  marked_by s e (Some m) h = (m, refl)
-
-  step : (s : ℕ) (e : Edge) → Contains (towards s) e → (m : Mark) × IsStep graph t s m e
-  step s e h =
-      let m = marked_by s e (marks graph t s) h in
-      (m.0, (candidates_in_words graph t s m.0 m.1).steps e h)
-
-  not_down : (s : ℕ) (m : Mark) → goes_up towards s ≡ true → marks graph t s ≡ Some m → m.label ≡ Down → ⊥
-  not_down s m up is down =
-      let e = list_any_found (λ (x : Edge). nat_lt x.to s) (towards s) up in
-      let leads = ((candidates_in_words graph t s m is).steps e.0 e.1).from_down down in
-      omega (arith, leads.0, ltb-true e.0.to s e.2)
-
-  -- what leads to a vertex that goes up leads up
-  comes_up : (r s : ℕ) (e : Edge) → Contains (towards r) e → e.to ≡ s → goes_up towards s ≡ true → s < r
-  comes_up r s e h is up =
-      let x = (step r e h).1 in
-      elim x.up_or_down [
-        | inl less ↦ subst (λ (k : ℕ). k < r) is less
-        | inr down ↦ absurd (not_down s x.to up (ap (marks graph t) (sym is) ∙ x.labelled) down.1)
-      ]
-
-  goes : (r : ℕ) (e : Edge) → Contains (towards r) e → e.to < r → goes_up towards r ≡ true
-  goes r e h less = list_any_at (λ (x : Edge). nat_lt x.to r) (towards r) e h (lt-ltb e.to r less)
-
-  leads_down : (r : ℕ) (e : Edge) → Contains (towards r) e → goes_up towards r ≡ false → r < e.to
-  leads_down r e h other =
-      elim (step r e h).1.up_or_down [
-        | inl less ↦ absurd (cc (goes r e h less, other))
-        | inr down ↦ down.0
-      ]
-
   not_up : (b : Bool) → not b ≡ true → b ≡ false
   not_up true h = sym h
   not_up false h = refl
@@ -118,8 +73,8 @@ module _ (graph : List (List Edge)) (t : ℕ) where
         | true ↦ λ up. down n (suc k)
         | false ↦ λ other. (
           λ r e h c is. (elim (contains_cases k r (downs (suc k) n) h) [
-            | inl same ↦ omega (arith, same, is, leads_down r e c (ap (goes_up towards) (sym same) ∙ other))
-            | inr later ↦ (let x = of_downs (suc k) n r later in omega (arith, is, x.0, leads_down r e c x.1))
+            | inl same ↦ omega (arith, same, is, leads_down graph t r e c (ap (goes_up towards) (sym same) ∙ other))
+            | inr later ↦ (let x = of_downs (suc k) n r later in omega (arith, is, x.0, leads_down graph t r e c x.1))
           ]),
           down n (suc k),
         )
@@ -132,12 +87,12 @@ module _ (graph : List (List Edge)) (t : ℕ) where
       elim (goes_up towards n) as (λ b. goes_up towards n ≡ b → ShareWhenAllHasCome towards (cond b (n ∷ rest) rest ++ downs 0 m)) [
         | true ↦ λ goes_up_there. (
           λ r e h c is.
-              let less = comes_up r n e c is goes_up_there in
+              let less = comes_up graph t r n e c is goes_up_there in
               (elim (contains_cases n r (rest ++ downs 0 m) h) [
                 | inl same ↦ omega (arith, same, less)
                 | inr later ↦ (elim (Contains-append_cases rest (downs 0 m) r later) [
                   | inl above ↦ omega (arith, less, last_less n r (contains-from_filter (goes_up towards) (last_first n) r above).0)
-                  | inr below ↦ omega (arith, is, less, leads_down r e c (of_downs 0 m r below).1)
+                  | inr below ↦ omega (arith, is, less, leads_down graph t r e c (of_downs 0 m r below).1)
                 ])
               ]),
           up n m,

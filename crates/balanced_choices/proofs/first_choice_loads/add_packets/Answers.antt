@@ -1,7 +1,6 @@
-use Rattle.std.proofs.Common.{◌≡◌, ◌<◌, ◌+◌, ◌*◌, ℕ, List, All, sym, ap, subst, ◌∙◌, arith, drop, get_or, length, map}
-use Rattle.std.proofs.lemmas.List.{drop_more, get_or-map}
+use Rattle.std.proofs.Common.{◌≡◌, ◌<◌, ◌+◌, ◌*◌, ℕ, List, All, sym, ap, subst, ◌∙◌, drop, get_or, length}
+use Rattle.std.proofs.lemmas.List.{drop_more}
 use Rattle.std.proofs.lemmas.List.Elements.{All-map}
-use Rattle.port_graph.proofs.Counts.{length_map}
 use Rattle.port_graph.specs.declared.edge.Edge.{Edge}
 use Rattle.port_graph.specs.Heads.{edges_at}
 use Rattle.spread_labels.specs.MarkSets.{picked, sets_at}
@@ -11,7 +10,7 @@ use Rattle.balanced_choices.specs.BalancedChoices.{near_first, towards}
 use Rattle.balanced_choices.specs.Loads.{loads_with, loads_with_all, passed_on}
 use Rattle.balanced_choices.proofs.FirstLoads.{repeated_long}
 use Rattle.std.specs.Prelude.{reverse}
-use Rattle.balanced_choices.proofs.EachEnd.{ways_are}
+use Rattle.balanced_choices.proofs.EachEnd.{ways_at}
 use Rattle.balanced_choices.proofs.first_choice_loads.add_packets.Goals as goal
 
 pub towards-requires-clause-vertices : goal.towards-requires-clause-vertices
@@ -49,13 +48,9 @@ loop-k-preserved c =
     let k = c.loop-k.k in
     let none : Destination = record { position = 0; ends = 0; number = 0 } in
     let d = get_or ds k none in
-    let targets = c.deref.result.now in
-    let all : targets ≡ map (λ x. x.position) ds = c.deref.ensures.value ∙ c.in_ok-targets.ensures in
-    let below : k < length targets = omega (arith, c.loop-k-test.true, ap length all ∙ length_map (λ (x : Destination). x.position) ds) in
-    let target : get_or targets k 0 ≡ d.position =
-    ap (λ ts. get_or ts k 0) all ∙ get_or-map (λ (x : Destination). x.position) ds k none 0 c.loop-k-test.true in
     let ways : c.in_ok-ways.ways ≡ towards graph d.position =
-    c.in_ok-ways.ensures ∙ ways_are graph targets c.in_ok-sets.sets k d.position c.in_ok-sets.ensures below target in
+    c.in_ok-ways.ensures
+    ∙ ways_at graph c.deref.result.now ds none c.in_ok-sets.sets k (c.deref.ensures.value ∙ c.in_ok-targets.ensures) c.in_ok-sets.ensures c.loop-k-test.true in
     let had = c.deref_mut.ensures.value ∙ c.in_ok-repeat.ensures in
     let added : c.add_packets_to.new.loads ≡ loads_with (towards graph d.position) sent digits c.loop-k.loads d =
     c.in_ok-add_packets_to.ensures

@@ -1,14 +1,13 @@
-use Rattle.std.proofs.Common.{◌≡◌, ◌<◌, ◌+◌, ℕ, All, sym, ap, subst, ◌∙◌, arith, drop, get_or, length, map}
-use Rattle.std.proofs.lemmas.List.{drop_more, get_or-map}
+use Rattle.std.proofs.Common.{◌≡◌, ◌<◌, ◌+◌, ℕ, All, sym, ap, subst, ◌∙◌, arith, drop, get_or, length}
+use Rattle.std.proofs.lemmas.List.{drop_more}
 use Rattle.std.proofs.lemmas.List.Elements.{All-map}
-use Rattle.port_graph.proofs.Counts.{length_map}
 use Rattle.spread_labels.specs.MarkSets.{AreCandidateSets}
 use Rattle.spread_labels.specs.Orders.{numbers_from}
 use Rattle.balanced_choices.specs.declared.choice_rounds.Destination.{Destination}
 use Rattle.balanced_choices.specs.BalancedChoices.{ends_of, near_first, towards, with_all, with_ends}
 use Rattle.balanced_choices.specs.Traffic.{Sending}
 use Rattle.balanced_choices.proofs.AsLong.{IsAsLong, ends_long, still_as_long}
-use Rattle.balanced_choices.proofs.EachEnd.{ends_least, ends_next, ways_are}
+use Rattle.balanced_choices.proofs.EachEnd.{ends_least, ends_next, ways_at}
 use Rattle.balanced_choices.proofs.choice_rounds.Balance.choose_some.Goals as goal
 
 pub towards-requires-clause-vertices : goal.towards-requires-clause-vertices
@@ -42,14 +41,11 @@ loop-k-preserved c =
     let d = get_or ds k none in
     let targets = c.deref.result.now in
     let sets = c.in_ok-sets.sets in
-    let all : targets ≡ map (λ x. x.position) ds = c.deref.ensures.value ∙ c.in_ok-targets.ensures in
-    let below : k < length targets = omega (arith, c.loop-k-test.true, ap length all ∙ length_map (λ (x : Destination). x.position) ds) in
-    let target : get_or targets k 0 ≡ d.position =
-    ap (λ ts. get_or ts k 0) all ∙ get_or-map (λ (x : Destination). x.position) ds k none 0 c.loop-k-test.true in
     let are : AreCandidateSets graph targets sets =
     subst (λ (s : Sending). AreCandidateSets s.edges targets sets) c.traffic.view_is c.in_ok-sets.ensures in
     let ways : c.in_ok-ways.ways.edges ≡ towards graph d.position =
-    c.in_ok-ways.ensures.edges ∙ ways_are graph targets sets k d.position are below target in
+    c.in_ok-ways.ensures.edges
+    ∙ ways_at graph targets ds none sets k (c.deref.ensures.value ∙ c.in_ok-targets.ensures) are c.loop-k-test.true in
     let own = towards graph d.position in
     let ends = numbers_from end d.ends in
     let became : with_ends round own sent digits (near_first own) d.number end now ends ≡ c.choose_at.new.self =
