@@ -39,8 +39,8 @@ pub struct Destination {
 /// destinations must be at positions. First choices go by the end's number. Where a candidate leads to a higher level,
 /// the digits below the digit of the position's weight do not count. The candidates of a position are numbered from 0,
 /// in the order of its edges. A position that has no candidates gets 0. Makes at most three rounds, and returns the
-/// choices of the round by which the greatest load is least. Each round finds the candidates towards 64 destinations at
-/// a time. From the second round on, a round walks, for each end, the ways of all candidates of each position. Keeps a
+/// choices of the round with the least greatest load. Each round finds the candidates towards 64 destinations at a
+/// time. From the second round on, a round walks, for each end, the ways of all candidates of each position. Keeps a
 /// byte for each end and position, and another from the second round on.
 pub fn balanced_choices(
     alloc: Global,
@@ -99,8 +99,8 @@ impl Balance {
     }
 
     /// Makes new choices for all ends of `destinations`, at most twice, while loads are not even. Returns the choices
-    /// by which the greatest load is least: those of `self`, or those of a later round. Of equals, returns the first.
-    /// The preconditions are those of `choose_all`.
+    /// with the least greatest load: those of `self`, or those of a later round. Of equals, returns the first. The
+    /// preconditions are those of `choose_all`.
     fn lightest_choices(
         mut self,
         alloc: Global,

@@ -1,11 +1,11 @@
-//! The digits by which positions take first choices.
+//! The digits that first choices go by.
 ghost use Rattle.std.specs.Prelude.{◌≡◌, ◌≤◌};
 ghost use Rattle.balanced_choices.specs.BalancedChoices.{digit_at, digits_from, leads_higher, weight_among};
 
 use port_graph::Edge;
 
-/// The level of a position, and the weight of the digit by which the position takes first choices where packets can go
-/// to a higher level.
+/// The level of a position, and the weight of the digit that its first choices go by where packets can go to a higher
+/// level.
 #[derive(Clone, Copy, Debug, PartialEq, Eq)]
 pub struct LevelDigit {
     pub level: usize,
@@ -36,7 +36,7 @@ fn leads_higher(digits: &[LevelDigit], edges: &[Edge], position: usize) -> bool
         .any(|edge| level < digit_at(digits, edge.to).level)
 }
 
-/// Returns the weight of the digit by which `position` takes first choices among `edges`: its digit weight if any of
+/// Returns the weight of the digit that first choices of `position` among `edges` go by: its digit weight if any of
 /// `edges` leads to a higher level, and otherwise 1.
 pub(crate) fn weight_among(digits: &[LevelDigit], edges: &[Edge], position: usize) -> usize
     ensures { result ≡ weight_among digits.now edges.now position }

@@ -46,7 +46,7 @@ impl LidDigit {
         )
     }
 
-    /// Returns the weight of the digit by which numbers choose: the digit weight if one of the ports leads to a higher
+    /// Returns the weight of the digit that choices go by: the digit weight if one of the ports leads to a higher
     /// switch, which `is_higher` says, and otherwise 1.
     pub(crate) fn weight_if(&self, is_higher: bool) -> usize
         ensures { result ≡ weight_if self.now is_higher }
