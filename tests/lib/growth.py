@@ -469,7 +469,7 @@ GROWING = (
             "next", *in_order(c, n), without_one(c, printed(c, "plan", *in_order(c, n), mesh(c, n))), mesh(c, n)
         ), 50, SQUARED),
     Row("next by switches, in the order of the tables",
-        lambda c, n: ("next", "--told-order", *SPREAD, printed(c, "plan", mesh(c, n)), mesh(c, n)), 50, SQUARED),
+        lambda c, n: ("next", *SPREAD, printed(c, "plan", *in_order(c, n), mesh(c, n)), mesh(c, n)), 50, SQUARED),
     Row("next by switches, in the order of the last step",
         lambda c, n: (
             "next", *SPREAD, "--last-order", order(c, n), printed(c, "plan", *in_order(c, n), mesh(c, n)), mesh(c, n)

@@ -349,19 +349,27 @@ def tables_between(subnet: Subnet, held: Tables, plan: Tables, orders: tuple[Ord
     return assembled(subnet, held, plan, columns)
 
 
-def told_step(
+def step(
     subnet: Subnet, held: Tables, plan: Tables, order: Order, last: list[int] | None = None
 ) -> tuple[Tables, Order | None]:
-    """Returns the next tables if a step may go by an order that the held tables imply, and that order, or None if the
-    step does not go by it. Of several such orders, it is the one nearest to the order of the last step, if `last` gives
-    that one's switches."""
-    preferred = order if last is None else as_named(subnet, last)
-    orders = None if order.is_right(subnet, held) else two_orders(subnet, held, order, preferred)
-    if orders is not None:
-        goal = tables_between(subnet, held, plan, orders)
-        if orders[0].is_right(subnet, goal):
-            return next_tables(subnet, held, goal, orders[0]), orders[0]
+    """Returns the next tables and, if the step goes by an order that the held tables imply, that order. Of several such
+    orders, it is the one nearest to the order of the last step, if `last` gives that one's switches, as long as a step
+    by it changes something; and otherwise the one nearest to the plan's order."""
+    if not order.is_right(subnet, held):
+        for preferred in [order] if last is None else [in_turn(subnet, last), order]:
+            orders = two_orders(subnet, held, order, preferred)
+            if orders is None:
+                break
+            wanted = next_tables(subnet, held, tables_between(subnet, held, plan, orders), orders[0])
+            if preferred is order or wanted.text() != held.text():
+                return wanted, orders[0]
     return next_tables(subnet, held, plan, order), None
+
+
+def in_turn(subnet: Subnet, named: list[int]) -> Order:
+    """Returns the order in which a list names switches. Switches that are not named come after all others, with equal
+    positions."""
+    return Order({guid: named.index(guid) if guid in named else len(named) for guid in subnet.switches})
 
 
 def first_moved(held: Tables, plan: Tables) -> int | None:

@@ -11,7 +11,7 @@ COMMANDS = {
     "plan": f"{FLOOR} {PLANS}",
     "order": "--routing --roots --order --held",
     "audit": "--all --max-load --loads --way --lanes",
-    "next": f"{PLANS} --told-order --last-order",
+    "next": f"{PLANS} --last-order",
     "run": PLANS,
     "serve": f"--sm-key {PLANS}",
     "help": "",

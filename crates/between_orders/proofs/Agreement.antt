@@ -278,7 +278,7 @@ module _ (facts : Facts) (tables : HeldPlan) (told by taken : List ℕ)
       let n = length all_edges in
       let first = positions_in grown n in
       ap (λ p. orders_by (cells_of facts) tables all_edges by p (grown_by all_edges p)) same_positions
-      ∙ ap (orders_by (cells_of facts) tables all_edges by first) (grows_again all_edges (lead facts told) told)
+      ∙ ap (orders_by (cells_of facts) tables all_edges by first) (grows_again all_edges (lead facts told) (map key_of told))
       ∙ ap (λ b. cond b (two_orders first (grown_by (tree all_edges first) by) n) (two_orders first grown n))
       ((rightness_is_told (cells_of facts) (position_at first) tables).1 right)
 

@@ -1,6 +1,6 @@
 -- Steps that are handed the order of the step before go between the same two orders.
 use Rattle.std.proofs.Common.{◌≡◌, ◌∙◌, ◌<◌, ◌≤◌, ◌⊎◌, ◌+◌, ℕ, zero, suc, cond, List, [], Some, length, refl, sym, ap, subst, arith}
-use Rattle.std.specs.Prelude.{slice_get}
+use Rattle.std.specs.Prelude.{slice_get, map}
 use Rattle.fact_store.specs.View.{Facts, cells_of}
 use Rattle.port_graph.specs.declared.edge.Edge.{Edge}
 use Rattle.port_graph.specs.Heads.{LeadToVertices}
@@ -22,7 +22,7 @@ use Rattle.ordered_steps.proofs.Round.{all_are_step, all_follow_the_rule}
 use Rattle.ordered_steps.proofs.ToldRight.{rightness_is_told}
 use Rattle.told_order.specs.ToldOrder.{IsImpliedOrder}
 use Rattle.told_order.proofs.Orders.{some_order_is_told}
-use Rattle.two_orders.specs.Growth.{grown_by, positions_in}
+use Rattle.two_orders.specs.Growth.{grown_by, key_of, positions_in}
 use Rattle.two_orders.specs.LabelLaws.{grown_twice}
 use Rattle.two_orders.specs.Trees.{tree}
 use Rattle.two_orders.specs.TwoOrders.{TwoOrders, two_orders}
@@ -183,7 +183,7 @@ module _ (facts : Facts) (by preferred : List ℕ) (plan : HeldPlan) (tables : �
       let is : IsGoalBetween (cells_of facts) (tables (suc n)) plan by (goals n).positions (goals (suc n)) = are.goal_is (suc n) less in
       let lead : LeadToVertices all_edges = leads_below (graph_of (cells_of facts)) (graph_law facts) in
       let same : grown_by all_edges (goals n).positions ≡ grown_by all_edges its.positions =
-      ap (λ (g : Goal). grown_by all_edges g.positions) made ∙ grows_again all_edges lead its.positions in
+      ap (λ (g : Goal). grown_by all_edges g.positions) made ∙ grows_again all_edges lead (map key_of its.positions) in
       let told : IsImpliedOrder (cells_of facts) (tables (suc n)) (grown_by all_edges its.positions) (Some is.are.0) =
       subst (λ (ps : List ℕ). IsImpliedOrder (cells_of facts) (tables (suc n)) ps (Some is.are.0)) same is.are.1 in
       made_by (suc n) (goals n).positions is (is.are.2 ∙ orders_stay facts (tables (suc n)) its.positions by is.are.0 right told)

@@ -22,11 +22,11 @@ use Rattle.ordered_steps.proofs.Round.{next_deliver_or_drop_by_order}
 use Rattle.two_orders.specs.Growth.{grown_by, positions_in}
 use Rattle.two_orders.specs.LabelLaws.{grown_twice}
 use Rattle.two_orders.specs.TwoOrders.{TwoOrders}
-use Rattle.between_orders.specs.Agreement.{AgreeTo, AreRightBy, ComeEverywhere, ComeTo, IsRightByGrown, TellsPositions, order_of_plan}
+use Rattle.between_orders.specs.Agreement.{AgreeTo, AreGrown, AreRightBy, ComeEverywhere, ComeTo, IsRightByGrown, TellsPositions, order_of_plan}
 use Rattle.between_orders.specs.Agreement.IsOnward.{goal}
 use Rattle.between_orders.specs.Between.{IsGoalBetween}
 use Rattle.between_orders.specs.GoalLaws.{AreGoalSteps, IsGoalLine}
-use Rattle.between_orders.specs.HandedStages.{HandedStepsEnd, HaveOwnLids, IsOwnLid, IsStage, IsWholePlan, StagesAreFew, StagesStayWhole}
+use Rattle.between_orders.specs.HandedStages.{HandedStepsEnd, HaveOwnLids, IsOwnLid, IsStage, IsWholePlan, StagesAreFew, StagesMakeWhole}
 use Rattle.between_orders.specs.Orders.{edges_in, orders_from, told_positions}
 use Rattle.between_orders.specs.TablesBetween.{tables_between}
 use Rattle.between_orders.proofs.Agreement.{begins, goals_go_further, reached_right_by_plan, told_right_by_plan}
@@ -212,7 +212,7 @@ module _ (facts : Facts) (range : AreInRange facts) (told by : List ℕ) (plan s
 
 -- a stage
 module _ (facts : Facts) (range : AreInRange facts) (by : List ℕ) (plan start end : HeldPlan) (whole : IsWholePlan (cells_of facts) plan)
-    (have : HaveOwnLids (cells_of facts) plan) (stage : IsStage facts by plan start end) (comes : ComeEverywhere (cells_of facts) start) where
+    (have : HaveOwnLids (cells_of facts) plan) (stage : IsStage facts by plan start end) (grown : AreGrown (cells_of facts) start by) where
   abbrev its_cells : Cells
   its_cells = cells_of facts
 
@@ -228,13 +228,8 @@ module _ (facts : Facts) (range : AreInRange facts) (by : List ℕ) (plan start 
       let is : IsGoalBetween its_cells (stage.tables 0) plan by by (stage.goals 0) = stage.are.goal_is 0 some in
       record { taken = is.are.0; is_told = is.are.1; positions = told_positions is.are.0 (length (edges_in its_cells)); are = refl }
 
-  first_comes : ComeEverywhere its_cells (stage.tables 0)
-  first_comes = subst (λ (t : HeldPlan). ComeEverywhere its_cells t) (sym stage.begins) comes
-
   first_grown : IsRightByGrown its_cells (stage.tables 0) first_told.positions
-  first_grown =
-      subst (λ (p : List ℕ). IsRightByGrown its_cells (stage.tables 0) p) (sym first_told.are)
-      (whole_tables_grow facts (stage.tables 0) (grown_by (edges_in its_cells) by) first_told.taken first_comes first_told.is_told)
+  first_grown = subst (λ (t : HeldPlan). AreGrown its_cells t by) (sym stage.begins) grown first_told
 
   abbrev its_orders : TwoOrders
   its_orders = grown_twice (edges_in (cells_of facts)) first_told.positions by
@@ -310,19 +305,25 @@ handed_steps_end facts range by preferred plan tables goals count are told grown
     ∙ tables_stay facts range told.positions by plan (tables 0) whole right m (omega (arith, many))
     ∙ sym (stays facts by preferred plan tables goals count are told grown (suc (suc m)) (omega (arith, less))).0
 
-pub stages_stay_whole : StagesStayWhole
-stages_stay_whole facts range by plan start end whole have stage comes = end_comes facts range by plan start end whole have stage comes
+pub stages_make_whole : StagesMakeWhole
+stages_make_whole facts range by plan start end whole have stage grown = end_comes facts range by plan start end whole have stage grown
+
+-- tables under which packets get everywhere are right by the order that grows by the one that they imply
+pub whole_are_grown : (facts : Facts) (tables : HeldPlan) (by : List ℕ) → ComeEverywhere (cells_of facts) tables → AreGrown (cells_of facts) tables by
+whole_are_grown facts tables by comes told =
+    subst (λ (p : List ℕ). IsRightByGrown (cells_of facts) tables p) (sym told.are)
+    (whole_tables_grow facts tables (grown_by (edges_in (cells_of facts)) by) told.taken comes told.is_told)
 
 module _ (facts : Facts) (range : AreInRange facts) (by : List ℕ) (plan : HeldPlan) (tables : ℕ → HeldPlan) (count : ℕ)
     (whole : IsWholePlan (cells_of facts) plan) (have : HaveOwnLids (cells_of facts) plan) (told : TellsPositions (cells_of facts) (tables 0) by)
-    (comes : ComeEverywhere (cells_of facts) (tables 0)) (stages : (k : ℕ) → k < count → IsStage facts by plan (tables k) (tables (suc k))) where
-  so_far : (k : ℕ) → k ≤ count → AgreeTo (cells_of facts) (tables k) by k × ComeEverywhere (cells_of facts) (tables k)
-  so_far zero low = (begins facts by (tables 0) told, comes)
+    (grown : AreGrown (cells_of facts) (tables 0) by) (stages : (k : ℕ) → k < count → IsStage facts by plan (tables k) (tables (suc k))) where
+  so_far : (k : ℕ) → k ≤ count → AgreeTo (cells_of facts) (tables k) by k × AreGrown (cells_of facts) (tables k) by
+  so_far zero low = (begins facts by (tables 0) told, grown)
   so_far (suc k) low =
       let before = so_far k (omega (arith, low)) in
       let stage = stages k (omega (arith, low)) in (
         goes_further facts range by plan (tables k) (tables (suc k)) whole have stage before.1 k before.0,
-        end_comes facts range by plan (tables k) (tables (suc k)) whole have stage before.1,
+        whole_are_grown facts (tables (suc k)) by (end_comes facts range by plan (tables k) (tables (suc k)) whole have stage before.1),
       )
 
   last_right : (c : ℕ) → c ≤ count → length (switches (cells_of facts)) ≤ suc c
@@ -333,5 +334,5 @@ module _ (facts : Facts) (range : AreInRange facts) (by : List ℕ) (plan : Held
       ends_by_plan facts range by plan (tables k) (tables (suc k)) whole have (stages k (omega (arith, low))) before.1 k before.0 many
 
 pub stages_are_few : StagesAreFew
-stages_are_few facts range by plan tables count whole have told comes stages many =
-    last_right facts range by plan tables count whole have told comes stages count (omega arith) many
+stages_are_few facts range by plan tables count whole have told grown stages many =
+    last_right facts range by plan tables count whole have told grown stages count (omega arith) many

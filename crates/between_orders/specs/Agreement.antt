@@ -89,6 +89,10 @@ GoalsAreFew =
     → AreRightBy (cells_of facts)
     (positions_in (order_of_plan (cells_of facts) by) (length (edges_in (cells_of facts)))) (tables m)
 
+-- `tables` are right by the order that grows by the one that they imply; of several, the one nearest to the plan's
+abbrev pub AreGrown : Cells → HeldPlan → List ℕ → Type 0
+AreGrown cells tables by = (told : TellsPositions cells tables by) → IsRightByGrown cells tables told.positions
+
 -- suppose the tables are right for every LID by the order that grew by `told`, and of the orders that the tables
 -- imply, the one nearest to this grown order is taken. Then this grown order is the first order of the next step, and
 -- the second order grows by the plan's positions along the tree of the first

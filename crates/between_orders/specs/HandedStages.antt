@@ -14,7 +14,7 @@ use Rattle.next_tables.specs.NextTables.{IsKept}
 use Rattle.ordered_steps.specs.OrderedStepLaws.{DeliverFrom}
 use Rattle.two_orders.specs.Growth.{positions_in}
 use Rattle.two_orders.specs.LabelLaws.{grown_twice}
-use Rattle.between_orders.specs.Agreement.{AreRightBy, ComeEverywhere, IsRightByGrown, TellsPositions, order_of_plan}
+use Rattle.between_orders.specs.Agreement.{AreGrown, AreRightBy, ComeEverywhere, IsRightByGrown, TellsPositions, order_of_plan}
 use Rattle.between_orders.specs.Between.{Goal, IsGoal, goal_between}
 use Rattle.between_orders.specs.GoalLaws.{AreGoalSteps, IsGoalLine, next_towards}
 use Rattle.between_orders.specs.Orders.{edges_in}
@@ -119,24 +119,23 @@ pub record IsStage (facts : Facts) (by : List ℕ) (plan start end : HeldPlan) :
   pub begins : tables 0 ≡ start
   pub ends : tables count ≡ end
 
--- suppose the facts are in range, and a stage goes towards a whole plan in which each usable switch has a LID. If,
--- under the tables at the beginning of the stage, packets get from each switch to all switches that wires join to
--- that switch, they do so under the tables at the end of the stage
-abbrev pub StagesStayWhole : Type 0
-StagesStayWhole =
+-- suppose the facts are in range, and a stage goes towards a whole plan in which each usable switch has a LID. If the
+-- tables at the beginning of the stage are right by the order that grows by the one that they imply, packets get, under
+-- the tables at its end, from each switch to all switches that wires join to that switch
+abbrev pub StagesMakeWhole : Type 0
+StagesMakeWhole =
     (facts : Facts) → AreInRange facts → (by : List ℕ) (plan start end : HeldPlan) → IsWholePlan (cells_of facts) plan
-    → HaveOwnLids (cells_of facts) plan → IsStage facts by plan start end → ComeEverywhere (cells_of facts) start
+    → HaveOwnLids (cells_of facts) plan → IsStage facts by plan start end → AreGrown (cells_of facts) start by
     → ComeEverywhere (cells_of facts) end
 
 -- suppose the facts are in range, and stages go towards a whole plan in which each usable switch has a LID. Let the
--- first tables imply an order, and let packets get under these tables from each switch to all switches that wires
--- join to that switch. Then after n - 1 or more stages, where n is the number of switches, the tables are right by
--- the plan's order
+-- first tables imply an order, and be right by the order that grows by it. Then after n - 1 or more stages, where n is
+-- the number of switches, the tables are right by the plan's order
 abbrev pub StagesAreFew : Type 0
 StagesAreFew =
     (facts : Facts) → AreInRange facts → (by : List ℕ) (plan : HeldPlan) (tables : ℕ → HeldPlan) (count : ℕ)
     → IsWholePlan (cells_of facts) plan → HaveOwnLids (cells_of facts) plan
-    → TellsPositions (cells_of facts) (tables 0) by → ComeEverywhere (cells_of facts) (tables 0)
+    → TellsPositions (cells_of facts) (tables 0) by → AreGrown (cells_of facts) (tables 0) by
     → ((k : ℕ) → k < count → IsStage facts by plan (tables k) (tables (suc k)))
     → length (switches (cells_of facts)) ≤ suc count
     → AreRightBy (cells_of facts)

@@ -21,7 +21,7 @@ ghost use Rattle.between_orders.specs.HandedStages.{
   HandedStepsEnd,
   RightTablesHaveGoals,
   StagesAreFew,
-  StagesStayWhole,
+  StagesMakeWhole,
 };
 
 /// Under the tables between two orders, whatever the orders are, no packet for any LID goes down and then up by the
@@ -141,18 +141,18 @@ pub fn handed_steps_end()
 {}
 
 /// Under the tables at the end of a stage, packets get from each switch to all switches that wires join to it, if four
-/// conditions hold: they do so under the tables at the beginning of the stage; the facts are in range; the plan is
-/// whole (`IsWholePlan`); and each usable switch has a LID in the plan. A stage has 2n + 2 handed steps or more, where
-/// n is the number of switches, or its last step changes nothing. The first step prefers the plan's order.
-pub fn stages_stay_whole()
-    ensures law { StagesStayWhole }
+/// conditions hold: the tables at the beginning of the stage are right by the order that grows by the order that they
+/// imply; the facts are in range; the plan is whole (`IsWholePlan`); and each usable switch has a LID in the plan. A
+/// stage has 2n + 2 handed steps or more, where n is the number of switches, or its last step changes nothing. The
+/// first step prefers the plan's order.
+pub fn stages_make_whole()
+    ensures law { StagesMakeWhole }
 {}
 
 /// After n - 1 or more stages, where n is the number of switches, the tables are right by the plan's order, if four
 /// conditions hold: the facts are in range; the plan is whole (`IsWholePlan`); each usable switch has a LID in the
-/// plan; and under the first tables, which imply an order, packets get from each switch to all switches that wires join
-/// to it. A stage has 2n + 2 handed steps or more, or its last step changes nothing. The first step of a stage prefers
-/// the plan's order.
+/// plan; and the first tables imply an order, and are right by the order that grows by it. A stage has 2n + 2 handed
+/// steps or more, or its last step changes nothing. The first step of a stage prefers the plan's order.
 pub fn stages_are_few()
     ensures law { StagesAreFew }
 {}

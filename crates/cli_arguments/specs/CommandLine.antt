@@ -46,13 +46,9 @@ floor_rule = record (option_rule (codes "floor")) { parser = Some (Signed (pos 1
 abbrev pub all_rule : Rule
 all_rule = flag_rule (codes "all")
 
--- the option `--told-order`, with no word after it: a step may go by the order that held tables imply
-abbrev pub told_order_rule : Rule
-told_order_rule = flag_rule (codes "told-order")
-
--- the options of a step: whether it may go by the order that held tables imply, and the file of the last step's order
+-- the option of a step: the file with the order of the last step
 abbrev pub of_step : List Rule
-of_step = told_order_rule ∷ option_rule (codes "last-order") ∷ []
+of_step = option_rule (codes "last-order") ∷ []
 
 -- the option for the greatest load that passes, from 0 to 2^32 - 1
 abbrev pub max_load_rule : Rule

@@ -60,9 +60,6 @@ pub const LANES: &str = "lanes";
 /// The option for the text of tables whose order is printed.
 pub const HELD: &str = "held";
 
-/// The flag that lets a step go by the order that held tables imply.
-pub const TOLD_ORDER: &str = "told-order";
-
 /// The option for the file of the order that the last step went by.
 pub const LAST_ORDER: &str = "last-order";
 

@@ -3,11 +3,11 @@ ghost use Rattle.std.specs.Prelude.{◌≡◌, codes, false};
 ghost use Rattle.clap.specs.Walk.{rule_of};
 ghost use Rattle.cli_arguments.specs.CommandLine.{all_rule, files_rule, flag_rule, floor_rule};
 ghost use Rattle.cli_arguments.specs.CommandLine.{lmc_rule, loads_rule, max_load_rule, option_rule, port_rule};
-ghost use Rattle.cli_arguments.specs.CommandLine.{priority_rule, routing_rule, text_rule, told_order_rule};
+ghost use Rattle.cli_arguments.specs.CommandLine.{priority_rule, routing_rule, text_rule};
 
 use crate::argument_names::{
     ALL, FILE, FLOOR, GUID, HELD, LANES, LAST_ORDER, LMC, LOADS, MAX_LOAD, ORDER, PORT, PRIORITY,
-    ROOTS, ROUTING, SM_KEY, TOLD_ORDER, WAY,
+    ROOTS, ROUTING, SM_KEY, WAY,
 };
 use clap::{Arg, ArgAction, value_parser};
 use std::alloc::Global;
@@ -105,18 +105,6 @@ pub(crate) fn all<'a>(alloc: Global) -> Arg<'a>
     )
 }
 
-/// Builds the flag that lets a step go by the order that held tables imply.
-pub(crate) fn told_order<'a>(alloc: Global) -> Arg<'a>
-    ensures rule { rule_of result ≡ told_order_rule }
-    ensures own { result.global ≡ false }
-{
-    flag(
-        alloc,
-        TOLD_ORDER,
-        "If the held tables do not follow the plan's order, follows their own, if any",
-    )
-}
-
 /// Builds the option for the file of the order that the last step went by.
 pub(crate) fn last_order<'a>(alloc: Global) -> Arg<'a>
     ensures rule { rule_of result ≡ option_rule (codes "last-order") }
@@ -126,7 +114,7 @@ pub(crate) fn last_order<'a>(alloc: Global) -> Arg<'a>
         alloc,
         LAST_ORDER,
         "FILE",
-        "As --told-order; of several orders, the one nearest to FILE's, one GUID per line",
+        "The order that the last step printed, one GUID per line: this step stays near it",
     )
 }
 

@@ -15,7 +15,7 @@ use crate::argument_names::{
 };
 use crate::arguments::{
     all, files, floor, held, lanes, last_order, lmc, loads, max_load, order_file, port, priority,
-    roots, routing, sm_key, text, told_order, way,
+    roots, routing, sm_key, text, way,
 };
 use crate::conflicts::{conflict, has_conflict};
 use clap::{ArgMatches, Command, Error};
@@ -307,11 +307,11 @@ fn with_report<'a>(alloc: Global, command: Command<'a>) -> Result<Command<'a>, A
         .arg(lanes(alloc))
 }
 
-/// Adds the options of a step: whether it may go by the order that held tables imply, and the order of the last step.
+/// Adds the option of a step: the file with the order of the last step.
 fn with_step<'a>(alloc: Global, command: Command<'a>) -> Result<Command<'a>, AllocError>
     ensures { IfOk result (AddsRules of_step command.entry) }
 {
-    command.arg(told_order(alloc))?.arg(last_order(alloc))
+    command.arg(last_order(alloc))
 }
 
 /// Adds the options of a plan: its LMC, its rule of routing, and the roots or the order.

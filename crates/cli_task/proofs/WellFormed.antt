@@ -10,10 +10,8 @@ use Rattle.cli_arguments.specs.Words.{files_named, has_conflict_of, is_guid, is_
 use Rattle.sm_cli.specs.declared.audit_asked.WayAsked.{WayAsked}
 use Rattle.sm_cli.specs.declared.asked.RuleAsked.{RuleAsked}
 use Rattle.sm_cli.specs.declared.asked.RuleAsked.TheVariants.{UpDown, Spread, SpreadFromRoots, SpreadInOrder, Balance, BalanceInOrder}
-use Rattle.sm_cli.specs.StepAsked.{is_named}
 use Rattle.sm_cli.specs.declared.asked.Output.TheVariants.{Order}
 use Rattle.cli_task.specs.declared.task.Task.TheVariants.{Answer, OrderOfTables}
-use Rattle.cli_task.specs.Task.{held_order_asked}
 use Rattle.cli_task.specs.InputNames.{followed_by, names_in, text_if, texts_of_rule}
 use Rattle.cli_task.specs.OptionValues.{floor_asked, guid_asked, lmc_asked, max_load_asked, number_in, order_asked, port_asked}
 use Rattle.cli_task.specs.OptionValues.{priority_asked, sm_key_asked, within, planning_asked, rule_asked, way_asked}
@@ -199,16 +197,10 @@ module _ (word : List ℕ → Option (List ℕ)) (files : Option (List (List ℕ
       let texts = both_there _ _ (text_there (word (codes "lanes"))) (one_there (word (codes "TABLES")) t) in
       rw load.1 rw way.1 (both_there (Some []) _ refl (both_there _ files texts h))
 
-  -- the last step's order is named if it is asked for
-  order_there : (told : Bool) (last : Option (List ℕ)) → is_some (text_if (is_named (held_order_asked told (is_some last))) last) ≡ true
-  order_there true None = refl
-  order_there false None = refl
-  order_there told (Some name) = refl
-
   next_asks : IsGiven (word (codes "TABLES")) → AreNamed files → NamesPlanning word → Asks (codes "next")
   next_asks t h p =
       let by = planning_there p in
-      let last = order_there (is_set (word (codes "told-order"))) (word (codes "last-order")) in
+      let last = text_there (word (codes "last-order")) in
       let texts = both_there _ _ last (one_there (word (codes "TABLES")) t) in
       rw by.1 (both_there (texts_of_rule word by.0.1) _ by.2 (both_there _ files texts h))
 

@@ -7,7 +7,6 @@ use Rattle.sm_cli.specs.Asked.{rule_for}
 use Rattle.sm_cli.specs.declared.asked.RuleAsked.{RuleAsked}
 use Rattle.sm_cli.specs.declared.asked.RuleAsked.TheVariants.{UpDown, Spread, SpreadFromRoots, SpreadInOrder, Balance}
 use Rattle.sm_cli.specs.declared.asked.RuleAsked.TheVariants.{BalanceInOrder}
-use Rattle.sm_cli.specs.StepAsked.{is_named}
 use Rattle.cli_task.specs.declared.task.Task.{Task}
 use Rattle.cli_task.specs.declared.task.Task.TheVariants.{Answer, OrderOfTables, Audit, Next, Run, Serve}
 use Rattle.cli_task.specs.Task.{task_asked}
@@ -51,7 +50,7 @@ abbrev pub texts_asked : (List ℕ → Option (List ℕ)) → Task → Option (L
 texts_asked word (Answer request) = Some []
 texts_asked word OrderOfTables = option_map (λ tables. tables ∷ []) (word (codes "held"))
 texts_asked word (Audit asked) = texts_before_files word asked.lanes (codes "lanes")
-texts_asked word (Next asked) = texts_before_files word (is_named asked.held_order) (codes "last-order")
+texts_asked word (Next asked) = texts_before_files word asked.has_last (codes "last-order")
 texts_asked word (Run lmc rule) =
     option_and_then (λ topology. option_map (λ schedule. topology ∷ schedule ∷ []) (word (codes "SCHEDULE")))
     (word (codes "TOPOLOGY"))

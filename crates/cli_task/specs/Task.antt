@@ -10,8 +10,6 @@ use Rattle.sm_cli.specs.declared.asked.Output.TheVariants.{Facts, Join, Plan, Or
 use Rattle.sm_cli.specs.declared.asked.RuleAsked.{RuleAsked}
 use Rattle.sm_cli.specs.declared.audit_asked.AuditAsked.{AuditAsked}
 use Rattle.sm_cli.specs.declared.serving.Serving.{Serving}
-use Rattle.sm_cli.specs.declared.step_asked.HeldOrder.{HeldOrder}
-use Rattle.sm_cli.specs.declared.step_asked.HeldOrder.TheVariants.{Ignored, NearNamed, NearPlan}
 use Rattle.sm_cli.specs.declared.step_asked.StepAsked.{StepAsked}
 use Rattle.cli_task.specs.declared.task.Task.{Task}
 use Rattle.cli_task.specs.declared.task.Task.TheVariants.{Answer, OrderOfTables, Audit, Next, Run, Serve}
@@ -28,22 +26,11 @@ audit_asked word = option_and_then (λ max_load. option_map (λ way. record {
   way = way;
 }) (way_asked (word (codes "way")))) (max_load_asked (word (codes "max-load")))
 
--- of the orders that the held tables imply, the one that a step may go by: if the second argument is true, the one
--- nearest to the order that a text names; otherwise, if `told` is true, the one nearest to the plan's order; otherwise
--- none
-abbrev pub held_order_asked : Bool → Bool → HeldOrder
-held_order_asked told true = NearNamed
-held_order_asked true false = NearPlan
-held_order_asked false false = Ignored
-
--- of the orders that the held tables imply, the one that the words let a step go by, or none
-abbrev pub held_order_of : (List ℕ → Option (List ℕ)) → HeldOrder
-held_order_of word = held_order_asked (is_set (word (codes "told-order"))) (is_some (word (codes "last-order")))
-
 -- the step that the words ask for; None if one of them is wrong
 abbrev pub step_asked : (List ℕ → Option (List ℕ)) → Option StepAsked
 step_asked word =
-    option_map (λ by. record { lmc = by.0; rule = by.1; held_order = held_order_of word }) (planning_asked word)
+    option_map (λ by. record { lmc = by.0; rule = by.1; has_last = is_some (word (codes "last-order")) })
+    (planning_asked word)
 
 -- the manager with this GUID, port, priority and SM_Key, which plans by the LMC and the rule of `by`; None if one of
 -- the four is None

@@ -1,7 +1,7 @@
 //! The task that the words of the command line ask for.
 ghost use Rattle.std.specs.Prelude.{◌≡◌, IfOk, codes, map, option_map};
 ghost use Rattle.clap.specs.Matches.{first_value, found_of, matched_of, raw_values};
-ghost use Rattle.cli_task.specs.Task.{answer_task, audit_asked, held_order_of, order_task, output_asked, step_asked};
+ghost use Rattle.cli_task.specs.Task.{answer_task, audit_asked, order_task, output_asked, step_asked};
 ghost use Rattle.cli_task.specs.Task.{task_asked, task_behind};
 ghost use Rattle.cli_task.specs.InputNames.{names_asked, names_in, rule_of_task};
 ghost use Rattle.cli_task.specs.Task.{serving_asked};
@@ -15,10 +15,10 @@ use attr_codec::Lmc;
 use clap::ArgMatches;
 use cli_arguments::argument_names::{
     ALL, AUDIT, FACTS, FILE, GUID, HELD, JOIN, LANES, LAST_ORDER, LOADS, NEXT, ORDER, PLAN, ROOTS,
-    RUN, SCHEDULE, SERVE, TABLES, TOLD_ORDER, TOPOLOGY,
+    RUN, SCHEDULE, SERVE, TABLES, TOPOLOGY,
 };
 use cli_arguments::is_set;
-use sm_cli::{AuditAsked, HeldOrder, Invocation, Output, RuleAsked, Serving, StepAsked};
+use sm_cli::{AuditAsked, Invocation, Output, RuleAsked, Serving, StepAsked};
 use smp_bytes::Generation;
 use std::alloc::{AllocError, Global};
 
@@ -145,19 +145,8 @@ fn step_of(words: &ArgMatches<'_>) -> Option<StepAsked>
     Some(StepAsked {
         lmc,
         rule,
-        held_order: held_order_of(words),
+        has_last: words.get_str(LAST_ORDER).is_some(),
     })
-}
-
-/// Returns which order a step may go by, as asked by `words`, which are those after a subcommand.
-fn held_order_of(words: &ArgMatches<'_>) -> HeldOrder
-    ensures { result ≡ held_order_of (first_value (found_of words.now)) }
-{
-    match words.get_str(LAST_ORDER) {
-        Some(_) => HeldOrder::NearNamed,
-        None if is_set(words, TOLD_ORDER) => HeldOrder::NearPlan,
-        None => HeldOrder::Ignored,
-    }
 }
 
 /// Returns the manager that is served, as asked by `words`, which are those after a subcommand. Returns `None` if one
@@ -285,7 +274,7 @@ fn texts_of<'a>(words: &ArgMatches<'a>, task: &Task) -> Option<ArrayVec<&'a str,
         Task::OrderOfTables => texts.push(words.get_str(HELD)?),
         Task::Audit(asked) => return texts_before_files(words, asked.lanes, LANES),
         Task::Next(asked) => {
-            return texts_before_files(words, asked.held_order.is_named(), LAST_ORDER);
+            return texts_before_files(words, asked.has_last, LAST_ORDER);
         }
         Task::Run(..) => {
             texts.push(words.get_str(TOPOLOGY)?);

@@ -6,7 +6,6 @@ use Rattle.std.specs.Borrow.{Bor}
 use Rattle.std.proofs.lemmas.List.{length-map}
 use Rattle.clap.specs.declared.parser.matches.ArgMatches.{ArgMatches}
 use Rattle.sm_cli.specs.Asked.{rule_for, texts_if}
-use Rattle.sm_cli.specs.StepAsked.{is_named}
 use Rattle.cli_arguments.specs.Words.{files_named, word_named}
 use Rattle.cli_task.specs.InputNames.{followed_by, names_asked, names_in, text_if, texts_asked, texts_before_files}
 use Rattle.cli_task.specs.InputNames.{texts_of_rule}
@@ -69,7 +68,7 @@ names_suffice word files (Next step) names e =
     let all = both_named (texts_of_rule word step.rule) (followed_by (texts_asked word (Next step)) files) names e in
     let texts = texts_counted word step.rule all.0 all.2 in
     let rest = both_named (texts_asked word (Next step)) files all.1 all.3 in
-    let own = texts_before_counted word (is_named step.held_order) (codes "last-order") rest.0 rest.2 in
+    let own = texts_before_counted word step.has_last (codes "last-order") rest.0 rest.2 in
     let count = all.4 in
     let others = rest.4 in omega arith
 names_suffice word files (Run lmc rule) names e =

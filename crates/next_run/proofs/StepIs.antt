@@ -50,18 +50,18 @@ pub stops : {A : Type 0} (result : Result A Fault) (Stops : Fault → Type 0) �
 stops (Ok a) Stops gives so = tt
 stops (Err fault) Stops gives so = subst Stops (sym gives) so
 
-module _ (lmc : ℕ) (told : Bool) (rule preferred : RuleValue) (facts : Facts) (held : HeldPlan) (plan : PlanValue)
+module _ (lmc : ℕ) (rule : RuleValue) (last : Option (List ℕ)) (facts : Facts) (held : HeldPlan) (plan : PlanValue)
     (is_plan : plan ≡ plan_of rule lmc (cells_of facts)) (from next : HeldPlan) (order : Option (List ℕ)) (is_from : from ≡ held)
-    (made : IsMade told rule preferred facts from (held_plan plan) next order) where
-  made_is : IsMade told rule preferred facts held (planned lmc rule facts) next order
+    (made : IsMade rule last facts from (held_plan plan) next order) where
+  made_is : IsMade rule last facts held (planned lmc rule facts) next order
   made_is =
-      subst (λ (x : HeldPlan × PlanValue). IsMade told rule preferred facts x.0 (held_plan x.1) next order) (λ i. (is_from i, is_plan i)) made
+      subst (λ (x : HeldPlan × PlanValue). IsMade rule last facts x.0 (held_plan x.1) next order) (λ i. (is_from i, is_plan i)) made
 
   pub step_is : (prints says : List ℕ → Type 0) (passed : Bool) (known : Facts) (cycle lids : List ℕ) → known ≡ facts
       → lid_fault (no_room lmc (cells_of facts)) ≡ None → first_moved from (held_plan plan) ≡ None
       → IsLoopInStep (cells_of facts) from next cycle lids → prints (next_text plan.given next)
       → says (loop_text (cells_of known) cycle lids ++ step_order_text order) → IsTrue passed ↔ (cycle ≡ [])
-      → IsStep lmc told rule preferred facts held prints says passed
+      → IsStep lmc rule last facts held prints says passed
   step_is prints says passed known cycle lids is_known room still found printed said judged = record {
     has_room = has_room lmc facts room;
     no_move = sym (λ i. first_moved (is_from i) (held_plan (is_plan i))) ∙ still;

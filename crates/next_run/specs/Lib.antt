@@ -1,9 +1,11 @@
+pub mod LastOrder
 pub mod LoopText
 pub mod NextRun
-pub mod PreferredRule
 pub mod StepLoops
 pub mod StepOrderText
+pub use Rattle.between_orders.specs.Agreement
 pub use Rattle.between_orders.specs.Between
 pub use Rattle.between_orders.specs.GoalLaws
 pub use Rattle.between_orders.specs.HandedStages
+pub use Rattle.between_orders.specs.Orders
 pub use Rattle.step_loops.specs.StepOrder

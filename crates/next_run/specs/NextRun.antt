@@ -28,9 +28,8 @@ use Rattle.sm_cli.specs.declared.input_orders.OrderAndTables.{OrderAndTables}
 use Rattle.sm_cli.specs.declared.fault.Fault.{Fault}
 use Rattle.sm_cli.specs.declared.fault.Fault.TheVariants.{NoRoom, Text, Write, Memory}
 use Rattle.sm_cli.specs.declared.text_fault.TextFault.TheVariants.{Moves}
-use Rattle.sm_cli.specs.StepAsked.{is_named, is_told}
 use Rattle.sm_cli.specs.declared.step_asked.StepAsked.{StepAsked}
-use Rattle.next_run.specs.PreferredRule.{preferred_rule}
+use Rattle.next_run.specs.LastOrder.{last_order, near_positions}
 use Rattle.next_run.specs.StepOrderText.{items_of, order_of_step, step_order_text, switches_by}
 use Rattle.next_run.specs.declared.step_choice.StepChoice.{StepChoice}
 
@@ -79,20 +78,19 @@ goal_or plan (Some goal) = goal
 abbrev pub next_by_choice : Cells → Choice → HeldPlan → HeldPlan → HeldPlan
 next_by_choice cells choice held plan = next_tables cells choice.by held (goal_or plan choice.goal)
 
--- the goal of a step by the order that the held tables imply; of several orders, the one nearest to `preferred`. None
--- if the step may not go by an implied order (the first argument is false), or if the held tables are right by the
--- plan's order (the second is true)
-abbrev pub IsGoalFrom : Bool → Bool → Cells → HeldPlan → HeldPlan → List ℕ → List ℕ → Option Goal → Type 0
-IsGoalFrom false right cells held plan positions preferred goal = goal ≡ None
-IsGoalFrom true true cells held plan positions preferred goal = goal ≡ None
-IsGoalFrom true false cells held plan positions preferred goal = IsGoal cells held plan positions preferred goal
+-- the goal of a step by an order that the held tables imply: of several such orders, by the one nearest to the
+-- positions `near`. None if the held tables are right by the plan's order (the first argument is true), or imply no
+-- order
+abbrev pub IsGoalFrom : Bool → Cells → HeldPlan → HeldPlan → List ℕ → List ℕ → Option Goal → Type 0
+IsGoalFrom true cells held plan positions near goal = goal ≡ None
+IsGoalFrom false cells held plan positions near goal = IsGoal cells held plan positions near goal
 
--- the goal of a step towards the plan of `facts` by `rule`, if the step may go by the order that the held tables imply
--- (`told`); of several orders it is the one nearest to the order of the rule `preferred`
-abbrev pub IsGoalOf : Bool → RuleValue → RuleValue → Facts → HeldPlan → HeldPlan → Option Goal → Type 0
-IsGoalOf told rule preferred facts held plan goal =
-    IsGoalFrom told (are_right (cells_of facts) (position_at (positions_by rule (cells_of facts))) held) (cells_of facts)
-    held plan (positions_by rule (cells_of facts)) (positions_by preferred (cells_of facts)) goal
+-- the goal of a step towards the plan of `facts` by `rule`, if of several orders that the held tables imply the one
+-- nearest to the order `last` is taken, which lists switches; for None, the one nearest to the plan's order
+abbrev pub IsGoalNear : RuleValue → Option (List ℕ) → Facts → HeldPlan → HeldPlan → Option Goal → Type 0
+IsGoalNear rule last facts held plan goal =
+    IsGoalFrom (are_right (cells_of facts) (position_at (positions_by rule (cells_of facts))) held) (cells_of facts)
+    held plan (positions_by rule (cells_of facts)) (near_positions (positions_by rule (cells_of facts)) (cells_of facts) last) goal
 
 -- the choice of a step: with a goal, it goes by the goal's order towards the goal's tables; without one, towards the
 -- plan
@@ -105,11 +103,11 @@ choice_by rule facts held (Some goal) = record {
 }
 
 -- `choice` says how a step chooses entries, which tables the step goes towards, and which order it goes by, if the held
--- tables imply that order. `told` says whether the step may go by an implied order
-pub record IsChoice (told : Bool) (rule preferred : RuleValue) (facts : Facts) (held plan : HeldPlan) (choice : Choice)
+-- tables imply that order: of several, the one nearest to `last` (`IsGoalNear`)
+pub record IsChoice (rule : RuleValue) (last : Option (List ℕ)) (facts : Facts) (held plan : HeldPlan) (choice : Choice)
     : Type 0 where
   pub goal : Option Goal
-  pub goal_is : IsGoalOf told rule preferred facts held plan goal
+  pub goal_is : IsGoalNear rule last facts held plan goal
   pub is : choice ≡ choice_by rule facts held goal
 
 -- the tables to write next, towards the goal's tables if there is a goal, otherwise towards `plan`
@@ -117,19 +115,44 @@ abbrev pub next_towards : RuleValue → Facts → HeldPlan → HeldPlan → Opti
 next_towards rule facts held plan None = next_tables (cells_of facts) (step_rule rule facts held) held plan
 next_towards rule facts held plan (Some goal) = next_tables (cells_of facts) (by_order goal.positions) held goal.tables
 
--- `next` are the tables to write next. `goal` is the goal of a step by the order that the held tables imply, and `told`
--- says whether the step may go by this order
-pub record IsNextStep (told : Bool) (rule preferred : RuleValue) (facts : Facts) (held plan : HeldPlan)
+-- `goal` is taken if the goal nearest to the order of the last step is `first`: it is `first`, unless a step towards
+-- `first` changes nothing. Then `goal` is the one nearest to the plan's order
+abbrev pub IsTaken : RuleValue → Facts → HeldPlan → HeldPlan → Option Goal → Option Goal → Type 0
+IsTaken rule facts held plan None goal = goal ≡ None
+IsTaken rule facts held plan (Some first) goal =
+    ((next_towards rule facts held plan (Some first) ≡ held → ⊥) × (goal ≡ Some first))
+    ⊎ ((next_towards rule facts held plan (Some first) ≡ held) × IsGoalNear rule None facts held plan goal)
+
+-- the goal of a step by an order that the held tables imply: if `last` is the order of the last step, as a list of
+-- switches, the goal nearest to it, as long as a step towards that goal changes something; otherwise the goal nearest
+-- to the plan's order. None if the held tables are right by the plan's order, or imply no order
+abbrev pub IsGoalOf : RuleValue → Option (List ℕ) → Facts → HeldPlan → HeldPlan → Option Goal → Type 0
+IsGoalOf rule None facts held plan goal = IsGoalNear rule None facts held plan goal
+IsGoalOf rule (Some last) facts held plan goal =
+    (first : Option Goal) × IsGoalNear rule (Some last) facts held plan first × IsTaken rule facts held plan first goal
+
+-- `next` are the tables to write next, and `goal` is the goal of a step by an order that the held tables imply. `last`
+-- is the order of the last step
+pub record IsNextStep (rule : RuleValue) (last : Option (List ℕ)) (facts : Facts) (held plan : HeldPlan)
     (goal : Option Goal) (next : HeldPlan) : Type 0 where
-  pub goal_is : IsGoalOf told rule preferred facts held plan goal
+  pub goal_is : IsGoalOf rule last facts held plan goal
   pub is : next ≡ next_towards rule facts held plan goal
+
+-- a step was made towards the goal nearest to the order `last`, or to the plan's for None: `next` are the tables to
+-- write next, and `order` has the switches in the order that the step goes by, if the held tables imply it
+pub record IsMadeNear (rule : RuleValue) (last : Option (List ℕ)) (facts : Facts) (held plan next : HeldPlan)
+    (order : Option (List ℕ)) : Type 0 where
+  pub goal : Option Goal
+  pub goal_is : IsGoalNear rule last facts held plan goal
+  pub is : next ≡ next_towards rule facts held plan goal
+  pub order_is : order ≡ order_of_step (cells_of facts) goal
 
 -- a step was made: `next` are the tables to write next, and `order` has the switches in the order that the step goes
 -- by, if the held tables imply it
-pub record IsMade (told : Bool) (rule preferred : RuleValue) (facts : Facts) (held plan next : HeldPlan)
+pub record IsMade (rule : RuleValue) (last : Option (List ℕ)) (facts : Facts) (held plan next : HeldPlan)
     (order : Option (List ℕ)) : Type 0 where
   pub goal : Option Goal
-  pub is_next : IsNextStep told rule preferred facts held plan goal next
+  pub is_next : IsNextStep rule last facts held plan goal next
   pub order_is : order ≡ order_of_step (cells_of facts) goal
 
 -- `text` was written, or the sink has failed
@@ -138,15 +161,14 @@ IsSaid written has_failed old new text = IsTrue (has_failed new) ⊎ Appends (wr
 
 -- the plan has room, and no LID moves. The step's text is printed, as `prints` says. A shortest credit loop that the
 -- step can make and its LIDs are printed, as `says` says, and so is the order that the step goes by, if the held tables
--- imply this order. `passed` says whether there is no such loop. `told` says whether the step may go by an order that
--- the held tables imply; of several, the step goes by the one nearest to the order of the rule `preferred`
-pub record IsStep (lmc : ℕ) (told : Bool) (rule preferred : RuleValue) (facts : Facts) (held : HeldPlan)
+-- imply this order. `passed` says whether there is no such loop. `last` is the order of the last step
+pub record IsStep (lmc : ℕ) (rule : RuleValue) (last : Option (List ℕ)) (facts : Facts) (held : HeldPlan)
     (prints says : List ℕ → Type 0) (passed : Bool) : Type 0 where
   pub has_room : no_room lmc (cells_of facts) ≡ None
   pub no_move : first_moved held (planned lmc rule facts) ≡ None
   pub goal : Option Goal
   pub next : HeldPlan
-  pub is_next : IsNextStep told rule preferred facts held (planned lmc rule facts) goal next
+  pub is_next : IsNextStep rule last facts held (planned lmc rule facts) goal next
   pub written : prints (text_of_step lmc rule facts next)
   pub cycle : List ℕ
   pub lids : List ℕ
@@ -185,18 +207,17 @@ StopsStep at lmc rule facts held sink_failed fault = ⊥
 -- the reader of the inputs after the text that the rule takes: the text of an order, if it is asked for, the tables and
 -- the files
 abbrev pub reader_of : {S : Type 0} → (S → SourceState) → StepAsked → Reader S OrderAndTables
-reader_of state asked = step_reader state (is_named asked.held_order)
+reader_of state asked = step_reader state asked.has_last
 
 -- the number of texts that a step reads before the tables
 abbrev pub texts_before : StepAsked → ℕ
-texts_before asked = texts_for asked.rule + texts_if (is_named asked.held_order)
+texts_before asked = texts_for asked.rule + texts_if asked.has_last
 
 -- the step that is asked for, made from what the inputs say, is printed as `prints` and `says` say (`IsStep`).
 -- `passed` says whether the step can make no credit loop
 abbrev pub IsStepOf : StepAsked → RuleValue → OrderAndTables → (List ℕ → Type 0) → (List ℕ → Type 0) → Bool → Type 0
 IsStepOf asked rule told prints says passed =
-    IsStep asked.lmc (is_told asked.held_order) rule (preferred_rule asked.held_order rule told.order.items)
-    told.read.store told.read.held prints says passed
+    IsStep asked.lmc rule (last_order asked.has_last told.order.items) told.read.store told.read.held prints says passed
 
 -- the inputs were read, and the step that is asked for was made and written. The inputs are the text that the rule
 -- takes, the text of an order, if it is asked for, the tables and the files

@@ -4,6 +4,7 @@
 
 mod loop_text;
 mod next_run;
+mod same_tables;
 mod step_choice;
 mod step_order_text;
 

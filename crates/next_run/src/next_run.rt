@@ -2,12 +2,11 @@
 ghost use Rattle.std.specs.Prelude.{◌≡◌, ◌⊎◌, ◌+◌, ◌++◌, ◌≤◌, Err, IfErr, IfOk, IsTrue, None, OnErr, OnOk, false};
 ghost use Rattle.std.specs.Prelude.{length};
 ghost use Rattle.std.specs.Io.KnownBytes.{Appends};
-ghost use Rattle.std.specs.Option.{option_map};
 ghost use Rattle.fact_store.specs.View.{cells_of};
-ghost use Rattle.lft_blocks.specs.Rule.{RuleValue, value_of};
+ghost use Rattle.lft_blocks.specs.Rule.{value_of};
 ghost use Rattle.byte_io.specs.WritesPart.{WritesPart};
-ghost use Rattle.next_run.specs.PreferredRule.{preferred_rule, rule_or};
-ghost use Rattle.next_run.specs.NextRun.{HasStepped, IsMade, IsSaid, IsStepFault, IsStepOf, StopsNext};
+ghost use Rattle.next_run.specs.LastOrder.{last_order};
+ghost use Rattle.next_run.specs.NextRun.{HasStepped, IsMade, IsMadeNear, IsSaid, IsStepFault, IsStepOf, StopsNext};
 ghost use Rattle.next_run.specs.NextRun.{StopsStep, choice_of, fault_of_step, goal_or, next_by_choice, texts_before};
 ghost use Rattle.next_run.specs.LoopText.{loop_text};
 ghost use Rattle.next_run.specs.StepLoops.{IsLoopInStep};
@@ -17,17 +16,16 @@ ghost use Rattle.next_tables.specs.NextTables.{value_of as chosen_of};
 ghost use Rattle.plan_tables.specs.PlanTables.{held_plan};
 
 use crate::loop_text::StepLoop;
+use crate::same_tables::are_same_tables;
 use crate::step_choice::{StepChoice, step_choice};
 use crate::step_order_text::write_step_order;
 use byte_io::{Sink, Source, WriteFault};
 use held_tables::{Held, Subnet};
-use lft_blocks::{Plan, Rule, SwitchOrder};
+use lft_blocks::{Plan, Rule};
 use next_tables::{StepFault, StepRule, next_tables};
 use packet_walks::Network;
 use plan_tables::held_plan;
-use sm_cli::{
-    Fault, HeldOrder, OrderAndTables, StepAsked, StepReader, TextFault, read_inputs, texts_if,
-};
+use sm_cli::{Fault, OrderAndTables, StepAsked, StepReader, TextFault, read_inputs, texts_if};
 use smp_bytes::Guid;
 use std::alloc::{AllocError, Global};
 use tables_file::write_next;
@@ -42,14 +40,14 @@ struct MadeStep {
     order: Option<Vec<Guid>>,
 }
 
-/// Reads the inputs in order (`read_inputs`): the text that the rule takes, the text of an order, if it is asked for,
-/// then the text of the held tables and the files. There must be an input for each text. Writes to `sink` the tables to
-/// write next, towards the plan of the subnet that the files describe together.
+/// Reads the inputs in order (`read_inputs`): the text that the rule takes, the text with the order of the last step,
+/// if there is one, then the text of the held tables and the files. There must be an input for each text. Writes to
+/// `sink` the tables to write next, towards the plan of the subnet that the files describe together.
 ///
 /// Writes to `told` what can happen while these tables are written, under any mixtures of the held and the next
 /// tables: a shortest credit loop and its LIDs, or that there is no credit loop. If the step goes towards a goal in
-/// between, the last lines have the switches in the order that the step goes by, one on each line. Returns whether there is no credit loop. A
-/// failed write to `told` is not an error.
+/// between, the last lines have the switches in the order that the step goes by, one on each line. Returns whether
+/// there is no credit loop. A failed write to `told` is not an error.
 ///
 /// # Errors
 ///
@@ -77,7 +75,7 @@ pub fn run_next<S: Source, W: Sink, E: Sink>(
     ensures nothing_told { OnErr result (told.new ≡ told.old) }
 {
     let reader = StepReader {
-        has_order: asked.held_order.is_named(),
+        has_order: asked.has_last,
     };
     match read_inputs(alloc, asked.rule, &reader, inputs) {
         Ok((rule, found)) => step(alloc, asked, &rule, &found, sink, told),
@@ -89,7 +87,7 @@ pub fn run_next<S: Source, W: Sink, E: Sink>(
 fn texts_before(asked: StepAsked) -> usize
     ensures { result ≡ texts_before asked }
 {
-    asked.rule.texts() + texts_if(asked.held_order.is_named())
+    asked.rule.texts() + texts_if(asked.has_last)
 }
 
 /// Writes to `sink` the step that `asked` asks for, from `found`, what the inputs say, towards the plan by `rule`.
@@ -114,7 +112,6 @@ fn step<W: Sink, E: Sink>(
 {
     let read = &found.read;
     let lmc = asked.lmc;
-    let by_told = asked.held_order.is_told();
     let plan = Plan::of(alloc, &read.store, lmc, rule)?;
     let Ok(subnet) = Subnet::of(alloc, &read.store) else {
         return Err(Fault::Memory);
@@ -122,11 +119,11 @@ fn step<W: Sink, E: Sink>(
     let Ok(from) = Network::of(alloc, &subnet, &read.held) else {
         return Err(Fault::Memory);
     };
-    let Ok(named) = named_rule(alloc, asked.held_order, &found.order) else {
+    let Ok(last) = last_order(alloc, asked.has_last, &found.order) else {
         return Err(Fault::Memory);
     };
     let input = texts_before(asked);
-    let made = match made_step(alloc, input, by_told, rule, &named, &from, &plan) {
+    let made = match made_step(alloc, input, rule, &last, &from, &plan) {
         Ok(made) => made,
         Err(fault) => return Err(fault),
     };
@@ -138,24 +135,18 @@ fn step<W: Sink, E: Sink>(
     Ok(cycle.is_none())
 }
 
-/// Returns the rule that spreads in the order of `switches`, which a text names, or `None` if `held_order` is not
-/// `NearNamed`.
-fn named_rule(
+/// Returns `switches` if `has_last` is true, or `None`.
+fn last_order(
     alloc: Global,
-    held_order: HeldOrder,
+    has_last: bool,
     switches: &[Guid],
-) -> Result<Option<Rule>, AllocError>
-    ensures { IfOk result (λ named. (rule : RuleValue)
-        → preferred_rule held_order rule switches.now ≡ rule_or rule (option_map value_of named)) }
+) -> Result<Option<Vec<Guid>>, AllocError>
+    ensures { IfOk result (λ last. items_of last ≡ last_order has_last switches.now) }
 {
-    match held_order {
-        HeldOrder::Ignored | HeldOrder::NearPlan => Ok(None),
-        HeldOrder::NearNamed => {
-            let switches = Vec::from_slice(alloc, switches)?;
-            Ok(Some(Rule::Spread {
-                order: SwitchOrder::AsNamed { switches },
-            }))
-        }
+    if has_last {
+        Ok(Some(Vec::from_slice(alloc, switches)?))
+    } else {
+        Ok(None)
     }
 }
 
@@ -185,22 +176,20 @@ fn write_loop_and_order<E: Sink>(
     write_step_order(told, order)
 }
 
-/// Makes the step from the tables of the network `from` towards `plan`, which is meant to be the plan by `rule`.
-/// `told` says whether the step may go by an order that the tables of `from` imply. Of several such orders, the step
-/// goes by the one nearest to the order of `named`, or to the order of `rule` if `named` is `None`. Returns a fault
-/// of the input `input`, the held tables' text, if a LID moves, or `Memory` if memory is refused.
+/// Makes the step from the tables of the network `from` towards `plan`, which is meant to be the plan by `rule`. If the
+/// step goes by an order that the tables imply, it takes the one nearest to the order `last`, as long as that changes
+/// something. Otherwise, and if `last` is `None`, it takes the one nearest to the order of `rule`. Returns a fault of
+/// the input `input`, the held tables' text, if a LID moves, or `Memory` if memory is refused.
 fn made_step(
     alloc: Global,
     input: usize,
-    told: bool,
     rule: &Rule,
-    named: &Option<Rule>,
+    last: &Option<Vec<Guid>>,
     from: &Network,
     plan: &Plan,
 ) -> Result<MadeStep, Fault>
-    ensures made { IfOk result (λ made. IsMade told (value_of rule.now)
-        (rule_or (value_of rule.now) (option_map value_of named.now)) from.now.facts from.now.held (held_plan plan.now)
-        made.next (items_of made.order)) }
+    ensures made { IfOk result (λ made. IsMade (value_of rule.now) (items_of last.now) from.now.facts from.now.held
+        (held_plan plan.now) made.next (items_of made.order)) }
     ensures still { OnOk result (first_moved from.now.held (held_plan plan.now) ≡ None) }
     ensures refused { IfErr result (StopsNext input from.now.held (held_plan plan.now)) }
 {
@@ -210,10 +199,38 @@ fn made_step(
     let Ok(to) = Network::of(alloc, from.subnet(), &planned) else {
         return Err(Fault::Memory);
     };
-    let Ok(choice) = step_choice(alloc, told, rule, named, from, &to) else {
+    let made = match step_near(alloc, input, rule, last, from, &to) {
+        Ok(made) => made,
+        Err(fault) => return Err(fault),
+    };
+    if last.is_some() && made.order.is_some() && are_same_tables(&made.next, from.held()) {
+        return step_near(alloc, input, rule, &None, from, &to);
+    }
+    Ok(made)
+}
+
+/// Makes the step from the tables of the network `from` towards the tables of the network `plan`, which are meant to be
+/// those of the plan by `rule`. Both networks must have the same facts. If the step goes by an order that the tables of
+/// `from` imply, it takes the one nearest to the order `last`, or to the order of `rule` if `last` is `None`. Returns a
+/// fault of the input `input`, the held tables' text, if a LID moves, or `Memory` if memory is refused.
+fn step_near(
+    alloc: Global,
+    input: usize,
+    rule: &Rule,
+    last: &Option<Vec<Guid>>,
+    from: &Network,
+    plan: &Network,
+) -> Result<MadeStep, Fault>
+    requires { plan.now.facts ≡ from.now.facts }
+    ensures made { IfOk result (λ made. IsMadeNear (value_of rule.now) (items_of last.now) from.now.facts from.now.held
+        plan.now.held made.next (items_of made.order)) }
+    ensures still { OnOk result (first_moved from.now.held plan.now.held ≡ None) }
+    ensures refused { IfErr result (StopsNext input from.now.held plan.now.held) }
+{
+    let Ok(choice) = step_choice(alloc, rule, last, from, plan) else {
         return Err(Fault::Memory);
     };
-    let next = match next_by_choice(alloc, input, &choice, from, &to) {
+    let next = match next_by_choice(alloc, input, &choice, from, plan) {
         Ok(next) => next,
         Err(fault) => return Err(fault),
     };

@@ -5,8 +5,9 @@ ghost use Rattle.fact_store.specs.View.{cells_of};
 ghost use Rattle.lft_blocks.specs.Rule.{value_of};
 ghost use Rattle.subnet_view.specs.Reading.{switches};
 ghost use Rattle.between_orders.specs.Between.{goal_of};
-ghost use Rattle.next_run.specs.PreferredRule.{preferred_positions, rule_or};
+ghost use Rattle.next_run.specs.LastOrder.{near_positions};
 ghost use Rattle.next_run.specs.NextRun.{IsChoice, IsGoalFrom, choice_of};
+ghost use Rattle.next_run.specs.StepOrderText.{items_of};
 
 use crate::step_order_text::switches_by;
 use between_orders::{StepGoal, are_right, between};
@@ -15,9 +16,9 @@ use held_tables::Held;
 use lft_blocks::Rule;
 use next_tables::StepRule;
 use packet_walks::Network;
-use plan_order::plan_positions;
+use plan_order::{plan_positions, positions_named};
 use smp_bytes::Guid;
-use std::alloc::Global;
+use std::alloc::{AllocError, Global};
 
 /// How a step chooses entries, and which tables it goes towards.
 #[derive(Drop)]
@@ -34,22 +35,20 @@ pub(crate) struct StepChoice {
 /// Returns how a step from the tables of `from` towards the tables of `plan` chooses entries. Both networks must have
 /// the same facts. `plan` is meant to have the tables of the plan by `rule`.
 ///
-/// The step goes by the order of the plan's switches if the tables of `from` are right by it. Otherwise, if `told` is
-/// true and these tables imply an order, the step goes by that order, towards the goal in between. Of several implied
-/// orders, the step takes the one nearest to the order of `named`, or to the order of `rule` if `named` is `None`. If
-/// `told` is false or the tables imply no order, the step goes by settled entries.
+/// The step goes by the order of the plan's switches if the tables of `from` are right by it. Otherwise, if these
+/// tables imply an order, the step goes by that order, towards the goal in between. Of several implied orders, the step
+/// takes the one nearest to the order `last`, or to the order of `rule` if `last` is `None`. If the tables imply no
+/// order, the step goes by settled entries.
 pub(crate) fn step_choice(
     alloc: Global,
-    told: bool,
     rule: &Rule,
-    named: &Option<Rule>,
+    last: &Option<Vec<Guid>>,
     from: &Network,
     plan: &Network,
 ) -> Result<StepChoice, Refused>
     requires { plan.now.facts ≡ from.now.facts }
-    ensures { IfOk result (λ choice. IsChoice told (value_of rule.now)
-        (rule_or (value_of rule.now) (option_map value_of named.now)) from.now.facts from.now.held plan.now.held
-        (choice_of choice)) }
+    ensures { IfOk result (λ choice. IsChoice (value_of rule.now) (items_of last.now) from.now.facts from.now.held
+        plan.now.held (choice_of choice)) }
 {
     let positions = plan_positions(alloc, from.subnet().store(), rule)?;
     if are_right(alloc, from, &positions)? {
@@ -59,7 +58,7 @@ pub(crate) fn step_choice(
             order: None,
         });
     }
-    match goal_between(alloc, told, named, from, plan, &positions)? {
+    match goal_near(alloc, last, from, plan, &positions)? {
         Some(StepGoal { positions, tables }) => {
             let switches = switches_by(alloc, from, &positions)?;
             Ok(StepChoice {
@@ -77,31 +76,41 @@ pub(crate) fn step_choice(
 }
 
 /// Returns the goal in between of a step by an order that the tables of `from` imply. Of several implied orders, the
-/// step takes the one nearest to the order of `named`, or to that of `positions` if `named` is `None`. Returns `None`
-/// if `told` is false or the tables imply no order. Both networks must have the same facts. `positions` must have a
-/// position for each usable switch.
-fn goal_between(
+/// step takes the one nearest to the order `last`, or to that of `positions` if `last` is `None`. Returns `None` if the
+/// tables imply no order. Both networks must have the same facts. `positions` must have a position for each usable
+/// switch.
+fn goal_near(
     alloc: Global,
-    told: bool,
-    named: &Option<Rule>,
+    last: &Option<Vec<Guid>>,
     from: &Network,
     plan: &Network,
     positions: &[usize],
 ) -> Result<Option<StepGoal>, Refused>
     requires plan { plan.now.facts ≡ from.now.facts }
     requires positions { length positions.now ≡ length (switches (cells_of from.now.facts)) }
-    ensures { IfOk result (λ found. IsGoalFrom told false (cells_of from.now.facts) from.now.held plan.now.held
-        positions.now (preferred_positions positions.now (cells_of from.now.facts) (option_map value_of named.now))
-        (option_map goal_of found)) }
+    ensures { IfOk result (λ found. IsGoalFrom false (cells_of from.now.facts) from.now.held plan.now.held positions.now
+        (near_positions positions.now (cells_of from.now.facts) (items_of last.now)) (option_map goal_of found)) }
 {
-    if !told {
-        return Ok(None);
-    }
-    match named {
-        Some(rule) => {
-            let preferred = plan_positions(alloc, from.subnet().store(), rule)?;
-            between(alloc, from, plan, positions, &preferred)
-        }
-        None => between(alloc, from, plan, positions, positions),
+    let near = near_positions(alloc, positions, from, last)?;
+    between(alloc, from, plan, positions, &near)
+}
+
+/// Returns the position of each usable switch, in ascending order of GUID, in the order `last`, or `positions` if
+/// `last` is `None`. A switch that `last` does not have gets the length of `last`. `positions` must have a position for
+/// each usable switch.
+fn near_positions(
+    alloc: Global,
+    positions: &[usize],
+    network: &Network,
+    last: &Option<Vec<Guid>>,
+) -> Result<Vec<usize>, AllocError>
+    requires { length positions.now ≡ length (switches (cells_of network.now.facts)) }
+    ensures near { IfOk result (λ near. near.items
+        ≡ near_positions positions.now (cells_of network.now.facts) (items_of last.now)) }
+    ensures all { IfOk result (λ near. length near.items ≡ length (switches (cells_of network.now.facts))) }
+{
+    match last {
+        Some(switches) => positions_named(alloc, switches, network.subnet().switches()),
+        None => Vec::from_slice(alloc, positions),
     }
 }

@@ -5,5 +5,5 @@ mod positions;
 mod rank_positions;
 mod switches;
 
-pub use positions::plan_positions;
+pub use positions::{plan_positions, positions_named};
 pub use switches::plan_switches;

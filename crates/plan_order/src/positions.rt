@@ -47,12 +47,12 @@ fn by_spread(alloc: Global, wires: &Wires, order: &SwitchOrder) -> Result<Vec<us
     let graph = SwitchGraph::of(alloc, wires)?;
     let adapters = adapters_of(alloc, wires, graph.switches())?;
     let ordered = switches_in_order(alloc, &graph, &adapters, order)?;
-    Ok(positions_in(alloc, &ordered, graph.switches())?)
+    Ok(positions_named(alloc, &ordered, graph.switches())?)
 }
 
 /// Returns the position of each of `switches` in the list `ordered`, or the length of `ordered` for a switch that is
-/// not there.
-fn positions_in(
+/// not there. Takes time linear in the product of both lengths.
+pub fn positions_named(
     alloc: Global,
     ordered: &[Guid],
     switches: &[Guid],

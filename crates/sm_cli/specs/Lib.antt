@@ -12,6 +12,5 @@ pub mod OrderText
 pub mod Run
 pub mod RunLaws
 pub mod Sources
-pub mod StepAsked
 pub mod SwitchLists
 pub mod TextFault

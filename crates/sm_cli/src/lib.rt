@@ -31,5 +31,5 @@ pub use inputs::{InputReader, read_inputs};
 pub use order_text::write_order;
 pub use run::run_files;
 pub use serving::Serving;
-pub use step_asked::{HeldOrder, StepAsked};
+pub use step_asked::StepAsked;
 pub use text_fault::TextFault;

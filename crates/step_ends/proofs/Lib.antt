@@ -1,11 +1,14 @@
 pub mod Alone
+pub mod Calls
 pub mod Ended
+pub mod HandedOrder
 pub mod Last
 pub mod NoLoop
 pub mod OneStep
 pub mod OrderedLast
 pub mod Own
 pub mod Reached
+pub mod SpreadOrders
 pub mod Steps
 pub mod Texts
 pub mod WholePlans

@@ -19,10 +19,11 @@ use Rattle.next_run.specs.Between.{Goal, IsGoal}
 use Rattle.next_run.specs.GoalLaws.{next_towards as next_to}
 use Rattle.next_run.proofs.Safe.{goals_are_safe}
 use Rattle.ordered_steps.proofs.Waits.{numbers_rise_by_order}
-use Rattle.next_run.specs.NextRun.{IsGoalFrom, stepped}
+use Rattle.next_run.specs.NextRun.{stepped}
 use Rattle.plan_tables.specs.PlanTables.{planned}
 use Rattle.next_run.specs.StepLoops.{IsCycleInStep}
 use Rattle.step_ends.specs.StepLaws.{IsFreeByTold, RightTablesMakeNoLoop, ToldStepsMakeNoLoop}
+use Rattle.step_ends.proofs.OneStep.{goal_implied}
 
 module _ (cells : Cells) (held next : HeldPlan) (numbers : List ℕ) (rise : RiseInStep cells held next numbers) where
   abbrev at : ℕ → ℕ
@@ -69,13 +70,7 @@ free_by_told facts held plan by preferred goal is =
     }
 
 pub told_steps_make_no_loop : ToldStepsMakeNoLoop
-told_steps_make_no_loop rule preferred lmc facts held goal is =
-    let positions = positions_by rule (cells_of facts) in
-    by_test (are_right (cells_of facts) (position_at positions) held) is
-  where
-    by_test : (b : Bool)
-        → IsGoalFrom true b (cells_of facts) held (planned lmc rule facts) (positions_by rule (cells_of facts)) (positions_by preferred (cells_of facts))
-        (Some goal)
-        → IsFreeByTold facts held (next_to facts held goal) goal
-    by_test true is = absurd (cc)
-    by_test false is = free_by_told facts held (planned lmc rule facts) (positions_by rule (cells_of facts)) (positions_by preferred (cells_of facts)) goal is
+told_steps_make_no_loop rule last lmc facts held goal is =
+    let plan = planned lmc rule facts in
+    let own = goal_implied rule facts held plan last goal is in
+    free_by_told facts held plan (positions_by rule (cells_of facts)) own.near goal own.is

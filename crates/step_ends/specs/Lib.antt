@@ -1,3 +1,4 @@
+pub mod Calls
 pub mod StepEnds
 pub mod StepLaws
 pub mod WholePlans

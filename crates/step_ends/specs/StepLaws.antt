@@ -1,5 +1,5 @@
 -- What a step of whole tables gives: only one result and, if it goes by an order, no credit loop.
-use Rattle.std.specs.Prelude.{◌≡◌, ℕ, Bool, true, List, [], Option, Some}
+use Rattle.std.specs.Prelude.{◌≡◌, ℕ, true, List, [], Option, Some}
 use Rattle.fact_store.specs.View.{Facts, cells_of, AreInRange}
 use Rattle.lid_assign.specs.Lids.{IsNoRoom, lids}
 use Rattle.lft_blocks.specs.Rule.{RuleValue}
@@ -30,10 +30,10 @@ RightTablesMakeNoLoop =
 -- equal sets of facts, options, held tables and plans give equal goals and equal next tables
 abbrev pub StepsHaveOneResult : Type 0
 StepsHaveOneResult =
-    (told : Bool) (rule preferred : RuleValue) (facts : Facts) (held plan : HeldPlan)
-    (goal other_goal : Option Goal) (next other : HeldPlan)
-    → IsNextStep told rule preferred facts held plan goal next
-    → IsNextStep told rule preferred facts held plan other_goal other → (goal ≡ other_goal) × (next ≡ other)
+    (rule : RuleValue) (last : Option (List ℕ)) (facts : Facts) (held plan : HeldPlan) (goal other_goal : Option Goal)
+    (next other : HeldPlan)
+    → IsNextStep rule last facts held plan goal next → IsNextStep rule last facts held plan other_goal other
+    → (goal ≡ other_goal) × (next ≡ other)
 
 -- the step from `held` to `next` makes no credit loop, and `next` is right by the first order of `goal`
 pub record IsFreeByTold (facts : Facts) (held next : HeldPlan) (goal : Goal) : Type 0 where
@@ -44,6 +44,6 @@ pub record IsFreeByTold (facts : Facts) (held next : HeldPlan) (goal : Goal) : T
 -- orders
 abbrev pub ToldStepsMakeNoLoop : Type 0
 ToldStepsMakeNoLoop =
-    (rule preferred : RuleValue) (lmc : ℕ) (facts : Facts) (held : HeldPlan) (goal : Goal)
-    → IsGoalOf true rule preferred facts held (planned lmc rule facts) (Some goal)
+    (rule : RuleValue) (last : Option (List ℕ)) (lmc : ℕ) (facts : Facts) (held : HeldPlan) (goal : Goal)
+    → IsGoalOf rule last facts held (planned lmc rule facts) (Some goal)
     → IsFreeByTold facts held (next_towards rule facts held (planned lmc rule facts) (Some goal)) goal

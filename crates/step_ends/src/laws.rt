@@ -1,4 +1,5 @@
 //! The laws of repeated steps: how they end, and that an order of switches keeps them free of credit loops.
+ghost use Rattle.step_ends.specs.Calls.{CallsComeToFollow, CallsMakeNoLoop, FollowingCallsEnd, SpreadOrdersGrow};
 ghost use Rattle.step_ends.specs.StepEnds.{LastTextIsThePlans, PlansDeliverWhatTablesCan, PrintedStepsEnd};
 ghost use Rattle.step_ends.specs.StepEnds.{StepsEnd};
 ghost use Rattle.step_ends.specs.StepLaws.{RightTablesMakeNoLoop, StepsHaveOneResult};
@@ -39,17 +40,17 @@ pub fn told_steps_make_no_loop()
     ensures law { ToldStepsMakeNoLoop }
 {}
 
-/// If there is room for the LIDs, then after enough steps with the same facts, LMC and rule, and without
-/// `--told-order` and `--last-order`, `next` prints what it was given, byte for byte. This is so even if LIDs are new
-/// or gone, or entries lead nowhere. If n is at least 2 and no route of the plan passes more than n switches, n + 2m
+/// If there is room for the LIDs, then after enough steps with the same facts, LMC and rule, none of which goes by an
+/// order that the held tables imply, `next` prints what it was given, byte for byte. This is so even if LIDs are new or
+/// gone, or entries lead nowhere. If n is at least 2 and no route of the plan passes more than n switches, n + 2m
 /// + 2 steps are enough, where m is the number of usable switches.
 pub fn printed_steps_end()
     ensures law { PrintedStepsEnd }
 {}
 
 /// If there is room for the LIDs, at least one end port has a LID, and no usable switch has, in the tables at the
-/// start, a top above the greatest LID of the plan, then after enough steps without `--told-order` and
-/// `--last-order`, `next` prints what `plan` prints.
+/// start, a top above the greatest LID of the plan, then after enough steps, none of which goes by an order that the
+/// held tables imply, `next` prints what `plan` prints.
 pub fn last_text_is_the_plans()
     ensures law { LastTextIsThePlans }
 {}
@@ -59,7 +60,7 @@ pub fn ways_meet_at_most_all()
     ensures law { WaysMeetAtMostAll }
 {}
 
-/// The plan of a view with room is whole, as `handed_steps_end`, `stages_stay_whole` and `stages_are_few`
+/// The plan of a view with room is whole, as `handed_steps_end`, `stages_make_whole` and `stages_are_few`
 /// (`between_orders`) require.
 pub fn plans_are_whole()
     ensures law { PlansAreWhole }
@@ -69,4 +70,31 @@ pub fn plans_are_whole()
 /// has a LID in the plan of a view with room.
 pub fn plans_give_own_lids()
     ensures law { PlansGiveOwnLids }
+{}
+
+/// One of the first (n - 1) * (2n + 3) calls of `next`, or the one after them, where n is the number of switches, is
+/// given tables that are right by the order of the plan's switches. Each call is given the tables that the one before
+/// made, and as `--last-order` the order that it told. Four conditions: there is room for the LIDs; the first tables
+/// imply an order, and are right by the order that grows by it; the order of the plan's switches grows; and the port
+/// GUID of port 0 of each usable switch is known.
+pub fn calls_come_to_follow()
+    ensures law { CallsComeToFollow }
+{}
+
+/// From a call on whose tables are right by the order of the plan's switches, all calls go by that order, and after
+/// enough of them a call changes nothing. There must be room for the LIDs.
+pub fn following_calls_end()
+    ensures law { FollowingCallsEnd }
+{}
+
+/// No call of `next` makes a credit loop in any mixture of the tables that it is given and those that it makes, if the
+/// tables of the first call imply an order, or are right by the order of the plan's switches, and there is room for
+/// the LIDs. Each call is given the tables that the one before made, and as `--last-order` the order that it told.
+pub fn calls_make_no_loop()
+    ensures law { CallsMakeNoLoop }
+{}
+
+/// The order of the switches by which a rule that spreads plans grows, whatever the order is grown by.
+pub fn spread_orders_grow()
+    ensures law { SpreadOrdersGrow }
 {}

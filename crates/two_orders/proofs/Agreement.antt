@@ -11,7 +11,8 @@ use Rattle.port_graph.specs.Heads.{LeadToVertices, edges_at, heads}
 use Rattle.port_graph.proofs.Indexing.{edges_below}
 use Rattle.port_graph.proofs.Lists.{contains_map, contains_mapped}
 use Rattle.spread_labels.specs.KeyOrder.{before_by, key_at, key_less}
-use Rattle.spread_labels.specs.Orders.{AreEarlier, Beside, IsEarlier, IsGrownOrder, at_position, position_of}
+use Rattle.spread_labels.specs.Orders.{AreEarlier, Beside, IsEarlier, IsGrownOrder, at_position, order, position_of}
+use Rattle.spread_labels.specs.declared.key_order.VertexKey.{VertexKey}
 use Rattle.spread_labels.proofs.ByPositions.{position_at, position_less}
 use Rattle.spread_labels.proofs.Earliest.{keys_in_words}
 use Rattle.spread_labels.proofs.Growing.{contains_at, earliest_there, is_grown_order}
@@ -174,9 +175,13 @@ are_vertices edges vertices is n many = record {
   once = is.once;
 }
 
+pub ordered_are_vertices : (edges : List (List Edge)) → LeadToVertices edges → (keys : List VertexKey)
+    → AreVertices (length edges) (order edges (before_by keys))
+ordered_are_vertices edges lead keys =
+    are_vertices edges (order edges (before_by keys)) (is_grown_order edges lead (before_by keys)) (length edges) refl
+
 pub grown_are_vertices : (edges : List (List Edge)) → LeadToVertices edges → (positions : List ℕ) → AreVertices (length edges) (grown_by edges positions)
-grown_are_vertices edges lead positions =
-    are_vertices edges (grown_by edges positions) (is_grown_order edges lead (before_by (map key_of positions))) (length edges) refl
+grown_are_vertices edges lead positions = ordered_are_vertices edges lead (map key_of positions)
 
 -- the tree ------------------------------------------------------------------------------------
 
@@ -219,16 +224,16 @@ placed_alike P Q all others i from same to x h =
       | inr k ↦ subst (λ (y : ℕ). Contains others y) (sym (same k.0 k.1) ∙ k.2) (to k.0 k.1)
     ]
 
-module _ (edges : List (List Edge)) (lead : LeadToVertices edges) (plan told : List ℕ) (k : ℕ)
-    (agreed : AgreesUpTo (grown_by edges plan) (number_at told) k) where
+module _ (edges : List (List Edge)) (lead : LeadToVertices edges) (keys : List VertexKey) (told : List ℕ) (k : ℕ)
+    (agreed : AgreesUpTo (order edges (before_by keys)) (number_at told) k) where
   abbrev P : List ℕ
-  P = grown_by edges plan
+  P = order edges (before_by keys)
 
   abbrev by_plan : ℕ → ℕ → Bool
-  by_plan = before_by (map key_of plan)
+  by_plan = before_by keys
 
   p : AreVertices (length edges) P
-  p = grown_are_vertices edges lead plan
+  p = ordered_are_vertices edges lead keys
 
   abbrev Q : List ℕ
   Q = grown_by edges told
@@ -240,7 +245,7 @@ module _ (edges : List (List Edge)) (lead : LeadToVertices edges) (plan told : L
   by_told = before_by (map key_of told)
 
   in_p : (i j : ℕ) → i < j → j < length P → Chosen edges by_plan [] P i j
-  in_p i j less within = chosen edges by_plan P [] (keys_in_words edges by_plan lead (keys_tell_apart (map key_of plan))) i j less within
+  in_p i j less within = chosen edges by_plan P [] (keys_in_words edges by_plan lead (keys_tell_apart keys)) i j less within
 
   in_q : (i j : ℕ) → i < j → j < length Q → Chosen edges by_told [] Q i j
   in_q i j less within = chosen edges by_told Q [] (keys_in_words edges by_told lead (keys_tell_apart (map key_of told))) i j less within
@@ -260,7 +265,7 @@ module _ (edges : List (List Edge)) (lead : LeadToVertices edges) (plan told : L
       let not_so = turned.alone (λ e. no_edge (a.earlier.front (e.0, e.1, back e.0.to e.2)).0) in
       absurd (cc)
 
-  pub stays : AgreesUpTo (grown_by edges plan) (number_at (positions_in (grown_by edges told) (length edges))) k
+  pub stays : AgreesUpTo (order edges (before_by keys)) (number_at (positions_in (grown_by edges told) (length edges))) k
   stays = agree (length edges) P Q p q k never_differ
 
   -- with agreement on all vertices it is the same order
@@ -273,13 +278,13 @@ module _ (edges : List (List Edge)) (lead : LeadToVertices edges) (plan told : L
   T = tree edges told
 
   abbrev R : List ℕ
-  R = grown_by (tree edges told) plan
+  R = order (tree edges told) (before_by keys)
 
   r : AreVertices (length edges) R
   r = are_vertices T R (is_grown_order T (tree_leads edges told lead) by_plan) (length edges) (sym (tree_long edges told))
 
   in_r : (i j : ℕ) → i < j → j < length R → Chosen T by_plan [] R i j
-  in_r i j less within = chosen T by_plan R [] (keys_in_words T by_plan (tree_leads edges told lead) (keys_tell_apart (map key_of plan))) i j less within
+  in_r i j less within = chosen T by_plan R [] (keys_in_words T by_plan (tree_leads edges told lead) (keys_tell_apart keys)) i j less within
 
   -- a vertex beside one that is placed is beside one in the tree
   in_tree : (i : ℕ) → i < suc k → i < length P → (all others : List ℕ)
@@ -316,18 +321,18 @@ module _ (edges : List (List Edge)) (lead : LeadToVertices edges) (plan told : L
       let to : (j : ℕ) → j < i → Contains b.all (number_at P j) =
       λ j less. subst (λ (z : ℕ). Contains b.all z) (sym (d.same j less)) (b.to j less) in
       let apart : s ≡ y → ⊥ = p.once d.l i d.l_in d.l_later in
-      let keys = keys_tell_apart (map key_of plan) in
+      let told_apart = keys_tell_apart keys in
       let no_edge : Beside edges a.all s → ⊥ =
       λ e. (
       let there = turned.front (in_tree i low i_in a.all b.all a.from to e) in
       let not_y = (a.earlier.front (wired y there.0)).1 in
-      let is_y = keys.total s y apart there.1 in
+      let is_y = told_apart.total s y apart there.1 in
       absurd (cc)) in
       let not_y = a.earlier.alone no_edge in
-      let is_y = keys.total s y apart (turned.alone (λ e. no_edge (a.earlier.front (wired y e)).0)) in
+      let is_y = told_apart.total s y apart (turned.alone (λ e. no_edge (a.earlier.front (wired y e)).0)) in
       absurd (cc)
 
-  pub grows : AgreesUpTo (grown_by edges plan) (number_at (positions_in (grown_by (tree edges told) plan) (length edges))) (suc k)
+  pub grows : AgreesUpTo (order edges (before_by keys)) (number_at (positions_in (order (tree edges told) (before_by keys)) (length edges))) (suc k)
   grows = agree (length edges) P R p r (suc k) never_apart
 
 -- the positions in a list agree with all of it
@@ -340,13 +345,13 @@ own_agrees n vertices are i j low less within =
     omega (arith, at i low, at j within, less)
 
 pub grows_again : GrowsAgain
-grows_again edges lead positions =
-    let P = grown_by edges positions in
+grows_again edges lead keys =
+    let P = order edges (before_by keys) in
     let n = length edges in
-    sym (whole edges lead positions (positions_in P n) (length P) (own_agrees n P (grown_are_vertices edges lead positions)) (omega arith))
+    sym (whole edges lead keys (positions_in P n) (length P) (own_agrees n P (ordered_are_vertices edges lead keys)) (omega arith))
 
 pub agreement_stays : AgreementStays
-agreement_stays = stays
+agreement_stays edges lead plan told k agreed = stays edges lead (map key_of plan) told k agreed
 
 pub agreement_grows : AgreementGrows
-agreement_grows = grows
+agreement_grows edges lead plan told k agreed = grows edges lead (map key_of plan) told k agreed

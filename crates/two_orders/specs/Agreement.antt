@@ -5,7 +5,10 @@ use Rattle.std.specs.Prelude.{◌≡◌}
 use Rattle.port_graph.specs.declared.edge.Edge.{Edge}
 use Rattle.port_graph.specs.Heads.{LeadToVertices, edges_at, heads}
 use Rattle.port_graph.specs.Walks.{Walk}
+use Rattle.spread_labels.specs.KeyOrder.{before_by}
 use Rattle.spread_labels.specs.LabelLaws.{IsSymmetric}
+use Rattle.spread_labels.specs.Orders.{order}
+use Rattle.spread_labels.specs.declared.key_order.VertexKey.{VertexKey}
 use Rattle.two_orders.specs.Growth.{grown_by, number_at, positions_in}
 use Rattle.two_orders.specs.Trees.{tree}
 
@@ -39,11 +42,11 @@ AgreementGrows =
     → AgreesUpTo (grown_by edges plan) (number_at told) k
     → AgreesUpTo (grown_by edges plan) (number_at (positions_in (grown_by (tree edges told) plan) (length edges))) (suc k)
 
--- the order that grows by the positions in a grown order is the same order
+-- the order that grows by the positions in an order that grew, by whatever keys, is the same order
 abbrev pub GrowsAgain : Type 0
 GrowsAgain =
-    (edges : List (List Edge)) → LeadToVertices edges → (positions : List ℕ)
-    → grown_by edges (positions_in (grown_by edges positions) (length edges)) ≡ grown_by edges positions
+    (edges : List (List Edge)) → LeadToVertices edges → (keys : List VertexKey)
+    → grown_by edges (positions_in (order edges (before_by keys)) (length edges)) ≡ order edges (before_by keys)
 
 -- different vertices have different positions. Each vertex from which a walk leads to an earlier vertex has an edge to
 -- an earlier vertex

@@ -36,7 +36,7 @@ pub fn agreement_grows()
     ensures law { AgreementGrows }
 {}
 
-/// If an order has grown, the order that grows by the positions in it is the same order.
+/// If an order has grown, by whatever keys, the order that grows by the positions in it is the same order.
 pub fn grows_again()
     ensures law { GrowsAgain }
 {}

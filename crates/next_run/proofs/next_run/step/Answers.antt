@@ -1,15 +1,14 @@
 -- All was made of the same facts and tables.
-use Rattle.std.proofs.Common.{◌≡◌, ◌∙◌, ℕ, Bool, ap, refl, subst, sym}
+use Rattle.std.proofs.Common.{◌≡◌, ◌∙◌, ℕ, List, Option, ap, refl, subst, sym}
 use Rattle.std.specs.Io.KnownBytes.{Appends}
 use Rattle.fact_store.specs.View.{Facts, cells_of}
 use Rattle.lid_assign.specs.Lids.{Given}
-use Rattle.lft_blocks.specs.Rule.{RuleValue, value_of}
+use Rattle.lft_blocks.specs.Rule.{value_of}
 use Rattle.plan_tables.specs.PlanTables.{held_plan, planned}
 use Rattle.sm_cli.specs.declared.fault.Fault.{Fault}
 use Rattle.tables_file.specs.PrintedTables.{next_text}
 use Rattle.next_tables.specs.NextTables.{first_moved}
-use Rattle.sm_cli.specs.StepAsked.{is_told}
-use Rattle.next_run.specs.PreferredRule.{preferred_rule}
+use Rattle.next_run.specs.LastOrder.{last_order}
 use Rattle.next_run.specs.NextRun.{IsMade, IsSaid, StopsBy, StopsStep, texts_before}
 use Rattle.next_run.specs.StepOrderText.{items_of}
 use Rattle.next_run.specs.StepLoops.{IsLoopInStep}
@@ -23,17 +22,17 @@ returns-clause-done g c =
     let found = c.args.found.now in
     let store = found.read.store in
     let made = c.in-Ok-made_step.made in
-    let preferred = preferred_rule asked.held_order rule found.order.items in
+    let last = last_order asked.has_last found.order.items in
     let Printed : Given → Type 0 = λ given. Appends (g.W.Sink.written c.args.sink.now) (g.W.Sink.written c.write_next.new.sink)
     (next_text given made.next) in
     let facts_is = c.in-Ok-of.ensures.facts ∙ c.in-Ok.ensures in
-    let Made : Bool × (RuleValue × Facts) → Type 0 =
-    λ x. IsMade x.0 rule x.1.0 x.1.1 c.in-Ok-of.from.held (held_plan c.in_ok-plan.plan) made.next (items_of made.order) in
-    let named_is = sym (c.in-Ok-named_rule.ensures rule) ∙ ap (preferred_rule asked.held_order rule) c.deref.ensures.value in
-    let is_made = subst Made (λ i. (c.is_told-by_told.ensures i, (named_is i, facts_is i))) c.in-Ok-made_step.ensures.made in
+    let Made : Option (List ℕ) × Facts → Type 0 =
+    λ x. IsMade rule x.0 x.1 c.in-Ok-of.from.held (held_plan c.in_ok-plan.plan) made.next (items_of made.order) in
+    let last_is = c.in-Ok-last_order.ensures ∙ ap (last_order asked.has_last) c.deref.ensures.value in
+    let is_made = subst Made (λ i. (last_is i, facts_is i)) c.in-Ok-made_step.ensures.made in
     let cycle = c.in-Ok-loop_in_step.cycle in
     let Found : Facts → Type 0 = λ x. IsLoopInStep (cells_of x) c.in-Ok-of.from.held made.next cycle.channels.items cycle.lids.items in
-    step_is asked.lmc (is_told asked.held_order) rule preferred
+    step_is asked.lmc rule last
     store found.read.held c.in_ok-plan.plan c.in_ok-plan.ensures.plan c.in-Ok-of.from.held made.next (items_of made.order)
     c.in-Ok-of.ensures.held is_made
     (Appends (g.W.Sink.written c.args.sink.now) (g.W.Sink.written c.write_next.new.sink))

@@ -1,0 +1,5 @@
+use Rattle.next_run.proofs.Same.{same_lists, same_switches}
+use Rattle.next_run.proofs.same_tables.have_same_switches.Goals as goal
+
+pub returns : goal.returns
+returns c = same_lists _ same_switches c.args.one.now c.args.other.now c.eq.result c.eq.ensures
