@@ -209,14 +209,15 @@ REWRITTEN_VALUE = {
 }
 CUTS = f""" adapters       all   cut off   entries  switches  cable
         2         8         0         3         2  {TWO}/2 "leaf" - {THREE}/2
-5 cables; without 1 of them no packet between adapters is lost; a plan without any cut changes 7 entries on 6 switches
+5 cables; without 1 of them no packet between adapters is lost; a plan by spread without any cut changes 7 entries on 6 \
+switches
 """
 CUTS_VALUE = {
     "form": "what-if",
     "cables": [
         {"ends": [f"{TWO}/2", f"{THREE}/2"], "adapters": 2, "all": 8, "cut_off": 0, "entries": 3, "switches": 2}
     ],
-    **{"count": 5, "harmless": 1, "uncut": {"entries": 7, "switches": 6}, "names": {TWO: "leaf"}},
+    **{"count": 5, "harmless": 1, "uncut": {"routing": "spread", "entries": 7, "switches": 6}, "names": {TWO: "leaf"}},
 }
 BOTH = CUTS.replace("cable\n", "cables\n").replace(f"{THREE}/2", f"{THREE}/2, {ONE}/1 - {TWO}/3").replace(
     "5 cables", "5 pairs of cables"

@@ -22,6 +22,9 @@ from program import printed_by
 from record_files import CLAIM, LINK, PORT
 
 Cable = tuple[End, End]
+# The rules of plans; those of them that take roots or an order.
+RULES = "updown", "spread", "balance"
+TAKERS = {"roots": ("spread",), "order": ("spread", "balance")}
 # How many of the worst cables are cut two at a time, each together with each other one.
 MOST_IN_TWO = 24
 # A store file: the length of its head, the length of a record, and where a record has its kind, port and GUID.
@@ -70,18 +73,40 @@ class Store:
         return bytes(data)
 
 
+class Uncut:
+    """What a plan by a rule changes if nothing is cut, and whether the rule was asked for or found."""
+
+    def __init__(self, rule: str, entries: int, switches: int, is_asked: bool) -> None:
+        self.rule, self.entries, self.switches, self.is_asked = rule, entries, switches, is_asked
+
+
 class Losses:
     """What is lost by cuts, found by the program, whose runs for several cuts are side by side."""
 
-    def __init__(
-        self, program: str, room: str | os.PathLike, facts: Facts, held: Plan, rule: Sequence[object]
-    ) -> None:
-        """`rule` has the options of plans."""
+    def __init__(self, program: str, room: str | os.PathLike, facts: Facts, held: Plan) -> None:
         self.auditor = Auditor(program, room, held.path)
-        self.facts, self.held, self.rule, self.missed = facts, held, rule, []
+        self.facts, self.held, self.rule, self.missed = facts, held, [], []
         self.store = Store(facts, held)
         with progress.doing("audits"):
             self.now = self.auditor.audit(self.store.without(), "--loads")
+
+    def follow(self, routing: str | None, **starts: str | None) -> Uncut:
+        """Plans from now on by a rule, and by the `roots` or the `order` that are given. Without a rule it is the first
+        one by which a plan changes no entry if nothing is cut, or else the one by which it changes the fewest."""
+        given = {word: path for word, path in starts.items() if path}
+        options = [it for word, path in given.items() for it in (f"--{word}", path)] + lmc_of(self.held)
+        able = [rule for rule in RULES if all(rule in TAKERS[word] for word in given)]
+        best = None
+        for rule in [routing] if routing else able:
+            self.rule = ["--routing", rule, *options]
+            with progress.doing(f"plans by {rule}"):
+                found = Uncut(rule, *self.changed(Cut([])), routing is not None)
+            if best is None or found.entries < best.entries:
+                best = found
+            if not best.entries:
+                break
+        self.rule = ["--routing", best.rule, *options]
+        return best
 
     def load(self, cable: Cable) -> int:
         """Returns how many pairs of adapters send over a cable between switches, in either direction. A packet that

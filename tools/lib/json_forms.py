@@ -363,7 +363,7 @@ class WhatIfRead(Rules):
         (rf" *(\d+) +(\d+) +(\d+) +(\d+) +(\d+)  {GUID}", "switch"),
         (
             r"(\d+) (?:cables|pairs of cables|switches); without (\d+) of them no packet between adapters is lost; "
-            r"a plan without any cut changes (\d+) entries on (\d+) switches",
+            r"a plan by (\w+) without any cut changes (\d+) entries on (\d+) switches",
             "end",
         ),
     )
@@ -387,16 +387,15 @@ class WhatIfRead(Rules):
     def switch(self, *words: str) -> bool:
         return self.kind == "switches" and self.take_row({"guid": words[5]}, words)
 
-    def end(self, *words: str) -> None:
-        self.last = [int(word) for word in words]
+    def end(self, count: str, harmless: str, rule: str, entries: str, switches: str) -> None:
+        uncut = {"routing": rule, "entries": int(entries), "switches": int(switches)}
+        self.last = {"count": int(count), "harmless": int(harmless), "uncut": uncut}
 
     def lacks(self) -> bool:
         return self.last is None
 
     def value_of_text(self) -> dict[str, Any]:
-        count, harmless, entries, switches = self.last
-        uncut = {"entries": entries, "switches": switches}
-        return {self.kind: self.rows, "count": count, "harmless": harmless, "uncut": uncut}
+        return {self.kind: self.rows} | self.last
 
 
 # By the name of a form: its reader, and how the first line of a text of that form begins.

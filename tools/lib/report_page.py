@@ -102,10 +102,14 @@ def what_if(parts: dict[str, Any]) -> str:
         return section(
             "What if a cable goes", paragraph("Facts are disputed, or nothing has a LID: no cable is cut in thought.")
         )
-    rows, count, harmless = parts["cuts"]
+    rows, count, harmless, uncut = parts["cuts"]
     head = ("cable", "pairs of adapters lost", "all pairs lost", "cut off", "entries", "on switches")
     told = f"{count} cables between switches; without {harmless} of them no packet between adapters is lost."
-    entries = "Entries are those that a new plan changes."
+    entries = f"Entries are those that a new plan by {uncut.rule} changes."
+    if uncut.entries:
+        which = "The held tables are of another rule" if uncut.is_asked else "The held tables follow no rule of plans"
+        base = f"changes {uncut.entries} entries on {uncut.switches} switches even if nothing is cut"
+        entries += f" {which}: a plan by {uncut.rule} {base}, and these count in each line."
     return section("What if a cable goes", paragraph(f"{told} {entries}"), table(head, rows, range(1, 6)))
 
 
