@@ -78,11 +78,19 @@ def table_sizes(room: Room) -> None:
 
 
 def largest_picture(room: Room) -> None:
-    """Checks that a picture has at most 300 nodes."""
+    """Checks that a picture has at most 300 nodes, and that it has each switch up to 100."""
     for hosts, status in ((200, 0), (201, 3)):
         room.put(many_facts=sample_fabrics.random_fabric(100, 3, hosts).facts())
         text = room.run("draw many.facts --hosts all", status)
         room.check(len(re.findall(r"shape=(?:box|ellipse)", text)) == (0 if status else 300), f"{100 + hosts} nodes")
+    room.check("--hosts fold" in room.said, "what to do is told")
+    room.run("draw many.facts --hosts fold", 0)
+    for switches, most in ((100, 100), (101, 40)):
+        room.put(many_facts=sample_fabrics.random_fabric(switches, 3, 10).facts())
+        boxes = room.run("draw many.facts", 0).count("shape=box")
+        own = sum(map(int, re.findall(r"(\d+) switches", room.out))) if boxes < switches else boxes
+        room.check(boxes == most or most / 4 < boxes < most, f"{switches} switches in {boxes} boxes")
+        room.check(own == switches, f"{own} of {switches} switches are counted")
 
 
 def ranges_planned(room: Room) -> None:

@@ -49,6 +49,8 @@ def installed(room: Room, program: pathlib.Path) -> None:
         tools[0] == "ibsm" and len(tools) >= 12 and all(name.startswith("ibsm-") for name in tools[1:]),
         f"names: {tools}",
     )
+    styles = sorted(path.name for path in (to / "lib/ibsm/lib").iterdir() if path.suffix in (".css", ".js"))
+    room.check(styles == ["picture.css", "report.css", "report.js"], f"what pages and pictures need: {styles}")
     runs(room, to, tools)
     told = pages(room, to, tools)
     units = to / "lib/systemd/system"

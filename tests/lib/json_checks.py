@@ -209,8 +209,8 @@ REWRITTEN_VALUE = {
 }
 CUTS = f""" adapters       all   cut off   entries  switches  cable
         2         8         0         3         2  {TWO}/2 "leaf" - {THREE}/2
-5 cables; without 1 of them no packet between adapters is lost; a plan by spread without any cut changes 7 entries on 6 \
-switches
+5 cables; without 1 of them no packet between adapters is lost; a plan by spread without any cut changes 7 entries \
+on 6 switches
 """
 CUTS_VALUE = {
     "form": "what-if",

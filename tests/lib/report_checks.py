@@ -3,6 +3,7 @@ from __future__ import annotations
 
 import html
 import html.parser
+import json
 import pathlib
 import re
 import shutil
@@ -13,6 +14,7 @@ from ibsm_texts import Facts, Plan
 from packet_routes import Routes
 from tool_room import Room
 
+TWO = f"{0x20:016x}"
 # Stands in for `ibsm`: takes audits, whatever of, and plans from files beside it.
 FAKE = """#!/bin/sh
 case $1 in
@@ -35,7 +37,9 @@ LOADS = "".join(
     for guid in (0x10, 0x20, 0x30)
     for port in (1, 2)
 )
-VOID = {"meta", "br", "line", "rect"}
+VOID = {"meta", "br"}
+# A credit loop over the triangle's switches.
+LOOP = "credit loop on one lane 0000000000000010/1 0000000000000020/2 0000000000000030/1"
 
 
 class Balanced(html.parser.HTMLParser):
@@ -67,16 +71,18 @@ def in_a_browser(room: Room, path: pathlib.Path) -> None:
         print("test-files: there is no chromium here, so no page is tried in a browser")
         return
     text, told = path.read_text(), re.search(r'<button data-c="(.*?)" data-told="(.*?)"', path.read_text())
-    for what in f'button[data-c="{told[1]}"]', f'g[data-c="{told[1]}"]':
+    is_folded = "id=data" in text
+    for what in f'button[data-c="{told[1]}"]', *(() if is_folded else (f'g[data-c="{told[1]}"]',)):
         # A click that the page makes itself, once its own script has run.
-        click = f"document.querySelector('{what}').dispatchEvent(new MouseEvent('click'))"
+        click = f"document.querySelector('{what}').dispatchEvent(new MouseEvent('click', {{ bubbles: true }}))"
         clicked = path.with_suffix(".clicked.html")
         clicked.write_text(text.replace("</body>", f"<script>{click}</script></body>"))
         words = [browser, "--headless", "--no-sandbox", "--disable-gpu", "--dump-dom"]
         words += [f"--user-data-dir={room.path}/browser", f"file://{clicked}"]
         run = subprocess.run(words, capture_output=True, text=True, timeout=120)
         room.check(
-            f">{html.unescape(told[2])}</p>" in html.unescape(run.stdout) and 'class="chosen"' in run.stdout,
+            f">{html.unescape(told[2])}</p>" in html.unescape(run.stdout)
+            and re.search(r'<g class="[^"]* chosen"', run.stdout),
             f"a click on {what} tells {told[2]}: {run.stdout[-300:]}{run.stderr[-300:]}",
         )
 
@@ -123,7 +129,8 @@ def sound(room: Room, words: str) -> None:
     ):
         room.check(word in text, f"the page has {word}")
     room.check(
-        text.count("<g data-c=") == 6 and "S2 port 2 \u2192 S3 port 2: 1 pairs, 3.00 times the mean of 0.33" in text,
+        len(re.findall("<g [^>]*data-c=", text.split("<script")[0])) == 6
+        and "S2 port 2 \u2192 S3 port 2: 1 pair, 3.00 times the mean of 0.33" in text,
         "six channels, and what one carries",
     )
     room.check("4 of 6 channels carry nothing." in text, "unused channels")
@@ -131,7 +138,9 @@ def sound(room: Room, words: str) -> None:
     room.check("channel 0000" not in text, "the audit's lines of channels are not listed")
     room.check("Changes since" not in text, "no changes are asked")
     in_a_browser(room, room.path / "t.html")
+    room.check(room.out == "t.html: the tables pass the audit\n", "the verdict is printed")
     room.check(room.run(words.replace("-o t.html", "-o -"), 0) == text, "on standard output")
+    room.check(room.said == "report: the tables pass the audit\n", "and the verdict is said")
 
 
 def not_sound(room: Room, words: str) -> None:
@@ -139,20 +148,35 @@ def not_sound(room: Room, words: str) -> None:
     lost = SOUND.replace("arrive 25", "arrive 24").replace("no-entry 0", "no-entry 1").replace(
         "load max 1", "load max 2"
     )
-    lost = lost.replace("hops", 'lost 0000000000000100/1 5 at 0000000000000020 by 255: no entry\nmore lost 7\nhops')
+    lines = "".join(f"lost {sender}/1 5 at {TWO} by 255: no entry\n" for sender in (f"{0x100:016x}", f"{0x200:016x}"))
+    lines += f"lost {0x100:016x}/1 3 at {TWO} by 4: no link\nmore lost 7\nround {0x100:016x}/1 2\n"
+    lines += f"misdelivered {0x100:016x}/1 1 at {0x200:016x}/1\ntableless {0x30:016x}\nlidless {0x200:016x}/1\n"
+    lost = lost.replace("round 0", "round 1200").replace("hops", f"{lines}hops")
     room.put(audit_text=lost, audit_ends="no\n", version_text="commit 1\ncompiled without its proofs: nothing\n")
     room.run(f"{words} --was cut.facts", 1)
     text = checked(room, "t.html")
+    room.check(
+        room.out == "t.html: the tables do not pass the audit; 1 of 25 packets do not arrive: 1 no entry, 1,200 go "
+        "round for ever; 1 switch without tables; 1 port without a LID\n",
+        f"why they do not pass is printed: {room.out}",
+    )
     for word in (
         "The tables do not pass the audit.",
-        "packets that are lost on their way",
-        "and 7 more",
+        "<li>1 of 25 packets do not arrive: 1 no entry, 1,200 go round for ever</li>",
+        "<h3>Packets are lost: 1 no entry</h3>",
+        f"<li><b>LID 5</b> (H2 <small>{0x200:016x}</small>): no entry at S2 <small>{TWO}</small>; "
+        "at least 2 senders</li>",
+        f"): sent to port 4, which has no link, at S2 <small>{TWO}</small>; at least 1 sender</li>",
+        "The audit has 7 more lines of this kind.",
+        f"<b>LID 2</b> (S2 <small>{TWO}</small>): goes round and does not arrive; 1 sender</li>",
+        f"<b>LID 1</b> (S1 <small>{0x10:016x}</small>): delivered at H2 <small>{0x200:016x}</small> port 1; "
+        "1 sender</li>",
+        f"<h3>Switches without tables</h3><ul class=findings><li>S3 <small>{0x30:016x}</small></li>",
+        "loses LIDs 3,5",
         "nothing on this page is proved",
     ):
         room.check(word in text, f"a page of tables that do not pass has {word}")
-    room.check(
-        "lost 0000000000000100/1 &quot;H1&quot; 5 at 0000000000000020 &quot;S2&quot; by 255" in text, "findings by name"
-    )
+    room.check(len(re.findall('<g class="switch lost"', text)) == 1, "the switch that loses packets has a mark")
     room.check(
         "come cable 0000000000000020/2 &quot;S2&quot; 0000000000000030/2 &quot;S3&quot;" in text,
         "what changed, by name",
@@ -161,14 +185,25 @@ def not_sound(room: Room, words: str) -> None:
 
 def with_a_credit_loop(room: Room, words: str) -> None:
     """Checks that a credit loop is reported, and what is said of a program that does not say whether it is proved."""
-    loop = SOUND.replace("loop none", "loop on one lane 0000000000000010/1 0000000000000020/1")
-    room.put(audit_text=loop, audit_ends="no\n", version_text="")
+    loop = SOUND.replace("credit loop none", LOOP)
+    room.put(audit_text=loop + LOADS, audit_ends="no\n", version_text="")
     room.run(words, 1)
+    told = "a credit loop of 3 channels: S1 \u2192 S2 \u2192 S3 \u2192 S1"
+    room.check(room.out == f"t.html: the tables do not pass the audit; {told}\n", f"a loop is printed: {room.out}")
     text = checked(room, "t.html")
     room.check(
         "wait for each other in a circle" in text and "does not tell whether it is proved" in text,
         "a credit loop is a finding",
     )
+    lines = re.findall('<g class="cable [^"]*loop" data-c="(.*?)">.*?</g>', text)
+    room.check(sorted(lines) == ["10/1", "20/2", "30/1"], f"the loop's channels alone are drawn as such: {lines}")
+    room.check(
+        all('class="head"' in it for it in re.findall('<g class="cable [^"]*loop".*?</g>', text)), "each with an arrow"
+    )
+    drawn = re.findall('<g class="cable ([^"]*)"', text.split("<script")[0])
+    room.check(all("loop" in it for it in drawn[3:]) and len(drawn) == 6, f"above all others: {drawn}")
+    room.check("<p id=told aria-live=polite>Credit loop of 3 channels: S1" in text, "and it is told of at first")
+    room.check("<li>S1 port 1 \u2192 S2</li><li>S2 port 2 \u2192 S3</li>" in text, "channel by channel")
     room.put(built="commit 1\ncompiled without its proofs: nothing\n")
     room.run(words, 1)
     room.check("nothing on this page is proved" in checked(room, "t.html"), "a file beside the program tells it too")
@@ -205,9 +240,9 @@ def refused(room: Room) -> None:
 
 
 def large(room: Room) -> None:
-    """Checks that up to 300 switches are drawn, in less than 0.7 MB, and that of more switches only those around the
-    busiest channel are."""
-    for count, is_part in ((300, False), (301, True)):
+    """Checks that up to 100 switches are drawn, and that more are drawn in groups, with all channels in the page's
+    data."""
+    for count, is_part in ((100, False), (101, True)):
         fabric = sample_fabrics.random_fabric(count, 4, 300)
         plan = fabric.plan(fabric.shortest())
         room.put(many_facts=fabric.facts(), many_plan=plan, fake_plan=plan)
@@ -215,12 +250,19 @@ def large(room: Room) -> None:
         room.put(audit_text=SOUND + loads)
         room.run("report many.facts many.plan -o many.html --rows 3 --ibsm ./fake", 0)
         text = checked(room, "many.html")
-        boxes = text.count("<rect class=node")
+        boxes = text.split("<script")[0].count('<rect class="node"')
         room.check(
-            len(text) < 700_000 and (boxes == 300 if not is_part else boxes < 100),
+            len(text) < 400_000 and (boxes == 100 if not is_part else 10 < boxes < 40),
             f"{count} switches: {len(text)} bytes, {boxes} boxes",
         )
-        room.check((f"Of {count} switches those around" in text) == is_part, "a part is told")
+        room.check(("A click on a box unfolds it." in text) == is_part, "groups are told of")
+        if is_part:
+            data = json.loads(re.search("id=data>(.*?)</script>", text)[1])
+            own = sorted(it for _, *members in data["groups"] for it in members)
+            room.check(own == list(range(101)) and len(data["switches"]) == 101, "each switch is in a group")
+            loaded = sum(it[4] for it in data["channels"])
+            wanted = sum(int(line.split()[-1]) for line in loads.splitlines())
+            room.check(loaded == wanted == data["total"] and len(data["channels"]) == data["count"], "all loads")
         room.check(len(re.findall("<button data-c", text)) == 3, "so many of the busiest channels")
         if is_part:
             in_a_browser(room, room.path / "many.html")

@@ -1,19 +1,21 @@
-"""The picture of a page of `tools/report`: where switches stand, and what each channel carries."""
+"""The picture of a page of `tools/report`: where switches stand, what each channel carries, and what was found."""
 from __future__ import annotations
 
 import collections
-from collections.abc import Iterable, Iterator
+from collections.abc import Iterable
+from typing import Any
 
-import groups
+import folds
+import layout
+import spots
+from drawing import Box, Drawing, Line, heat
 from ibsm_texts import End, Facts, Names, Refused, end_in
-from layout import rows_of, wires_of
-from rows import distances, ordered, places
+from layout import homes_in, rows_of, wires_of
 
-# Above this many switches only the surroundings of the busiest channel are shown.
-MOST_SWITCHES = 300
-# In units of the SVG picture: the width of a letter, the distance between the two channels of a cable, the space
-# between switches, the least distance between rows, and the size of an inch of `groups`.
-LETTER, LINE, BESIDE, ROW, INCH = 7, 5, 26, 130, 90
+
+def hundredths(total: int, count: int) -> str:
+    """Returns a mean with two digits after the point, cut off as in an audit."""
+    return f"{total // count:,}.{100 * total // count % 100:02}"
 
 
 class Picture:
@@ -22,95 +24,147 @@ class Picture:
 
     def __init__(
         self, facts: Facts, loads: dict[str, int], names: Names, group_of: dict[int, str] | None,
-        roots: Iterable[int], most: int,
+        roots: Iterable[int], most: int, loop: Iterable[str] = (), lids_lost: dict[int, set[int]] | None = None,
     ) -> None:
-        """`loads` has the load of each channel, as an audit names them."""
-        self.facts, self.names = facts, names
+        """`loads` has the load of each channel, and `loop` the channels of a credit loop, as an audit names them.
+        `lids_lost` has the LIDs that switches lose."""
+        self.facts, self.names, self.group_of, self.roots = facts, names, group_of, roots
+        self.lids_lost = lids_lost or {}
         self.loads = {end_in(word): load for word, load in loads.items()}
-        self.ends = {end: far for end in self.loads if (far := facts.wire(end))}
-        if len(self.ends) < len(self.loads):
+        self.loop = [end_in(word) for word in loop]
+        self.ends = {end: far for end in [*self.loads, *self.loop] if (far := facts.wire(end))}
+        if not self.loads.keys() <= self.ends.keys():
             raise Refused("the audit tells of a channel that the facts do not have")
+        self.total, self.count = sum(self.loads.values()), len(self.loads)
+        self.mean = self.total / self.count if self.count else 0.0
         self.busiest = sorted(self.loads, key=lambda end: (-self.loads[end], end))[:most]
         self.at_home = collections.Counter(
             far[0] for end in facts.end_ports() if end[1] and (far := facts.wire(end)) and facts.is_switch(far[0])
         )
-        self.switches = sorted(guid for guid in facts.nodes if facts.is_switch(guid))
-        self.shown, self.is_part = self.which()
-        self.frames = {}
-        self.places = self.in_groups(group_of) if group_of is not None else self.in_rows(roots)
-
-    def which(self) -> tuple[list[int], bool]:
-        """Returns the switches that are shown, and whether others are left out."""
-        if len(self.switches) <= MOST_SWITCHES:
-            return self.switches, False
-        beside = collections.defaultdict(list)
-        for end, far in self.ends.items():
-            beside[end[0]].append(far[0])
-        start = self.busiest[0][0] if self.busiest else self.switches[0]
-        away = sorted(distances(beside, [start]).items(), key=lambda item: (item[1], item[0]))
-        near = [guid for guid, cables in away if cables <= 1][:MOST_SWITCHES]
-        return sorted(near + [guid for guid, cables in away if cables == 2][: max(0, 60 - len(near))]), True
+        self.wires = wires_of(facts)
+        self.switches = sorted(self.wires)
+        rows = rows_of(facts, self.wires, roots)
+        is_tree = bool(roots) or folds.is_tree(self.wires, rows, homes_in(facts, self.wires))
+        self.rank = rows if group_of is None and is_tree else None
+        self.is_folded = len(self.switches) > folds.MOST_SWITCHES
+        self.groups = None
+        self.drawing = self.folded() if self.is_folded else self.whole()
 
     def name(self, guid: int) -> str:
         """Returns the name of a switch, or its GUID."""
         return self.names.get(guid, f"{guid:x}")
 
-    def cables(self) -> list[tuple[End, End]]:
-        """Returns each cable between shown switches once, as its two channels."""
-        shown = set(self.shown)
-        return [it for it in sorted(self.ends.items()) if {it[0][0], it[1][0]} <= shown and it[0] < it[1]]
+    def channel_name(self, channel: End) -> str:
+        """Returns a channel by the names of its switches and their ports."""
+        (guid, port), (far, back) = channel, self.ends[channel]
+        return f"{self.name(guid)} port {port} \u2192 {self.name(far)} port {back}"
 
-    def width(self, guid: int) -> int:
-        """Returns the width of a switch's box."""
-        return max(64, LETTER * max(len(self.name(guid)), 11) + 12)
+    def times_mean(self, channel: End) -> str:
+        """Returns how many times the mean a channel carries."""
+        return hundredths(self.loads[channel] * self.count, self.total) if self.total else "0"
 
-    def in_rows(self, roots: Iterable[int]) -> dict[int, tuple[float, float]]:
-        """Returns the positions of the shown switches in rows, from the top switches down."""
-        wires = wires_of(self.facts)
-        rows, shown = rows_of(self.facts, wires, roots), set(self.shown)
-        beside = {guid: [far for far in wires.get(guid, ()) if far in shown and far != guid] for guid in self.shown}
-        if not shown:
-            return {}
-        found = ordered(beside, {guid: rows.get(guid, 0) for guid in self.shown})
-        wide = max(map(self.width, self.shown)) + BESIDE
-        across, right = wide * max(map(len, found)), places(found)
-        down = max(ROW, across / 9)
+    def told(self, channel: End) -> str:
+        """Returns what a click on a channel tells: what it carries, and how many times the mean that is."""
+        load = self.loads.get(channel, 0)
+        mean = hundredths(self.total, self.count) if self.count else "0"
+        more = f", {self.times_mean(channel)} times the mean of {mean}" if load else ""
+        return f"{self.channel_name(channel)}: {load:,} pair{'' if load == 1 else 's'}{more}"
+
+    def box(self, guid: int) -> Box:
+        """Returns the box of a switch."""
+        lines, count, lost = [self.name(guid)], self.at_home[guid], sorted(self.lids_lost.get(guid, ()))
+        if count:
+            lines.append(f"{count} adapter{'' if count == 1 else 's'}")
+        if lost:
+            more = ",.." if len(lost) > 4 else ""
+            lines.append(f"loses LID{'' if len(lost) == 1 else 's'} {','.join(map(str, lost[:4]))}{more}")
+        marks = " ".join(
+            word for word, holds in (("lost", lost), ("loop", any(end[0] == guid for end in self.loop))) if holds
+        )
+        return Box(lines, "switch", marks, f"{guid:016x}")
+
+    def whole(self) -> Drawing:
+        """Returns all switches at their places, with a line for each channel."""
+        drawing = Drawing()
+        drawing.boxes = {guid: self.box(guid) for guid in self.switches}
+        beside = {guid: [far for far in near if far != guid] for guid, near in self.wires.items()}
+        members = None if self.rank else layout.grouped(beside, self.group_of, self.names)
+        if self.switches:
+            layout.arrange(drawing, beside, {}, self.rank, members)
+        loop = set(self.loop)
+        for channel, far in sorted(self.ends.items(), key=lambda it: (min(it), it[0])):
+            load = self.loads.get(channel, 0)
+            is_loop = channel in loop
+            line = Line(channel[0], far[0], heat(load, self.mean) + " loop" * is_loop, ">" * is_loop)
+            line.title, line.data, line.rank = self.told(channel), self.short(channel), load + is_loop * 2 * self.total
+            drawing.lines.append(line)
+        return drawing
+
+    def folded(self) -> Drawing:
+        """Returns the boxes of groups at their places, with a line for all cables between two of them."""
+        found, rows = layout.folded_in(self.facts, self.wires, self.rank, self.group_of, self.names)
+        self.groups = found
+        group_of = {guid: name for name, guids in found.items() for guid in guids}
+        number = {name: i for i, name in enumerate(found)}
+        bundles = folds.bundles(group_of, self.ends.items())
+        drawing = Drawing()
+        for name, guids in found.items():
+            inner = [one for one, _ in bundles.get((name, name), ())]
+            most = max((self.loads.get(it, 0) for it in inner), default=0)
+            hosts, lost = sum(self.at_home[guid] for guid in guids), [it for it in guids if it in self.lids_lost]
+            lines = [name, f"{len(guids)} switches"] + ([f"{hosts} adapters"] if hosts else [])
+            lines += [f"{len(lost)} lose{'s' if len(lost) == 1 else ''} packets"] if lost else []
+            marks = heat(most, self.mean) if inner else ""
+            marks += " lost" * bool(lost) + " loop" * bool(set(inner) & set(self.loop))
+            told = f"{name}: {len(guids)} switches, {len(inner) // 2} cables inside"
+            told += f", the busiest channel with {most:,} pairs" if inner else ""
+            drawing.boxes[name] = Box(lines, "group", marks, told, str(number[name]))
+        between = {pair: own for pair, own in bundles.items() if pair[0] != pair[1]}
+        layout.arrange_groups(drawing, between, rows)
+        drawing.lines = [self.bundle(*pair, own, group_of) for pair, own in between.items()]
+        return drawing
+
+    def bundle(self, one: str, other: str, own: list[tuple[End, End]], group_of: dict[int, str]) -> Line:
+        """Returns the line of all channels between two groups, in the colour of the busiest one."""
+        channels = [channel for channel, _ in own]
+        busiest = max(channels, key=lambda it: self.loads.get(it, 0))
+        looped = [it for it in channels if it in set(self.loop)]
+        arrows = "".join({">" if group_of[it[0]] == one else "<" for it in looped})
+        marks = f"bundle {heat(self.loads.get(busiest, 0), self.mean)}{' loop' if looped else ''}"
+        told = f"{one} - {other}: {len(channels)} channels; the busiest: {self.told(busiest)}"
+        rank = self.loads.get(busiest, 0) + bool(looped) * 2 * self.total
+        return Line(one, other, marks, arrows, title=told, data=f"{one}|{other}", rank=rank)
+
+    def ring(self) -> Drawing:
+        """Returns the credit loop alone: its switches on a circle, with an arrow for each channel."""
+        drawing = Drawing()
+        drawing.boxes = {guid: self.box(guid) for guid, _ in self.loop}
+        wide = max(box.size()[0] for box in drawing.boxes.values()) + 60
+        for box, place in zip(drawing.boxes.values(), spots.circle(len(drawing.boxes), wide)):
+            box.place = place[0], 0.6 * place[1]
+        for channel in self.loop:
+            if far := self.ends.get(channel):
+                if far[0] in drawing.boxes:
+                    drawing.lines.append(Line(channel[0], far[0], "loop", ">", title=self.channel_name(channel)))
+        return drawing
+
+    def data(self) -> dict[str, Any]:
+        """Returns what the page's script needs to unfold groups: switches, groups, and channels with their loads."""
+        number = {guid: i for i, guid in enumerate(self.switches)}
+        loop = set(self.loop)
+        lines = {guid: self.box(guid).lines for guid in self.switches}
         return {
-            guid: (across * right[guid], down * (i + 0.35 * self.sag(place, len(row))))
-            for i, row in enumerate(found)
-            for place, guid in enumerate(row)
+            "switches": [[self.rank[guid] if self.rank else 0, *lines[guid]] for guid in self.switches],
+            "lost": [number[guid] for guid in self.lids_lost if guid in number],
+            "groups": [[name, *(number[guid] for guid in guids)] for name, guids in self.groups.items()],
+            "channels": [
+                [number[end[0]], end[1], number[far[0]], far[1], self.loads.get(end, 0), *([1] if end in loop else [])]
+                for end, far in sorted(self.ends.items())
+            ],
+            "total": self.total, "count": self.count, "isTree": self.rank is not None,
         }
 
-    @staticmethod
-    def sag(place: int, count: int) -> float:
-        """Returns how far a switch sags: rows hang a little, so that cables within one do not run behind its
-        switches."""
-        x = (place + 0.5) / count
-        return 4 * x * (1 - x)
-
-    def in_groups(self, group_of: dict[int, str] | None) -> dict[int, tuple[float, float]]:
-        """Returns the positions of the shown switches in groups, and notes the frames of the groups."""
-        found = groups.in_order(self.shown, {guid: group_of.get(guid, "?") for guid in self.shown}, self.names)
-        wires = [(one[0], other[0]) for one, other in self.cables()]
-        where, frames, _ = groups.placed(found, wires) if found else ({}, {}, {})
-        self.frames = {
-            name: tuple(INCH * it for it in (x, -y, width, height)) for name, (x, y, width, height) in frames.items()
-        }
-        return {guid: (INCH * x, -INCH * y) for guid, (x, y) in where.items()}
-
-    def lines(self) -> Iterator[tuple[End, tuple[float, float, float, float]]]:
-        """Yields each shown channel with both ends of its line. The two channels of a cable, and the cables between the
-        same two switches, are drawn apart."""
-        beside = collections.Counter()
-        for one, other in self.cables():
-            i, far = one[0], other[0]
-            (x, y), (u, v) = self.places[i], self.places[far]
-            length = max(1.0, ((u - x) ** 2 + (v - y) ** 2) ** 0.5)
-            across, along = -(v - y) / length, (u - x) / length
-            turn = beside[min(i, far), max(i, far)]
-            beside[min(i, far), max(i, far)] += 1
-            middle = 2.4 * LINE * ((turn + 1) // 2) * (-1) ** turn
-            for channel, side in ((one, 1), (other, -1)):
-                off = middle + side * LINE / 2
-                ends = (x + off * across, y + off * along, u + off * across, v + off * along)
-                yield channel, ends if side == 1 else (*ends[2:], *ends[:2])
+    def short(self, channel: End) -> str:
+        """Returns a channel as the page's script names it: by its switch, or its number if the picture is folded."""
+        at = self.switches.index(channel[0]) if self.is_folded else f"{channel[0]:x}"
+        return f"{at}/{channel[1]}"

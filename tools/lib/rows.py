@@ -115,19 +115,3 @@ def ordered(beside: dict[int, list[int]], rank: dict[int, int]) -> list[list[int
         if best is None or count < best[0]:
             best = count, rows
     return best[1]
-
-
-def sags(rows: Iterable[Sequence[int]], beside: dict[int, list[int]]) -> dict[int, float]:
-    """Returns how far each node stands below its row, from 0 to 1. If cables of a component join nodes of a row that
-    are not neighbors there, its part of the row is an arc, so that these cables do not run behind other nodes."""
-    part_of = {node: i for i, part in enumerate(components(beside, beside)) for node in part}
-    found = {}
-    for row in rows:
-        parts = collections.defaultdict(list)
-        for node in row:
-            parts[part_of[node]].append(node)
-        for part in parts.values():
-            at = {node: i for i, node in enumerate(part)}
-            is_bent = any(abs(at[far] - i) > 1 for node, i in at.items() for far in beside[node] if far in at)
-            found |= {node: 4 * x * (1 - x) if is_bent else 0 for node, x in places([part]).items()}
-    return found
