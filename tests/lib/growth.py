@@ -1,6 +1,7 @@
 """How the cost of commands grows, for `tests/at-scale`: each runs at a size and at twice that size, and its
 instructions are counted. `valgrind` counts them if the machine has it, else `perf`. If it has neither, the least
-processor time of some runs is taken, and twice as much is allowed; bounds on instructions are then left out."""
+processor time of some runs is taken, and twice as much is allowed; bounds on instructions are then left out. If
+`valgrind` is there and does not work, that is a failure: nobody is to believe that instructions were bounded."""
 from __future__ import annotations
 
 import collections
@@ -10,6 +11,7 @@ import itertools
 import os
 import pathlib
 import re
+import shutil
 import subprocess
 from collections.abc import Callable, Iterable, Iterator, Sequence
 
@@ -118,13 +120,18 @@ class Costs:
     def __init__(self, program: pathlib.Path, folder: pathlib.Path) -> None:
         self.program, self.folder, self.numbers, self.known, self.files = program, folder, itertools.count(1), {}, set()
         for kind in Valgrind, Perf, Clock:
+            log = self.log()
             try:
                 self.counter = kind(program, folder)
-                status, self.start = self.counter.cost(["--version"], self.log())
-            except (FileNotFoundError, subprocess.CalledProcessError):
-                continue
+                status, self.start = self.counter.cost(["--version"], log)
+                fault = f"status {status}"
+            except (FileNotFoundError, subprocess.CalledProcessError) as it:
+                self.start, status, fault = None, None, it
             if status == 0 and self.start is not None:
                 return
+            if kind is Valgrind and shutil.which("valgrind"):
+                said = log.read_text(errors="replace").splitlines() if log.exists() else []
+                check(False, f"valgrind is there and does not work: {fault}{f', {said[-1]}' if said else ''}")
 
     def log(self) -> pathlib.Path:
         return self.folder / f"cost{next(self.numbers)}"

@@ -78,9 +78,12 @@ static int take_lids(struct wanted *wanted, const char *line)
 
 static void close_table(const struct wanted *wanted)
 {
-	const struct table *last = wanted->tables + wanted->table_count - 1;
+	const struct table *last;
 
-	if (wanted->table_count && last->blocks != last->top / BLOCK + 1u)
+	if (!wanted->table_count)
+		return;
+	last = wanted->tables + wanted->table_count - 1;
+	if (last->blocks != last->top / BLOCK + 1u)
 		end(REFUSED, "%s: switch %016llx has %u blocks for top %u: is it cut?", name, (unsigned long long) last->guid,
 		    last->blocks, last->top);
 }
@@ -103,12 +106,15 @@ static int take_switch(struct wanted *wanted, const char *line)
 
 static int take_block(struct wanted *wanted, const char *line)
 {
-	struct table *table = wanted->tables + wanted->table_count - 1;
+	struct table *table;
 	unsigned long number;
 	uint8_t *entry;
 	int i;
 
-	if (!wanted->table_count || !word_at(&line, "block ") || !number_at(&line, GREATEST_LID / BLOCK, &number) ||
+	if (!wanted->table_count)
+		return 0;
+	table = wanted->tables + wanted->table_count - 1;
+	if (!word_at(&line, "block ") || !number_at(&line, GREATEST_LID / BLOCK, &number) ||
 	    number != table->blocks || number > table->top / BLOCK || !word_at(&line, " ") || strlen(line) != DIGITS)
 		return 0;
 	entry = table->entries + BLOCK * table->blocks++;
