@@ -395,7 +395,7 @@ def faults(room: Room) -> None:
         ("".join(CUTS.splitlines(True)[:-1]), "it", "no whole text of what-if"),
         ("", "it", "it: no text"),
         ("", "it --form audit", "no whole text of audit"),
-        ("nonsense\n", "it", "it: no text of ibsm begins so: nonsense"),
+        ("nonsense\n", "it", "it: this is none of the files and texts"),
         (FACTS, "it --prometheus", "it is a text of facts, and --prometheus takes an audit"),
         (FACTS, "it --form tables", "line 1 is no line of a text of tables"),
         (SOUND, "nothing", "nothing"),

@@ -125,7 +125,7 @@ def faults(room: Room) -> None:
         ("psl", " 2 ", " 49152 ", "line 1 has LID 49152"),
         ("psl", f"{0x100:016x}", f"{0x101:016x}", "line 1 names node GUID 0000000000000101, which no dump of nodes"),
         ("slvl", "0x0000000000000010 0 1", "0x0000000000000100 0 1", "names 0000000000000100, which is no switch"),
-        ("slvl", " 0x01", " 0x1", "is in none of the forms"),
+        ("slvl", " 0x01", " 0x1", "this is none of the files and texts"),
         ("paths", "0x0002 : ", "0x0002 ; ", "line 3 is no line of a dump of lanes"),
     ):
         text = room.text(source)

@@ -130,7 +130,7 @@ def searches_refused(room: Room) -> None:
     for text, why in ORDERS:
         room.put(bad_order=text)
         room.refused(f"find-order o.facts {QUICK} --from bad.order", why)
-    room.refused(f"find-order o.plan {QUICK}", "line 1 is no fact")
+    room.refused(f"find-order o.plan {QUICK}", "this is a text of tables")
     room.refused(f"find-order o.cut {QUICK}", "is it cut?")
     room.refused(f"find-order nothing {QUICK}", "nothing", 4)
     room.refused(f"find-order o.facts {QUICK} --from nothing", "nothing", 4)

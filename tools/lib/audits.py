@@ -5,7 +5,7 @@ import os
 import pathlib
 import struct
 
-from ibsm_texts import Facts, Refused, lines_of
+from ibsm_texts import Facts, Plan, Refused, lines_of
 from json_forms import AuditRead, fault_of_lines
 from program import printed_by
 from record_files import store_of
@@ -22,10 +22,11 @@ def stored(facts: Facts) -> bytes:
 class Auditor:
     """The program, with the tables that it audits, in a folder for its files."""
 
-    def __init__(self, program: str, room: str | os.PathLike, tables: str | os.PathLike) -> None:
+    def __init__(self, program: str, room: str | os.PathLike, held: Plan) -> None:
         self.program, self.room = program, pathlib.Path(room)
         self.tables = self.room / "held"
-        self.tables.write_text("".join(f"{line}\n" for line in lines_of(tables)))
+        lines = lines_of(held.path) if held.lines is None else held.lines
+        self.tables.write_text("".join(f"{line}\n" for line in lines))
 
     def put(self, store: bytes) -> pathlib.Path:
         """Writes a store file, and returns its path. Each process has one path."""

@@ -84,7 +84,7 @@ class Losses:
     """What is lost by cuts, found by the program, whose runs for several cuts are side by side."""
 
     def __init__(self, program: str, room: str | os.PathLike, facts: Facts, held: Plan) -> None:
-        self.auditor = Auditor(program, room, held.path)
+        self.auditor = Auditor(program, room, held)
         self.facts, self.held, self.rule, self.missed = facts, held, [], []
         self.store = Store(facts, held)
         with progress.doing("audits"):

@@ -66,11 +66,11 @@ class Line:
     ends: tuple[Spot, Spot] | None = None
 
     def hang(self, homes: dict[object, object]) -> None:
-        """Lets the line hang from the box that is the home of the other one, which then is its first."""
-        self.hangs = True
+        """Lets the line hang from the box that is the home of the other one, which then is its first. Its ports are
+        in its title alone."""
+        self.hangs, self.ports = True, None
         if homes.get(self.one) == self.other:
             self.one, self.other = self.other, self.one
-            self.ports = self.ports and self.ports[::-1]
             self.arrows = self.arrows.translate(str.maketrans("<>", "><"))
 
 
@@ -103,6 +103,9 @@ class Drawing:
         """Returns the left, top, width and height of what is drawn."""
         boxes = [it.box() for it in self.boxes.values()] + list(self.frames.values()) or [(0, 0, 100, 40)]
         for line in self.lines:
+            if line.hangs:
+                x, y, wide, _ = self.boxes[line.other].box()
+                boxes.append((x - wide / 2 - HANGS, y, 12, 0))
             if line.beside:
                 (x, y), (u, v) = self.boxes[line.one].place, self.boxes[line.other].place
                 cx, cy = bent((x, y), (u, v), line.beside)
@@ -214,7 +217,8 @@ class Drawing:
         if line.hangs:
             end = other[0] - other[2] / 2, other[1]
             middle = start = end[0] - HANGS, max(one[1] + one[3] / 2, end[1] - 12)
-            way = f"M{middle[0]:.1f} {one[1] + one[3] / 2:.1f}V{end[1]:.1f}H{end[0]:.1f}"
+            left, low = one[0] - one[2] / 2 + 3, one[1] + one[3] / 2
+            way = f"M{max(left, middle[0]):.1f} {low:.1f}L{middle[0]:.1f} {low + 3:.1f}V{end[1]:.1f}H{end[0]:.1f}"
             if line.arrows:
                 middle = start = middle[0], end[1]
         elif abs(line.beside) < 0.5:

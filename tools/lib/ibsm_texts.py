@@ -10,7 +10,7 @@ import os
 import pathlib
 import re
 import sys
-from collections.abc import Callable, Iterable, Iterator, Mapping
+from collections.abc import Callable, Iterable, Iterator, Mapping, Sequence
 from typing import Any, BinaryIO, TextIO
 
 import progress
@@ -111,19 +111,22 @@ def end_in(word: str) -> End | None:
 _input = []
 
 
-def opened(path: str | os.PathLike, **how: Any) -> TextIO:
-    """Opens a text; `-` is standard input, which is read once, however often it is opened."""
-    if path != "-":
-        return open(path, **how)
+def standard_input() -> bytes:
+    """Returns the bytes of standard input, which is read once."""
     if not _input:
         _input.append(sys.stdin.buffer.read())
-    return io.TextIOWrapper(io.BytesIO(_input[0]), **how)
+    return _input[0]
+
+
+def opened(path: str | os.PathLike, **how: Any) -> TextIO:
+    """Opens a text; `-` is standard input, which is read once, however often it is opened."""
+    return io.TextIOWrapper(io.BytesIO(standard_input()), **how) if path == "-" else open(path, **how)
 
 
 def opened_bytes(path: str | os.PathLike, most: int = -1) -> bytes:
     """Returns the bytes of a file or of standard input, at most `most` of them."""
     if path == "-":
-        return sys.stdin.buffer.read(most)
+        return standard_input()[: most if most >= 0 else None]
     with open(path, "rb") as file:
         return file.read(most)
 
@@ -311,17 +314,22 @@ class Facts:
 
 
 class Plan:
-    """The text of `ibsm plan`, or what a fabric holds in that form: LIDs, and each switch's top and entries."""
+    """The text of `ibsm plan`, or what a fabric holds in that form: LIDs, and each switch's top and entries. Lines are
+    kept only if they are not those of the file."""
 
-    def __init__(self, path: str | os.PathLike) -> None:
+    def __init__(self, path: str | os.PathLike, lines: Sequence[str] | None = None) -> None:
         self.owners = {}  # LID: end, for each LID of a range
         self.ranges = {}  # end: its first LID, and the last
         self.shared = []  # LIDs that a second end has, with that end
         self.tops = {}
         self.tables = {}  # GUID: entries from LID 0 on, in whole blocks
         self.last, self.blocks = None, []  # the current switch, and its blocks
-        self.path = path
-        each_line(path, self.take_line)
+        self.path, self.lines = path, lines
+        if lines is None:
+            each_line(path, self.take_line)
+        else:
+            for number, line in enumerate(lines, 1):
+                self.take_line(number, line)
         self.close()
         self.greatest = max(self.owners, default=0)
         for guid, table in self.tables.items():

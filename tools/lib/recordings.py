@@ -6,6 +6,7 @@ from collections.abc import Iterator
 from typing import TypeVar
 
 from ibsm_texts import End, Refused, name_of, opened_bytes
+from inputs import wrong
 from record_files import NODE_INFO, NO_REPORTS, PORT_INFO
 
 RECORD, HEAD, ATTRIBUTE, VIA = 272, 16, 64, 1
@@ -58,7 +59,7 @@ class Recording:
     def __init__(self, path: str) -> None:
         data = opened_bytes(path)
         if not data.startswith(NO_REPORTS):
-            raise Refused(f"{path}: no recording: is it a text, or a store file?")
+            raise wrong(path, "RECORDING")
         if (len(data) - len(NO_REPORTS)) % RECORD:
             raise Refused(f"{path}: it ends within a record: is it cut?")
         self.ports, self.fars, self.ages = {}, {}, {}
@@ -112,11 +113,6 @@ def most_of(known: list[Port]) -> Rate | None:
     if len(known) < 2 or not widths or not speeds:
         return None
     return rate(max(widths), max(speeds, key=lambda speed: speed[1]))
-
-
-def is_recording(path: str) -> bool:
-    """Returns whether a file begins as a recording does. Standard input never counts as a recording."""
-    return path != "-" and opened_bytes(path, 8) == NO_REPORTS
 
 
 def rates_apart(old: Recording, new: Recording) -> Iterator[str]:
