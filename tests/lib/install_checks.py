@@ -88,9 +88,24 @@ def runs(room: Room, to: pathlib.Path, tools: list[str]) -> None:
     room.check(
         (done.returncode, done.stdout) == (3, "program plan --version\n"), f"all else is the program's: {done.stdout}"
     )
+    one_command(room, to, tools)
     link = room.path / "linked"
     link.symlink_to(to / "bin/ibsm")
     room.check(run([link, "--version"]).stdout.startswith("ibsm 0.1.0\ncommit "), "by a link too")
+
+
+def one_command(room: Room, to: pathlib.Path, tools: list[str]) -> None:
+    """Checks that `ibsm NAME` runs the installed tool, and that `ibsm help` lists all."""
+    own = {tool.removeprefix("ibsm-") for tool in tools[1:]}
+    listed = re.findall(r"^  (\S+) {2,}", run([to / "bin/ibsm", "help"], cwd="/").stdout, re.M)
+    wanted = own | completions.COMMANDS.keys() - {"help"}
+    room.check(set(listed) == wanted, f"help lists {set(listed) ^ wanted}")
+    for words in ("help", "names"), ("names", "--help"):
+        done = run([to / "bin/ibsm", *words], cwd="/")
+        room.check(done.stdout.startswith("Puts the names of nodes"), f"{words} of the installed ibsm: {done.stdout}")
+    for words in ("frob",), ("help", "plan"), ("names/../names",), ():
+        done = run([to / "bin/ibsm", *words], cwd="/")
+        room.check(done.stdout == f"program {' '.join(words)}\n", f"{words} are the program's: {done.stdout}")
 
 
 def pages(room: Room, to: pathlib.Path, tools: list[str]) -> list[str]:
@@ -116,6 +131,16 @@ def completed(room: Room, to: pathlib.Path, program: pathlib.Path) -> None:
     script = to / "share/bash-completion/completions/ibsm"
     for words, wanted in (
         ("ibsm pl", "plan"),
+        ("ibsm dr", "draw"),
+        ("ibsm help fin", "find-order"),
+        ("ibsm draw --le", "--levels"),
+        ("ibsm draw --hosts f", "fold"),
+        ("ibsm-draw --nod", ""),
+        ("ibsm-opensm-files c", "check"),
+        ("ibsm-opensm-files check --t", "--top"),
+        ("ibsm-find-order --routing ''", ""),
+        ("ibsm-what-if --routing s", "spread"),
+        ("ibsm-record --quiet --q", "--quiet"),
         ("ibsm plan --ro", "--routing --roots"),
         ("ibsm plan --routing s", "spread"),
         ("ibsm facts --r", ""),

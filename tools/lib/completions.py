@@ -1,4 +1,5 @@
-"""What shells complete after `ibsm` and its tools. The options of tools come from their help."""
+"""What shells complete after `ibsm` and its tools. What a tool takes is read from the usage in its help, and of a tool
+in C from the list of its options."""
 from __future__ import annotations
 
 import re
@@ -17,56 +18,107 @@ COMMANDS = {
     "help": "",
 }
 RULES = "updown spread balance"
+OPTION = r"(?<![\w-])--[a-z][a-z-]*"
 
 
-def options_in(text: str) -> str:
-    """Returns the options that a help text names, in its order, and --help and --version."""
-    return " ".join(dict.fromkeys(re.findall(r"(?<![\w-])--[a-z][a-z-]*", text + " --help --version")))
+class Taken:
+    """What a tool takes, by its help: its options, the words of which some options take one, and its commands."""
+
+    def __init__(self, text: str) -> None:
+        usage = text[text.index("usage: ") :].split("\n\n")[0]
+        if "[OPTION]" in usage:
+            usage += "\n" + "\n".join(re.findall(r"^ +(?:-\w, )?(--[a-z][a-z-]*)", text, re.M))
+        self.options = " ".join(dict.fromkeys(re.findall(OPTION, usage + " --help --version")))
+        self.values = {
+            option: words.replace("|", " ") for option, words in re.findall(rf"({OPTION}) ([a-z]+(?:\|[a-z]+)+)", usage)
+        }
+        if "--routing" in self.options.split():
+            self.values.setdefault("--routing", RULES)
+        self.commands = " ".join(re.findall(r"(?m)^(?:usage: | {7})\S+ ([a-z-]+) [A-Z]", usage))
 
 
-def cases(tools: dict[str, str], indent: str) -> str:
+def cases(tools: dict[str, Taken], indent: str) -> str:
     """Returns the branches of a shell's `case`: what may follow each tool, each command of `ibsm`, and `ibsm`
     itself."""
-    lines = [f"{indent}ibsm-{name}) words='{options}' ;;" for name, options in sorted(tools.items())]
+    lines = []
+    for name, taken in sorted(tools.items()):
+        lines.append(f"{indent}ibsm-{name}) words='{taken.options}' commands='{taken.commands}' ;;")
     lines += [f"{indent}'ibsm {name}') words='{options} --help' ;;" for name, options in COMMANDS.items()]
-    return "\n".join([*lines, f"{indent}ibsm*) words='{' '.join(COMMANDS)} --help --version' ;;"])
+    every = " ".join(sorted({*COMMANDS, *tools}))
+    return "\n".join([*lines, f"{indent}ibsm*) words='--help --version' commands='{every}' ;;"])
 
 
-def for_bash(tools: dict[str, str]) -> str:
-    """Returns the text for bash. `tools` has the options of each tool by its name without ibsm-."""
+def value_cases(tools: dict[str, Taken], indent: str) -> str:
+    """Returns the branches of a shell's `case` for options that take one of some words: those of each tool, and the
+    rules of plans."""
+    lines = [
+        f"{indent}'ibsm-{name} {option}') values='{words}' ;;"
+        for name, taken in sorted(tools.items())
+        for option, words in sorted(taken.values.items())
+    ]
+    return "\n".join([*lines, f"{indent}'ibsm '*' --routing') values='{RULES}' ;;"])
+
+
+def for_bash(tools: dict[str, Taken]) -> str:
+    """Returns the text for bash. `tools` has what each tool takes by its name without ibsm-."""
     return f"""# Completion of ibsm and its tools for bash: options, commands, and else files.
 _ibsm() {{
-    local words name=${{COMP_WORDS[0]##*/}} now=${{COMP_WORDS[COMP_CWORD]}} before=${{COMP_WORDS[COMP_CWORD-1]}}
+    local words= commands= values= name=${{COMP_WORDS[0]##*/}} at=1
+    local now=${{COMP_WORDS[COMP_CWORD]}} before=${{COMP_WORDS[COMP_CWORD-1]}}
     COMPREPLY=()
-    if [ "$name" = ibsm ] && [ "$COMP_CWORD" -gt 1 ]; then name="ibsm ${{COMP_WORDS[1]}}"; fi
+    if [ "$name" = ibsm ] && [ "$COMP_CWORD" -gt 1 ]; then
+        at=2
+        case " {' '.join(COMMANDS)} " in
+            *" ${{COMP_WORDS[1]}} "*) name="ibsm ${{COMP_WORDS[1]}}" ;;
+            *) name="ibsm-${{COMP_WORDS[1]}}" ;;
+        esac
+    fi
     case $name in
-{cases(tools, "    ")}
+{cases(tools, "        ")}
     esac
-    if [ "$before" = --routing ]; then
-        COMPREPLY=($(compgen -W '{RULES}' -- "$now"))
-    elif [ "$COMP_CWORD" -eq 1 ] && [ "$name" = ibsm ] || [ "${{now#-}}" != "$now" ]; then
+    case "$name $before" in
+{value_cases(tools, "        ")}
+        'ibsm help '*) values='{' '.join(sorted({*COMMANDS, *tools}))}' ;;
+    esac
+    if [ "$values" ]; then
+        COMPREPLY=($(compgen -W "$values" -- "$now"))
+    elif [ "${{now#-}}" != "$now" ]; then
         COMPREPLY=($(compgen -W "$words" -- "$now"))
+    elif [ "$COMP_CWORD" -eq "$at" ] && [ "$commands" ]; then
+        COMPREPLY=($(compgen -W "$commands" -- "$now"))
     fi
 }}
 complete -o default -F _ibsm ibsm {' '.join(f'ibsm-{name}' for name in sorted(tools))}
 """
 
 
-def for_zsh(tools: dict[str, str]) -> str:
-    """Returns the text for zsh. `tools` has the options of each tool by its name without ibsm-."""
+def for_zsh(tools: dict[str, Taken]) -> str:
+    """Returns the text for zsh. `tools` has what each tool takes by its name without ibsm-."""
     return f"""#compdef ibsm {' '.join(f'ibsm-{name}' for name in sorted(tools))}
 # Completion of ibsm and its tools for zsh: options, commands, and else files.
-local words name=$service now=$PREFIX
+local words= commands= values= name=$service now=$PREFIX at=2
 local -a given
 given=("${{(@)${{(z)BUFFER}}}}")
-if [[ $name == ibsm && $CURRENT -gt 2 ]]; then name="ibsm ${{given[2]}}"; fi
+if [[ $name == ibsm && $CURRENT -gt 2 ]]; then
+    at=3
+    case " {' '.join(COMMANDS)} " in
+        *" ${{given[2]}} "*) name="ibsm ${{given[2]}}" ;;
+        *) name="ibsm-${{given[2]}}" ;;
+    esac
+fi
 case $name in
-{cases(tools, "")}
+{cases(tools, "    ")}
 esac
-if [[ ${{given[CURRENT-1]}} == --routing ]]; then
-    compadd -- {RULES}
-elif [[ $CURRENT -eq 2 && $name == ibsm || $now == -* ]]; then
+case "$name ${{given[CURRENT-1]}}" in
+{value_cases(tools, "    ")}
+    'ibsm help '*) values='{' '.join(sorted({*COMMANDS, *tools}))}' ;;
+esac
+if [[ -n $values ]]; then
+    compadd -- ${{=values}}
+elif [[ $now == -* ]]; then
     compadd -- ${{=words}}
+elif [[ $CURRENT -eq $at && -n $commands ]]; then
+    compadd -- ${{=commands}}
 else
     _files
 fi

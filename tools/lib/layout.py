@@ -89,7 +89,10 @@ def columns(boxes: Sequence[Box]) -> tuple[list[Spot], Size]:
     wide = max((box.size()[0] for box in boxes), default=0) + UNDER + 2 * HANGS
     high = max((box.size()[1] for box in boxes), default=0) + UNDER
     # The first row is filled first, from the left. On the left is room for lines that lead down.
-    found = [(wide * (i % count - (count - 1) / 2) + HANGS, high * (i // count) + high / 2 + UNDER) for i in range(len(boxes))]
+    found = [
+        (wide * (i % count - (count - 1) / 2) + HANGS, high * (i // count) + high / 2 + UNDER)
+        for i in range(len(boxes))
+    ]
     return found, (wide * count, high * -(-len(boxes) // max(count, 1)) + UNDER if boxes else 0)
 
 

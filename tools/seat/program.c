@@ -16,6 +16,18 @@ static void cut_end(char *folder, const char *end)
 		folder[length - rest] = 0;
 }
 
+/* Returns whether a folder has the program, whose path then takes the folder's place. */
+static int has_program(char *folder)
+{
+	size_t length = strlen(folder);
+
+	strcpy(folder + length, "/ibsm");
+	if (!access(folder, X_OK))
+		return 1;
+	folder[length] = 0;
+	return 0;
+}
+
 char *the_program(void)
 {
 	static char path[PATH_MAX + sizeof "/ibsm"];
@@ -26,8 +38,9 @@ char *the_program(void)
 		return "ibsm";
 	path[length] = 0;
 	*strrchr(path, '/') = 0;
+	if (has_program(path))
+		return path;
 	for (i = 0; i < sizeof made_in / sizeof *made_in; i++)
 		cut_end(path, made_in[i]);
-	strcat(path, "/ibsm");
-	return access(path, X_OK) ? "ibsm" : path;
+	return has_program(path) ? path : "ibsm";
 }
