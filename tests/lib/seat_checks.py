@@ -482,9 +482,13 @@ def images(bench: Bench) -> None:
 
 def cable(bench: Bench) -> None:
     """Checks that traps alone make the seat act when a cable between switches is cut and plugged in again."""
-    with seated(bench, "H1", "-p", 5, "-s", 0, packets="traps.packets") as seat:
+    (bench.path / "seat.names").write_text(
+        "".join(f'0x{guid:016x} "node {name}"\n' for name, (_, guid, _) in bench.fabric.nodes.items())
+    )
+    words = "-p", 5, "-s", 0, "--names", "seat.names"
+    with seated(bench, "H1", *words, packets="traps.packets") as seat:
         bench.check(seat.settles(), "SUBNET UP")
-        before = held(bench, "whole")
+        before = last = held(bench, "whole")
         (name, port), (far, back) = between_switches(bench)
         for command, count in ((f'Unlink "{name}"[{port}]', 2), (f'Link "{name}"[{port}] "{far}"[{back}]', 3)):
             bench.tell(command)
@@ -495,12 +499,31 @@ def cable(bench: Bench) -> None:
             bench.check(seat.settles(), "and once more swept")
             after = held(bench, f"cable{count}")
             bench.check(lids(before) == lids(after), "LIDs stay")
+            told_of_changes(bench, seat, "gone" if count == 2 else "new", last, after)
+            last = after
             bench.check(
                 (before == after) == (count == 3),
                 "tables are others" if count == 2 else "tables are as at first",
             )
         seat.end()
     repressed(bench)
+
+
+def told_of_changes(bench: Bench, seat: Seat, word: str, old: str, new: str) -> None:
+    """Checks that the log tells why a plan was written, by name, and how many cables and entries changed."""
+    rows = [re.findall(r"switch (\w+) top \d+\n((?:block .*\n)+)", text) for text in (old, new)]
+    entries = {guid: bytes.fromhex("".join(re.findall(r"block \d+ (\w+)", blocks))) for guid, blocks in rows[0]}
+    apart = [
+        sum(a != b for a, b in zip(entries[guid], bytes.fromhex("".join(re.findall(r"block \d+ (\w+)", blocks)))))
+        for guid, blocks in rows[1]
+    ]
+    told = [line for line in seat.said().splitlines() if f"1 cable {word}; " in line]
+    form = re.search(
+        r"trap 128 from LID \d+ \(node \w+\)(?:, \d+ more traps)?; 1 cable \w+; (\d+) entries on (\d+) switches$",
+        told[-1] if told else "",
+    )
+    wanted = (str(sum(apart)), str(sum(map(bool, apart))))
+    bench.check(form and form.groups() == wanted, f"the log tells what changed: {told}, and {wanted}")
 
 
 def losses(bench: Bench) -> None:

@@ -201,7 +201,8 @@ static char *read_line(void)
 			input_begin = end - input + 1;
 			return line;
 		}
-		memmove(input, input + input_begin, input_end - input_begin);
+		if (input_begin)
+			memmove(input, input + input_begin, input_end - input_begin);
 		input_end -= input_begin;
 		input_begin = 0;
 		seen = input_end;
@@ -245,6 +246,8 @@ const char *tell(const char *format, ...)
 	va_start(values, format);
 	length = vsnprintf(line, sizeof line - 1, format, values);
 	va_end(values);
+	if (length < 0 || length > LONGEST_LINE)
+		end(NO_FABRIC, "a line to %s serve is longer than %d letters", seat.program, LONGEST_LINE);
 	line[length++] = '\n';
 	answer_length = 0;
 	write_line(line, length);

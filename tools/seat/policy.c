@@ -24,6 +24,8 @@ enum { MOST_LOOKS = 3, MOST_HANDOVERS = 3 };	/* at another master, while nothing
 static enum phase phase;
 static struct standing status;
 static char state[16], *kept_plan;
+static char heard[240];	/* the first trap since the last writing, as it is told */
+static unsigned more_heard;
 static int has_news, is_wanted, repeats, faults, gaps, masterless, is_announced, has_master;
 static unsigned left_not_active, left_of_others;
 static uint32_t newest;
@@ -54,12 +56,64 @@ static int is_state(const char *word)
 	return !strcmp(state, word);
 }
 
+/* Returns the GUID of the node that holds a LID by what was written, or 0. */
+static uint64_t owner_of(unsigned lid)
+{
+	const char *line = kept_plan ? kept_plan : "";
+	unsigned first, port, lmc;
+	uint64_t guid;
+	int count;
+
+	for (; *line; line = strchr(line, '\n') + 1) {
+		lmc = 0;
+		count = sscanf(line, "lid %u %" SCNx64 "/%u lmc %u", &first, &guid, &port, &lmc);
+		if (count >= 3 && lid >= first && lid < first + (1u << lmc))
+			return guid;
+	}
+	return 0;
+}
+
+/* Keeps the first trap since the last writing, with the name of its sender, and counts the others. */
+static void keep_trap(unsigned number, unsigned lid)
+{
+	uint64_t guid;
+	size_t length;
+
+	if (*heard) {
+		more_heard++;
+		return;
+	}
+	guid = owner_of(lid);
+	length = snprintf(heard, sizeof heard, "trap %u from LID %u", number, lid);
+	if (guid) {
+		char name[128];
+
+		print_node(name, sizeof name, guid);
+		snprintf(heard + length, sizeof heard - length, " (%s)", name);
+	}
+}
+
+/* Writes what was heard since the last writing, and forgets it. */
+static void take_heard(char *text, size_t room)
+{
+	snprintf(text, room, "%s", heard);
+	if (more_heard) {
+		size_t length = strlen(text);
+
+		snprintf(text + length, room - length, ", %u more traps", more_heard);
+	}
+	*heard = 0;
+	more_heard = 0;
+}
+
 int heard_trap(unsigned number, unsigned lid)
 {
 	if (options.verbose)
 		note("trap %u from LID %u", number, lid);
-	if (number == LINK_STATE_CHANGED || number == CAPABILITIES_CHANGED)
+	if (number == LINK_STATE_CHANGED || number == CAPABILITIES_CHANGED) {
+		keep_trap(number, lid);
 		want_sweep();
+	}
 	return is_state("master");
 }
 
@@ -281,11 +335,27 @@ static void say_silent(void)
 		note("no answer: %s", silent_request(i));
 }
 
+/* Keeps the plan to be written, and notes what it changes if another one was written before. */
+static void keep_plan(const char *plan)
+{
+	char why[300], *old = kept_plan;
+
+	kept_plan = NULL;
+	keep_text(&kept_plan, plan);
+	if (old && strcmp(old, kept_plan)) {
+		take_heard(why, sizeof why);
+		note_changes(why, old, kept_plan, tell("facts"));
+	}
+	free(old);
+	note_cables(tell("facts"));
+}
+
 static void write_plan(const char *plan)
 {
 	const char *answer;
 
-	keep_text(&kept_plan, plan);
+	keep_plan(plan);
+	plan = kept_plan;
 	status.is_settled = 0;
 	status.lids = lines_with(plan, "lid ");
 	status.switches = lines_with(plan, "switch ");
@@ -339,6 +409,12 @@ static void settle(void)
 {
 	note_left(ports_not_active(), &left_not_active, "stay in Initialize or Armed");
 	note_left(ports_of_others(), &left_of_others, "name another master still");
+	if (*heard) {
+		char why[300];
+
+		take_heard(why, sizeof why);
+		note("%s; nothing is to be written", why);
+	}
 	repeats = 0;
 	faults = 0;
 	status.is_settled = 1;

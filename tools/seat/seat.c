@@ -39,12 +39,13 @@ static const char usage_text[] =
 "  -R, --routing RULE     the rule of routing, as of `ibsm plan` (spread)\n"
 "  -f, --roots FILE       with spread: the switches from which it counts distances\n"
 "  -o, --order FILE       with spread or balance: the order by which it grows\n"
-"  -i, --ibsm PROGRAM     the program; else that of this checkout or beside this one, or ibsm on the path\n"
+"  -i, --ibsm PROGRAM     the program; else the one beside this one, that of this checkout, or ibsm on the path\n"
 "  -s, --sweep S          as master, a sweep each S seconds, 0 for none but by traps and SIGHUP (10)\n"
 "  -m, --poll MS          as standby, the master is polled each MS milliseconds (1000)\n"
 "  -a, --after FILE       number sweeps above the newest of this recording or store, and by the clock\n"
 "  -d, --dry-run          sweep once, print the plan, and write nothing\n"
 "  -S, --status FILE      what it is at, as JSON\n"
+"  -N, --names FILE       a node name map: the log calls nodes by it\n"
 "      --partial          write also where requests have no answer, after the fourth such sweep in a row\n"
 "  -C, --ca NAME          the adapter, as mlx5_0; else the first with a port that is up\n"
 "  -P, --port N           its port\n"
@@ -128,7 +129,7 @@ static const struct option words[] = {
 	{ "priority", 1, 0, 'p' }, { "sm-key", 1, 0, SM_KEY }, { "lmc", 1, 0, 'l' }, { "routing", 1, 0, 'R' },
 	{ "roots", 1, 0, 'f' },
 	{ "order", 1, 0, 'o' }, { "ibsm", 1, 0, 'i' }, { "sweep", 1, 0, 's' }, { "poll", 1, 0, 'm' },
-	{ "after", 1, 0, 'a' }, { "dry-run", 0, 0, 'd' }, { "status", 1, 0, 'S' },
+	{ "after", 1, 0, 'a' }, { "dry-run", 0, 0, 'd' }, { "status", 1, 0, 'S' }, { "names", 1, 0, 'N' },
 	{ "partial", 0, 0, PARTIAL }, { "ca", 1, 0, 'C' },
 	{ "port", 1, 0, 'P' }, { "outstanding", 1, 0, 'n' }, { "timeout", 1, 0, 't' }, { "retries", 1, 0, 'r' },
 	{ "quiet", 0, 0, 'q' }, { "verbose", 0, 0, 'v' }, { "help", 0, 0, 'h' }, { "version", 0, 0, 'V' }, { 0 }
@@ -163,6 +164,7 @@ static void take_option(int letter)
 	case 'a': options.after = optarg; break;
 	case 'd': seat.dry_run = 1; break;
 	case 'S': seat.status_file = optarg; break;
+	case 'N': seat.names_file = optarg; break;
 	case PARTIAL: seat.partial = 1; break;
 	case 'h': print_usage(stdout, usage_text); exit(WHOLE);
 	case 'V': puts("ibsm-seat " VERSION); exit(WHOLE);
@@ -178,12 +180,14 @@ static void parse(int count, char **texts)
 	options.timeout_ms = 200;
 	options.outstanding = 16;
 	seat.routing = "spread";
-	while ((letter = getopt_long(count, texts, "p:l:R:f:o:i:s:m:a:dS:C:P:n:t:r:qvhV", words, NULL)) != -1)
+	while ((letter = getopt_long(count, texts, "p:l:R:f:o:i:s:m:a:dS:N:C:P:n:t:r:qvhV", words, NULL)) != -1)
 		take_option(letter);
 	if (optind != count)
 		take_option('?');
 	if (!seat.program)
 		seat.program = the_program();
+	if (seat.names_file)
+		read_name_map(seat.names_file);
 }
 
 /* Starts the process. Packets of an earlier process are dropped before the new one gets its first line. */

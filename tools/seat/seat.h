@@ -10,7 +10,7 @@ enum { SM_INFO = 0x20, MASTER = 3, HANDOVER = 1, LID_ROUTED_CLASS = 0x01, DIRECT
 enum method { GET = 1, SET = 2, TRAP = 5, TRAP_REPRESS = 7, RESPONSE = 0x80 };
 
 struct seat_options {
-	char *program, *status_file, *sm_key, *lmc, *routing, *roots, *order;
+	char *program, *status_file, *names_file, *sm_key, *lmc, *routing, *roots, *order;
 	int priority, sweep_seconds, poll_ms, dry_run, partial;
 };
 
@@ -33,8 +33,8 @@ int is_ended(void);
 double pause_seen(void);
 void end_pause(void);
 
-/* program.c: returns the path of the program that stands at the top of seat's checkout or beside the installed seat, or
-   its mere name, to be looked for on the path. */
+/* program.c: returns the path of the program that stands beside seat or at the top of its checkout, or its mere name, to
+   be looked for on the path. */
 char *the_program(void);
 
 /* manager.c: the process that decides. */
@@ -116,6 +116,16 @@ uint64_t own_key(void);
 int wins(const struct other *other);
 /* Returns the greatest manager that the process hears and that is in one of two states, or NULL. */
 const struct other *greatest_heard(const char *state, const char *or_state);
+
+/* changes.c: what a writing changes. */
+/* Reads a node name map, and ends if it is none. */
+void read_name_map(const char *path);
+/* Writes a node's name, or its GUID if the map does not have it. */
+void print_node(char *text, size_t room, uint64_t guid);
+/* Keeps the cables of a text of facts. */
+void note_cables(const char *facts);
+/* Notes why a plan is written, how many cables are otherwise than those that are kept, and how many entries differ. */
+void note_changes(const char *why, const char *old, const char *new, const char *facts);
 
 /* status.c */
 struct standing {
