@@ -18,6 +18,7 @@ case $1 in --version) echo 'ibsm 0.1.0' ;; *) echo "program $*"; exit 3 ;; esac
 """
 IN_C = """#!/bin/sh
 echo 'usage: NAME [OPTION]... FILE'
+echo 'Does what others do by --foreign.'
 echo '  -q, --quiet            neither'
 """
 
@@ -141,6 +142,7 @@ def completed(room: Room, to: pathlib.Path, program: pathlib.Path) -> None:
         ("ibsm-find-order --routing ''", ""),
         ("ibsm-what-if --routing s", "spread"),
         ("ibsm-record --quiet --q", "--quiet"),
+        ("ibsm-record --fo", ""),
         ("ibsm plan --ro", "--routing --roots"),
         ("ibsm plan --routing s", "spread"),
         ("ibsm facts --r", ""),

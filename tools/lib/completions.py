@@ -26,8 +26,9 @@ class Taken:
 
     def __init__(self, text: str) -> None:
         usage = text[text.index("usage: ") :].split("\n\n")[0]
-        if "[OPTION]" in usage:
-            usage += "\n" + "\n".join(re.findall(r"^ +(?:-\w, )?(--[a-z][a-z-]*)", text, re.M))
+        if "[OPTION]" in usage.split("\n")[0]:
+            # What follows the first line tells what the tool does.
+            usage = "\n".join(re.findall(r"^ +(?:-\w, +)?(--[a-z][a-z-]*)", text, re.M))
         self.options = " ".join(dict.fromkeys(re.findall(OPTION, usage + " --help --version")))
         self.values = {
             option: words.replace("|", " ") for option, words in re.findall(rf"({OPTION}) ([a-z]+(?:\|[a-z]+)+)", usage)

@@ -9,6 +9,26 @@ enum { MOST_LINE = 256, DIGITS = 2 * BLOCK, MOST_LMC = 7 };
 static const char *name;
 static unsigned long line_number;
 
+/* How a file begins that is not TABLES, and what it is. */
+static const struct {
+	const char *begins, *told;
+} others[] = {
+	{ "IBSMREP1", "a recording" }, { "IBSMSTO", "a store file" }, { "node ", "a text of facts" },
+	{ "floor ", "a text of facts" }, { "Unicast lids", "a dump of forwarding tables" },
+	{ "pairs ", "an audit" },
+};
+
+/* Ends if a first line is that of a file of another kind. */
+static void refuse_others(const char *line)
+{
+	size_t i;
+
+	for (i = 0; i < sizeof others / sizeof *others; i++)
+		if (!strncmp(line, others[i].begins, strlen(others[i].begins)))
+			end(REFUSED, "%s: this is %s; TABLES is what `ibsm plan` or `ibsm next` prints, or `record --tables` "
+			    "writes", name, others[i].told);
+}
+
 static void refuse(const char *line)
 {
 	end(REFUSED, "%s: line %lu is no line of a plan: %.60s", name, line_number, line);
@@ -143,7 +163,8 @@ void read_wanted(const char *path, struct wanted *wanted)
 	if (!file)
 		end(NO_FABRIC, "cannot read %s: %s", name, strerror(errno));
 	while (fgets(line, sizeof line, file)) {
-		line_number++;
+		if (!line_number++)
+			refuse_others(line);
 		length = strlen(line);
 		if (!length || line[length - 1] != '\n') {
 			if (feof(file))
