@@ -174,3 +174,13 @@ class Bench:
         before = self.sweeps()
         opensm.send_signal(signal.SIGHUP)
         return wait_until(lambda: self.sweeps() > before)
+
+    def holds_after_hup(self, opensm: subprocess.Popen[bytes], wanted: str, held: str) -> bool:
+        """Sends OpenSM HUP, and returns whether the fabric holds tables in time; records into `held`. A sweep that was
+        under way does not read the file that was written meanwhile, so its end tells nothing."""
+        opensm.send_signal(signal.SIGHUP)
+
+        def holds() -> bool:
+            return self.record("-q", "-g", 4, "-T", held, "hup.reports") == 0 and self.same(wanted, held)
+
+        return wait_until(holds)

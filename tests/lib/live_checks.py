@@ -103,6 +103,10 @@ def first_round(bench: Bench) -> None:
 
 def refusals(bench: Bench) -> None:
     """Checks what `send` refuses to write."""
+    for name, told in ("none.reports", "a recording"), ("none.facts", "a text of facts"):
+        bench.check(
+            send(bench, name) == 3 and f"{name}: this is {told}; TABLES is what" in bench.said, f"send refuses {told}"
+        )
     plan = (bench.path / "none.plan").read_text()
     texts = {
         "cut": (plan[: plan.rindex("block")], "is it cut?"),

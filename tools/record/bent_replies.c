@@ -2,6 +2,7 @@
  * For tests: loaded before libumad, it bends replies that record or send receives, as the variable BEND says.
  *   pointer   answers over no hops come back with hop pointer 1
  *   status    PortInfo of port 2 is refused with status 0x001C
+ *   near      the same, by nodes one hop away
  *   type      a node two hops away says that it is of type 9
  *   names     nodes one hop away and farther have the same name, with a quote and a control character
  *   unnamed   nodes one hop away do not give their names
@@ -89,6 +90,8 @@ int umad_recv(int port, void *buffer, int *length, int timeout_ms)
 	if (!strcmp(bend, "pointer") && packet[7] == 0)
 		packet[6] = 1;
 	if (!strcmp(bend, "status") && packet[17] == 0x15 && packet[23] == 2)
+		packet[5] = 0x1c;
+	if (!strcmp(bend, "near") && packet[17] == 0x15 && packet[23] == 2 && packet[7] == 1)
 		packet[5] = 0x1c;
 	if (!strcmp(bend, "single") && packet[17] == 0x15 && packet[23] == 2)
 		packet[64 + 37] = packet[64 + 43] = 1 << 4;
