@@ -264,5 +264,25 @@ def large(room: Room) -> None:
             wanted = sum(int(line.split()[-1]) for line in loads.splitlines())
             room.check(loaded == wanted == data["total"] and len(data["channels"]) == data["count"], "all loads")
         room.check(len(re.findall("<button data-c", text)) == 3, "so many of the busiest channels")
+        room.check('id="loop"' not in text, "there is no loop to draw")
         if is_part:
             in_a_browser(room, room.path / "many.html")
+    with_a_loop_in_groups(room, loads)
+
+
+def with_a_loop_in_groups(room: Room, loads: str) -> None:
+    """Checks that a loop in a folded picture is drawn alone, with an arrow for each channel, and in its bundles."""
+    told = [line.split()[1] for line in loads.splitlines()]
+    facts = Facts(room.path / "many.facts")
+    ends = {f"{end[0]:016x}/{end[1]}": facts.wire(end) for end in facts.links if facts.wire(end)}
+    there = next(it for it in told if ends[it][0] != int(it[:16], 16))
+    back = f"{ends[there][0]:016x}/{ends[there][1]}"
+    loop = SOUND.replace("credit loop none", f"credit loop on one lane {there} {back}")
+    room.put(audit_text=loop + loads, audit_ends="no\n")
+    room.run("report many.facts many.plan -o many.html --rows 3 --ibsm ./fake", 1)
+    alone = re.search('<svg id="loop".*?</svg>', checked(room, "many.html"), re.S)[0]
+    room.check(alone.count('class="head"') == 2 and alone.count('<rect class="node"') == 2, "a loop of two channels")
+    rest = room.text("many.html").replace(alone, "").split("<script")[0]
+    room.check(len(re.findall('<g class="(?:cable bundle|group) [^"]*loop', rest)) >= 1, "and its bundle or group")
+    data = json.loads(re.search("id=data>(.*?)</script>", room.text("many.html"))[1])
+    room.check(sum(len(it) == 6 for it in data["channels"]) == 2, "and its channels, for the script")
