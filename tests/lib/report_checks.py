@@ -64,27 +64,45 @@ class Balanced(html.parser.HTMLParser):
             self.fault = self.fault or f"</{tag}> at {self.getpos()}"
 
 
-def in_a_browser(room: Room, path: pathlib.Path) -> None:
-    """Checks the page's script in a browser: a click on a channel, in the table or in the picture, tells its load."""
+def shown(room: Room, path: pathlib.Path, script: str) -> str | None:
+    """Returns a page as a browser has it after a script that runs behind its own, or None if there is no browser."""
     browser = next((name for name in ("chromium", "chromium-browser", "google-chrome") if shutil.which(name)), None)
     if not browser:
-        print("test-files: there is no chromium here, so no page is tried in a browser")
-        return
+        return None
+    clicked = path.with_suffix(".clicked.html")
+    clicked.write_text(path.read_text().replace("</body>", f"<script>{script}</script></body>"))
+    words = [browser, "--headless", "--no-sandbox", "--disable-gpu", "--dump-dom"]
+    words += [f"--user-data-dir={room.path}/browser", f"file://{clicked}"]
+    return subprocess.run(words, capture_output=True, text=True, timeout=120).stdout
+
+
+def in_a_browser(room: Room, path: pathlib.Path) -> None:
+    """Checks the page's script in a browser: a click on a channel, in the table or in the picture, tells its load; one
+    on a group unfolds it; and the wheel zooms."""
     text, told = path.read_text(), re.search(r'<button data-c="(.*?)" data-told="(.*?)"', path.read_text())
     is_folded = "id=data" in text
     for what in f'button[data-c="{told[1]}"]', *(() if is_folded else (f'g[data-c="{told[1]}"]',)):
-        # A click that the page makes itself, once its own script has run.
-        click = f"document.querySelector('{what}').dispatchEvent(new MouseEvent('click', {{ bubbles: true }}))"
-        clicked = path.with_suffix(".clicked.html")
-        clicked.write_text(text.replace("</body>", f"<script>{click}</script></body>"))
-        words = [browser, "--headless", "--no-sandbox", "--disable-gpu", "--dump-dom"]
-        words += [f"--user-data-dir={room.path}/browser", f"file://{clicked}"]
-        run = subprocess.run(words, capture_output=True, text=True, timeout=120)
-        room.check(
-            f">{html.unescape(told[2])}</p>" in html.unescape(run.stdout)
-            and re.search(r'<g class="[^"]* chosen"', run.stdout),
-            f"a click on {what} tells {told[2]}: {run.stdout[-300:]}{run.stderr[-300:]}",
+        found = shown(
+            room, path, f"document.querySelector('{what}').dispatchEvent(new MouseEvent('click', {{ bubbles: true }}))"
         )
+        if found is None:
+            print("test-files: there is no chromium here, so no page is tried in a browser")
+            return
+        room.check(
+            f">{html.unescape(told[2])}</p>" in html.unescape(found) and re.search(r'<g class="[^"]* chosen"', found),
+            f"a click on {what} tells {told[2]}: {found[-300:]}",
+        )
+    box = re.search(r'id="net"[^>]*viewBox="(.*?)"', text)[1].split()
+    found = shown(room, path, "net.dispatchEvent(new WheelEvent('wheel', { deltaY: -400, clientX: 50, clientY: 50 }))")
+    zoomed = re.search(r'id="net"[^>]*viewBox="(.*?)"', found)[1].split()
+    room.check(float(zoomed[2]) < 0.7 * float(box[2]), f"the wheel zooms: {box} {zoomed}")
+    if is_folded:
+        click = "document.querySelector('[data-box=\"0\"]').dispatchEvent(new MouseEvent('click', { bubbles: true }))"
+        found = shown(room, path, click).split("<script")[0]
+        name, *members = json.loads(re.search("id=data>(.*?)</script>", text)[1])["groups"][0]
+        room.check(f">{name}: {len(members)} switches</p>" in found, f"a click on {name} unfolds it")
+        room.check(found.count('<g class="switch') == len(members), f"its {len(members)} switches are drawn")
+        room.check('<button id="whole">' in found, "with a way back to all groups")
 
 
 def checked(room: Room, name: str) -> str:
