@@ -34,59 +34,51 @@ at_least (suc n) xs all =
     omega (arith, fewer, rest, filtered_all (λ x. true) xs)
 
 module _ (n : ℕ) (vertices : List ℕ) (are : AreVertices n vertices) where
-  abbrev places : List ℕ
-  places = positions_in vertices n
+  abbrev indices : List ℕ
+  indices = positions_in vertices n
 
-  long : length places ≡ n
+  long : length indices ≡ n
   long = length-map-range_with_len (position_of vertices) 0 n
 
-  place : (v : ℕ) → v < n → number_at places v ≡ position_of vertices v
-  place v below = get_or-map-range_with_len (position_of vertices) 0 n v v 0 below (omega arith)
+  index_is : (v : ℕ) → v < n → number_at indices v ≡ position_of vertices v
+  index_is v below = get_or-map-range_with_len (position_of vertices) 0 n v v 0 below (omega arith)
 
-  -- no two have one place
-  places_once : (a b : ℕ) → a < length places → b < a → number_at places b ≡ number_at places a → ⊥
-  places_once a b within less same =
+  -- no two have one index
+  indices_once : (a b : ℕ) → a < length indices → b < a → number_at indices b ≡ number_at indices a → ⊥
+  indices_once a b within less same =
       let a_in : a < n = omega (arith, within, long) in
       let b_in : b < n = omega (arith, a_in, less) in
       let one = position_less vertices a (are.all a a_in) in
       let other = position_less vertices b (are.all b b_in) in
-      let is : b ≡ a = sym other.1 ∙ ap (at_position vertices) (sym (place b b_in) ∙ same ∙ place a a_in) ∙ one.1 in
+      let is : b ≡ a = sym other.1 ∙ ap (at_position vertices) (sym (index_is b b_in) ∙ same ∙ index_is a a_in) ∙ one.1 in
       omega (arith, less, is)
 
-  -- who is at a place
-  there : (i : ℕ) → i < length vertices → position_of places i ≡ number_at vertices i
+  -- who has an index
+  there : (i : ℕ) → i < length vertices → position_of indices i ≡ number_at vertices i
   there i within =
       let v = number_at vertices i in
       let below = are.vertex i within in
-      let at : number_at places v ≡ i = place v below ∙ position_at vertices are.once i within in
-      ap (position_of places) (sym at) ∙ position_at places places_once v (omega (arith, below, long))
+      let at : number_at indices v ≡ i = index_is v below ∙ position_at vertices are.once i within in
+      ap (position_of indices) (sym at) ∙ position_at indices indices_once v (omega (arith, below, long))
+
+  -- each index is somebody's
+  each_index : (i : ℕ) → i < length vertices → Contains indices i
+  each_index i within =
+      let below = are.vertex i within in
+      subst (λ (x : ℕ). Contains indices x) (index_is (number_at vertices i) below ∙ position_at vertices are.once i within)
+      (contains_at indices (number_at vertices i) (omega (arith, below, long)))
 
   all_long : length vertices ≡ n
-  all_long =
-      let least = at_least n vertices are.all in
-      let most : length vertices ≤ n = not_more in
-      omega (arith, least, most)
-    where
-      -- as many as differ
-      not_more : length vertices ≤ n
-      not_more = at_least_of (length vertices) (λ i less. (i, less))
-        where
-          at_least_of : (m : ℕ) → ((i : ℕ) → i < m → (k : ℕ) × (k < length vertices)) → length vertices ≤ n
-          at_least_of m h =
-              let all_places : (s : ℕ) → s < length vertices → Contains places s =
-              λ s less. subst (λ (x : ℕ). Contains places x) (place (number_at vertices s) (are.vertex s less) ∙ position_at vertices are.once s less)
-              (contains_at places (number_at vertices s) (let below = are.vertex s less in omega (arith, below, long))) in
-              let enough = at_least (length vertices) places all_places in
-              omega (arith, enough, long)
+  all_long = omega (arith, at_least n vertices are.all, at_least (length vertices) indices each_index, long)
 
-  -- the places of places are the list again
-  pub twice : positions_in places (length places) ≡ vertices
+  -- the indices of indices are the list again
+  pub twice : positions_in indices (length indices) ≡ vertices
   twice =
-      let count : length places ≡ length vertices = long ∙ sym all_long in
-      ext_get_or 0 (positions_in places (length places)) vertices (length-map-range_with_len (position_of places) 0 (length places) ∙ count)
+      let count : length indices ≡ length vertices = long ∙ sym all_long in
+      ext_get_or 0 (positions_in indices (length indices)) vertices (length-map-range_with_len (position_of indices) 0 (length indices) ∙ count)
       (λ i less.
-      let i_in : i < length vertices = (let l = length-map-range_with_len (position_of places) 0 (length places) in omega (arith, less, l, count)) in
-      get_or-map-range_with_len (position_of places) 0 (length places) i i 0 (omega (arith, i_in, count)) (omega arith) ∙ there i i_in)
+      let i_in : i < length vertices = (let l = length-map-range_with_len (position_of indices) 0 (length indices) in omega (arith, less, l, count)) in
+      get_or-map-range_with_len (position_of indices) 0 (length indices) i i 0 (omega (arith, i_in, count)) (omega arith) ∙ there i i_in)
 
 module _ (facts : Facts) (vertices : List ℕ) (are : AreVertices (length (switches (cells_of facts))) vertices) where
   abbrev all : List ℕ
@@ -114,12 +106,12 @@ module _ (facts : Facts) (vertices : List ℕ) (are : AreVertices (length (switc
         | inr differ ↦ ne_eqb (at_position all x) (at_position all a) (λ e. differ (apart x a x_in a_in e)) ∙ sym (ne_eqb x a differ)
       ]
 
-  same_place : (xs : List ℕ) (a : ℕ) → ((i : ℕ) → i < length xs → number_at xs i < length all) → a < length all
+  same_index : (xs : List ℕ) (a : ℕ) → ((i : ℕ) → i < length xs → number_at xs i < length all) → a < length all
       → position_of (map (switch_at (cells_of facts)) xs) (switch_at (cells_of facts) a) ≡ position_of xs a
-  same_place [] a within a_in = refl
-  same_place (x ∷ xs) a within a_in =
+  same_index [] a within a_in = refl
+  same_index (x ∷ xs) a within a_in =
       let test = same_test x a (within 0 (omega arith)) a_in in
-      let later = same_place xs a (λ i less. within (suc i) (omega (arith, less))) a_in in
+      let later = same_index xs a (λ i less. within (suc i) (omega (arith, less))) a_in in
       (λ i. cond (test i) 0 (suc (later i)))
 
   pub named_again : named_positions (cells_of facts) (switches_by (cells_of facts) (positions_in vertices (length all))) ≡ positions_in vertices (length all)
@@ -133,5 +125,5 @@ module _ (facts : Facts) (vertices : List ℕ) (are : AreVertices (length (switc
       ∙ ext_get_or 0 (map (position_of names) all) p one
       (λ i less.
       let i_in : i < n = (let l = length-map all (position_of names) in omega (arith, less, l)) in
-      get_or-map (position_of names) all i 0 0 i_in ∙ same_place vertices i are.vertex i_in
+      get_or-map (position_of names) all i 0 0 i_in ∙ same_index vertices i are.vertex i_in
       ∙ sym (get_or-map-range_with_len (position_of vertices) 0 n i i 0 i_in (omega arith)))
