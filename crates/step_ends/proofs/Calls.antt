@@ -1,5 +1,5 @@
 -- Calls of `next`, one after the other, come to follow the plan's order, and then end.
-use Rattle.std.proofs.Common.{◌≡◌, ◌∙◌, ◌<◌, ◌≤◌, ◌⊎◌, ◌+◌, ◌-◌, ◌*◌, ℕ, zero, suc, Bool, true, false, cond, List, Option, None, Some, length, refl, sym, ap, subst, arith, inl, inr}
+use Rattle.std.proofs.Common.{◌≡◌, ◌∙◌, ◌<◌, ◌≤◌, ◌⊎◌, ◌+◌, ◌-◌, ◌*◌, ℕ, zero, suc, Bool, true, false, cond, List, [], Option, None, Some, length, refl, sym, ap, subst, arith, inl, inr}
 use Rattle.std.specs.Prelude.{nat_lt}
 use Rattle.std.proofs.lemmas.Bool.{cases_eq, cases_lt, le-ltb, lt-ltb}
 use Rattle.fact_store.specs.View.{Facts, cells_of, AreInRange}
@@ -40,7 +40,7 @@ use Rattle.step_ends.proofs.Steps.{repeated, steps}
 use Rattle.step_ends.proofs.WholePlans.{plans_are_whole, plans_give_own_lids}
 
 -- a sequence with another value from index `j` on
-until : {A : Type 0} → ℕ → A → (ℕ → A) → ℕ → A
+abbrev until : {A : Type 0} → ℕ → A → (ℕ → A) → ℕ → A
 until j x s i = cond (nat_lt i j) (s i) x
 
 before : {A : Type 0} (j : ℕ) (x : A) (s : ℕ → A) (i : ℕ) → i < j → until j x s i ≡ s i
@@ -49,13 +49,25 @@ before j x s i less = λ k. cond (lt-ltb i j less k) (s i) x
 behind : {A : Type 0} (j : ℕ) (x : A) (s : ℕ → A) (i : ℕ) → j ≤ i → until j x s i ≡ x
 behind j x s i le = λ k. cond (le-ltb i j le k) (s i) x
 
+-- the number that is `i` more than `a`
+abbrev from : ℕ → ℕ → ℕ
+from a zero = a
+from a (suc i) = suc (from a i)
+
+from_is : (a i : ℕ) → from a i ≡ i + a
+from_is a zero = omega arith
+from_is a (suc i) = (let e = from_is a i in omega (arith, e))
+
+times_more : (c l : ℕ) → suc c * l ≡ l + c * l
+times_more c l = grind arith
+
 clash : (b : Bool) → b ≡ true → b ≡ false → ⊥
 clash b t f = absurd (cc)
 
 no_goal_is_some : (g : Goal) → ◌≡◌ {A = Option Goal} None (Some g) → ⊥
 no_goal_is_some g e = absurd (cc)
 
-goal_or_none : Option Goal → Goal
+abbrev goal_or_none : Option Goal → Goal
 goal_or_none None = record { positions = []; tables = nothing_held }
 goal_or_none (Some g) = g
 
@@ -129,22 +141,24 @@ module _ (rule : RuleValue) (lmc : ℕ) (facts : Facts) (range : AreInRange fact
         subst (λ (t : HeldPlan). is_right t ≡ true) (sym (following m right).0) (right_tables_make_no_loop rule lmc facts (tables m) range has_room right).right
 
     follow : (k : ℕ) → is_right (tables k) ≡ true → (j : ℕ)
-        → (is_right (tables (j + k)) ≡ true) × (tables (j + k) ≡ steps rule lmc facts range has_room (tables k) j)
+        → (is_right (tables (from k j)) ≡ true) × (tables (from k j) ≡ steps rule lmc facts range has_room (tables k) j)
     follow k right zero = (right, refl)
     follow k right (suc j) =
         let so_far = follow k right j in
-        (follows_on (j + k) so_far.0, (following (j + k) so_far.0).0 ∙ ap (stepped lmc rule facts) so_far.1)
+        (follows_on (from k j) so_far.0, (following (from k j) so_far.0).0 ∙ ap (stepped lmc rule facts) so_far.1)
 
-    ended : (k : ℕ) → is_right (tables k) ≡ true → (j : ℕ) → AreEnough rule lmc facts j → tables (suc j + k) ≡ tables (j + k)
+    ended : (k : ℕ) → is_right (tables k) ≡ true → (j : ℕ) → AreEnough rule lmc facts j → tables (from k (suc j)) ≡ tables (from k j)
     ended k right zero are = absurd (omega (arith, are.enough, are.two))
     ended k right (suc j) are =
         (follow k right (suc (suc j))).1 ∙ repeated rule lmc facts range has_room (tables k) j are ∙ sym (follow k right (suc j)).1
 
-    pub following_end : (k : ℕ) → FollowPlan rule facts (tables k) → (j : ℕ)
+    following_end : (k : ℕ) → FollowPlan rule facts (tables k) → (j : ℕ)
         → Follows rule facts (tables (j + k)) (goals (j + k)) × (AreEnough rule lmc facts j → tables (suc j + k) ≡ tables (j + k))
     following_end k right j =
         let so = follow k right j in
-        (record { right = so.0; no_goal = (following (j + k) so.0).1 }, ended k right j)
+        let at = from_is k j in (
+        subst (λ (i : ℕ). Follows rule facts (tables i) (goals i)) at (record { right = so.0; no_goal = (following (from k j) so.0).1 }),
+        λ are. ap tables (sym (from_is k (suc j))) ∙ ended k right j are ∙ ap tables at)
 
     -- no loop ------------------------------------------------------------------------------------
 
@@ -183,7 +197,7 @@ module _ (rule : RuleValue) (lmc : ℕ) (facts : Facts) (range : AreInRange fact
     right_so_far first zero = first
     right_so_far first (suc m) = (by_call m (right_so_far first m)).right
 
-    pub no_loops : RightBySome (tables 0) → (m : ℕ) (cycle lids : List ℕ) → IsLoopInStep cells (tables m) (tables (suc m)) cycle lids → cycle ≡ []
+    no_loops : RightBySome (tables 0) → (m : ℕ) (cycle lids : List ℕ) → IsLoopInStep cells (tables m) (tables (suc m)) cycle lids → cycle ≡ []
     no_loops first m = (by_call m (right_so_far first m)).loops
 
     -- stages -------------------------------------------------------------------------------------
@@ -199,16 +213,16 @@ module _ (rule : RuleValue) (lmc : ℕ) (facts : Facts) (range : AreInRange fact
 
       module _ (a : ℕ) (fresh : IsFresh a) (grown : AreGrown cells (tables a) by) where
         abbrev ts : ℕ → HeldPlan
-        ts i = tables (i + a)
+        ts i = tables (from a i)
 
         abbrev gs : ℕ → Goal
-        gs i = goal_or_none (goals (i + a))
+        gs i = goal_or_none (goals (from a i))
 
         -- the first `j` calls from `a` on are handed steps, and each after the first changed something
         record Handed (j : ℕ) : Type 0 where
           are : AreHandedSteps facts by by plan ts gs j
           changed : (i : ℕ) → suc i < j → ts (suc (suc i)) ≡ ts (suc i) → ⊥
-          some : (i : ℕ) → i < j → goals (i + a) ≡ Some (gs i)
+          some : (i : ℕ) → i < j → goals (from a i) ≡ Some (gs i)
 
         -- what comes of the calls
         data Comes : Type 0 where
@@ -225,7 +239,7 @@ module _ (rule : RuleValue) (lmc : ℕ) (facts : Facts) (range : AreInRange fact
         next_handed : (f : Goal) (j : ℕ) → ts (suc j) ≡ next_towards rule facts (ts j) plan (Some f) → ts (suc j) ≡ next_to facts (ts j) f
         next_handed f j is = is
 
-        one_more : (j : ℕ) → Handed j → (f : Goal) → goals (j + a) ≡ Some f → IsGoal cells (ts j) plan by (handed by gs j) (Some f)
+        one_more : (j : ℕ) → Handed j → (f : Goal) → goals (from a j) ≡ Some f → IsGoal cells (ts j) plan by (handed by gs j) (Some f)
             → ((i : ℕ) → j ≡ suc i → next_towards rule facts (ts j) plan (Some f) ≡ ts j → ⊥) → Handed (suc j)
         one_more j so_far f is goal_is changes = record {
           are = record { goal_is = goal_at; step_is = step_at };
@@ -233,11 +247,11 @@ module _ (rule : RuleValue) (lmc : ℕ) (facts : Facts) (range : AreInRange fact
           some = some_at;
         }
           where
-            it : gs j ≡ f
+            it : goal_or_none (goals (from a j)) ≡ f
             it = ap goal_or_none is
 
             moved : ts (suc j) ≡ next_to facts (ts j) f
-            moved = next_handed f j ((calls (j + a)).is ∙ ap (next_towards rule facts (ts j) plan) is)
+            moved = next_handed f j ((calls (from a j)).is ∙ ap (next_towards rule facts (ts j) plan) is)
 
             goal_at : (i : ℕ) → i < suc j → IsGoal cells (ts i) plan by (handed by gs i) (Some (gs i))
             goal_at i less =
@@ -255,10 +269,10 @@ module _ (rule : RuleValue) (lmc : ℕ) (facts : Facts) (range : AreInRange fact
                   | inr other ↦ so_far.are.step_is i (grind arith)
                 ]
 
-            some_at : (i : ℕ) → i < suc j → goals (i + a) ≡ Some (gs i)
+            some_at : (i : ℕ) → i < suc j → goals (from a i) ≡ Some (gs i)
             some_at i less =
                 elim (cases_eq i j) [
-                  | inl same ↦ subst (λ (k : ℕ). goals (k + a) ≡ Some (gs k)) (sym same) (is ∙ ap Some (sym it))
+                  | inl same ↦ subst (λ (k : ℕ). goals (from a k) ≡ Some (gs k)) (sym same) (is ∙ ap Some (sym it))
                   | inr other ↦ so_far.some i (grind arith)
                 ]
 
@@ -343,52 +357,80 @@ module _ (rule : RuleValue) (lmc : ℕ) (facts : Facts) (range : AreInRange fact
                       t_at (suc i) (omega (arith, low)) ∙ so_far.are.step_is i low ∙ (λ k. next_to facts (sym (t_at i less) k) (sym (g_at i low) k))
                 ]
 
+        -- what a call makes of handed steps
+        data Onward (j : ℕ) : Type 0 where
+          right_now : is_right (ts j) ≡ true → Onward j
+          ended_stage : IsFresh (from a j) → IsStage facts by plan (tables a) (ts j) → Onward j
+          more : Handed (suc j) → Onward j
+
+        first_more : (so_far : Handed 0) → is_right (ts 0) ≡ false → (g : Goal) → goals a ≡ Some g → Onward 0
+        first_more so_far e g is =
+            more (one_more 0 so_far g is
+            (near_goal None (ts 0) (Some g) e (subst (λ (o : Option Goal). IsGoalNear rule None facts (ts 0) plan o) is fresh))
+            (λ i none. absurd (omega (arith, none))))
+
+        module _ (j : ℕ) (so_far : Handed (suc j)) (e : is_right (ts (suc j)) ≡ false) (g : Goal) (is : goals (from a (suc j)) ≡ Some g) where
+          near_last : (f : Goal) → IsGoalNear rule (order_of_step cells (Some (gs j))) facts (ts (suc j)) plan (Some f)
+              → IsGoal cells (ts (suc j)) plan by (gs j).positions (Some f)
+          near_last f near =
+              subst (λ (ps : List ℕ). IsGoal cells (ts (suc j)) plan by ps (Some f)) (read_again j so_far)
+              (near_goal (order_of_step cells (Some (gs j))) (ts (suc j)) (Some f) e near)
+
+          by_taken : (first : Option Goal) → IsGoalNear rule (order_of_step cells (Some (gs j))) facts (ts (suc j)) plan first
+              → IsTaken rule facts (ts (suc j)) plan first (Some g) → Onward (suc j)
+          by_taken None near taken = absurd (no_goal_is_some g (sym taken))
+          by_taken (Some f) near (inl taken) =
+              more (one_more (suc j) so_far f (is ∙ taken.1) (near_last f near) (λ i same. taken.0))
+          by_taken (Some f) near (inr taken) =
+              ended_stage (subst (λ (o : Option Goal). IsGoalNear rule None facts (ts (suc j)) plan o) (sym is) taken.1)
+              (ends j so_far f (near_last f near) taken.0)
+
+          later_more : Onward (suc j)
+          later_more =
+              let given : order_given cells goals (from a (suc j)) ≡ order_of_step cells (Some (gs j)) = ap (order_of_step cells) (so_far.some j (omega arith)) in
+              let own : IsGoalOf rule (order_of_step cells (Some (gs j))) facts (ts (suc j)) plan (Some g) =
+              subst (λ (x : Option (List ℕ) × Option Goal). IsGoalOf rule x.0 facts (ts (suc j)) plan x.1) (λ k. (given k, is k))
+              (calls (from a (suc j))).goal_is in
+              by_taken own.0 own.1 own.2
+
+        some_more : (j : ℕ) → Handed j → is_right (ts j) ≡ false → (g : Goal) → goals (from a j) ≡ Some g → Onward j
+        some_more zero so_far e g is = first_more so_far e g is
+        some_more (suc j) so_far e g is = later_more j so_far e g is
+
+        by_goal : (j : ℕ) → Handed j → is_right (ts j) ≡ false → (g : Option Goal) → goals (from a j) ≡ g → Onward j
+        by_goal j so_far e None is =
+            absurd (some_goal (order_given cells goals (from a j)) (ts j) (right_so_far first_right (from a j)) e
+            (subst (λ (g : Option Goal). IsGoalOf rule (order_given cells goals (from a j)) facts (ts j) plan g) is (calls (from a j)).goal_is))
+        by_goal j so_far e (Some g) is = some_more j so_far e g is
+
+        onward : (j : ℕ) → Handed j → Onward j
+        onward j so_far =
+            elim (is_right (ts j)) as (λ b. is_right (ts j) ≡ b → Onward j) [
+              | true ↦ λ e. right_now e
+              | false ↦ λ e. by_goal j so_far e (goals (from a j)) refl
+            ] refl
+
+        early_at : (c j : ℕ) → suc c + j ≡ length_of_stage → from a j ≤ length_of_stage + a
+        early_at c j count = (let e = from_is a j in omega (arith, e, count))
+
         -- from one call to the next
         go_on : (c j : ℕ) → c + j ≡ length_of_stage → Handed j → Comes
         go_on zero zero count so_far = absurd (omega (arith, count))
         go_on zero (suc j) count so_far =
             let told = some_told j so_far in
             let last : ℕ = 2 * n + 2 in
-            let at : suc j ≡ suc last = omega (arith, count) in
             let still = handed_steps_end facts range by by plan ts gs (suc j) so_far.are told (grown told) whole last (omega arith) (omega (arith, count)) in
             let before_last : ℕ = 2 * n + 1 in
             let same : last ≡ suc before_last = omega arith in
             absurd (so_far.changed before_last (omega (arith, count)) (subst (λ (m : ℕ). ts (suc m) ≡ ts m) same still))
         go_on (suc c) j count so_far =
-            elim (is_right (ts j)) as (λ b. is_right (ts j) ≡ b → Comes) [
-              | true ↦ λ e. follows (j + a) (omega (arith, count)) e
-              | false ↦ λ e. by_goal j count so_far e (goals (j + a)) refl
-            ] refl
-          where
-            by_goal : (j : ℕ) → suc c + j ≡ length_of_stage → Handed j → is_right (ts j) ≡ false → (g : Option Goal) → goals (j + a) ≡ g → Comes
-            by_goal j count so_far e None is =
-                absurd (some_goal (order_given cells goals (j + a)) (ts j) (right_so_far first_right (j + a)) e
-                (subst (λ (g : Option Goal). IsGoalOf rule (order_given cells goals (j + a)) facts (ts j) plan g) is (calls (j + a)).goal_is))
-            by_goal zero count so_far e (Some g) is =
-                go_on c 1 (omega (arith, count)) (one_more 0 so_far g is
-                (near_goal None (ts 0) (Some g) e (subst (λ (o : Option Goal). IsGoalNear rule None facts (ts 0) plan o) is fresh))
-                (λ i none. absurd (omega (arith, none))))
-            by_goal (suc j) count so_far e (Some g) is =
-                let given : order_given cells goals (suc j + a) ≡ order_of_step cells (Some (gs j)) = ap (order_of_step cells) (so_far.some j (omega arith)) in
-                let own : IsGoalOf rule (order_of_step cells (Some (gs j))) facts (ts (suc j)) plan (Some g) =
-                subst (λ (x : Option (List ℕ) × Option Goal). IsGoalOf rule x.0 facts (ts (suc j)) plan x.1) (λ k. (given k, is k)) (calls (suc j + a)).goal_is in
-                by_taken own.0 own.1 own.2
-              where
-                by_taken : (first : Option Goal) → IsGoalNear rule (order_of_step cells (Some (gs j))) facts (ts (suc j)) plan first
-                    → IsTaken rule facts (ts (suc j)) plan first (Some g) → Comes
-                by_taken None near taken = absurd (no_goal_is_some g (sym taken))
-                by_taken (Some f) near (inl taken) =
-                    let goal_is = subst (λ (ps : List ℕ). IsGoal cells (ts (suc j)) plan by ps (Some f)) (read_again j so_far)
-                    (near_goal (order_of_step cells (Some (gs j))) (ts (suc j)) (Some f) e near) in
-                    go_on c (suc (suc j)) (omega (arith, count)) (one_more (suc j) so_far f (is ∙ taken.1) goal_is (λ i same. taken.0))
-                by_taken (Some f) near (inr taken) =
-                    let goal_is = subst (λ (ps : List ℕ). IsGoal cells (ts (suc j)) plan by ps (Some f)) (read_again j so_far)
-                    (near_goal (order_of_step cells (Some (gs j))) (ts (suc j)) (Some f) e near) in
-                    stage (suc j + a) (omega (arith, count))
-                    (subst (λ (o : Option Goal). IsGoalNear rule None facts (ts (suc j)) plan o) (sym is) taken.1)
-                    (ends j so_far f goal_is taken.0)
+            elim (onward j so_far) [
+              | right_now e ↦ follows (from a j) (early_at c j count) e
+              | ended_stage f is ↦ stage (from a j) (early_at c j count) f is
+              | more next ↦ go_on c (suc j) (omega (arith, count)) next
+            ]
 
-        pub comes : Comes
+        comes : Comes
         comes = go_on length_of_stage 0 (omega arith) none_yet
 
       -- after so many stages, or before, tables follow the plan
@@ -403,7 +445,7 @@ module _ (rule : RuleValue) (lmc : ℕ) (facts : Facts) (range : AreInRange fact
       Found c = (k : ℕ) × (k ≤ c * length_of_stage) × (is_right (tables k) ≡ true)
 
       later : (c k : ℕ) → k ≤ c * length_of_stage → k ≤ suc c * length_of_stage
-      later c k le = (let e : suc c * length_of_stage ≡ length_of_stage + c * length_of_stage = refl in omega (arith, le, e))
+      later c k le = (let e = times_more c length_of_stage in omega (arith, le, e))
 
       next_stage : (c : ℕ) → After c → Found (suc c) ⊎ After (suc c)
       next_stage c at =
@@ -419,7 +461,7 @@ module _ (rule : RuleValue) (lmc : ℕ) (facts : Facts) (range : AreInRange fact
           ]
         where
           within : (k : ℕ) → k ≤ length_of_stage + at.b → k ≤ suc c * length_of_stage
-          within k le = (let e : suc c * length_of_stage ≡ length_of_stage + c * length_of_stage = refl in omega (arith, le, at.early, e))
+          within k le = (let e = times_more c length_of_stage in omega (arith, le, at.early, e))
 
       stages : (c : ℕ) → After 0 → Found c ⊎ After c
       stages zero first = inr first
@@ -448,7 +490,7 @@ calls_come_to_follow rule lmc facts tables goals range has_room calls first =
     let right = by_told rule lmc facts range has_room (tables 0) first.told in
     let whole = plans_are_whole rule lmc facts range has_room in
     let have = plans_give_own_lids rule lmc facts range has_room first.have_ports in
-    let begun = record {
+    let begun : After rule lmc facts range has_room tables goals calls whole have right 0 = record {
       b = 0;
       early = omega arith;
       fresh = (calls 0).goal_is;
