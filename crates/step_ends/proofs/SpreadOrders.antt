@@ -11,12 +11,13 @@ use Rattle.subnet_view.specs.Graph.{graph_of, guids_of}
 use Rattle.subnet_view.specs.GraphLaws.{IsSwitch}
 use Rattle.subnet_view.proofs.Graphs.{graph_law}
 use Rattle.subnet_view.proofs.GraphSwitches.{graph_guids}
-use Rattle.lft_blocks.specs.Rule.{adapters_of, order_of, spread_in}
+use Rattle.lft_blocks.specs.Rule.{order_of, spread_in}
 use Rattle.spread_labels.specs.KeyOrder.{before_by}
 use Rattle.spread_labels.specs.Orders.{at_position, order, position_of}
 use Rattle.spread_labels.specs.declared.key_order.VertexKey.{VertexKey}
 use Rattle.spread_labels.proofs.Growing.{contains_at}
-use Rattle.spread_routes.specs.Rule.{by_index, order_by_keys}
+use Rattle.spread_routes.specs.Adapters.{adapters_of}
+use Rattle.spread_routes.specs.Rule.{by_index}
 use Rattle.spread_routes.specs.Spread.{keys_by}
 use Rattle.spread_routes.specs.SwitchOrder.{OrderValue}
 use Rattle.spread_routes.proofs.Indices.{as_many, index_of_switch, leads_below}
