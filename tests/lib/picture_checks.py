@@ -111,6 +111,8 @@ def groups_found(room: Room) -> None:
     fly = figure_fabrics.palm_dragonfly(8, 4, 1)
     found, is_one = groups_of(fly)
     room.check(not is_one and sorted(map(len, found.values())) == [8] * 33, f"a dragonfly: {found.keys()}")
+    called, _ = groups_of(fly, {fly.guid(f"S{i + 1}"): f"g{i // 8}s{i % 8}" for i in range(264)})
+    room.check(list(called) == [f"g{i}" for i in range(33)], f"which are called by its names: {list(called)}")
     for guids in found.values():
         room.check(len({(guid // 16 - 1) // 8 for guid in guids}) == 1, "by its own groups")
     found, is_one = groups_of(sample_fabrics.torus(12, 12))

@@ -6,6 +6,7 @@ import collections
 import os
 from collections.abc import Iterable, Sequence
 
+import groups
 from ibsm_texts import Names
 from rows import components
 
@@ -119,10 +120,14 @@ def cut(parts: Sequence[list[int]]) -> list[list[int]]:
 
 
 def named(word: str, parts: Sequence[list[int]], names: Names) -> dict[str, list[int]]:
-    """Returns groups with names: what the names of all members begin with if no other group has that, or else a word
-    and a number."""
+    """Returns groups with names: that by which the names of all members group them, or what these begin with, if no
+    other group has that; or else a word and a number."""
     starts = []
     for part in parts:
+        by_name = set(groups.by_names(part, names).values())
+        if len(part) > 1 and len(by_name) == 1 and "?" not in by_name:
+            starts += by_name
+            continue
         own = [names.get(guid, "") for guid in part]
         common = os.path.commonprefix(own) if len(part) > 1 else ""
         if any(name[len(common) : len(common) + 1].isdigit() for name in own):
