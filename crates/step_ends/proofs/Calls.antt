@@ -157,8 +157,9 @@ module _ (rule : RuleValue) (lmc : ℕ) (facts : Facts) (range : AreInRange fact
     following_end k right j =
         let so = follow k right j in
         let at = from_is k j in (
-        subst (λ (i : ℕ). Follows rule facts (tables i) (goals i)) at (record { right = so.0; no_goal = (following (from k j) so.0).1 }),
-        λ are. ap tables (sym (from_is k (suc j))) ∙ ended k right j are ∙ ap tables at)
+          subst (λ (i : ℕ). Follows rule facts (tables i) (goals i)) at (record { right = so.0; no_goal = (following (from k j) so.0).1 }),
+          λ are. ap tables (sym (from_is k (suc j))) ∙ ended k right j are ∙ ap tables at,
+        )
 
     -- no loop ------------------------------------------------------------------------------------
 
