@@ -44,15 +44,17 @@ plan) echo "$*" >>fab/planned; cat fab/plan ;;
 order)
     echo "$*" >>fab/ordered
     case "$*" in
-    *--held*) [ -f fab/told ] && cat fab/told ;;
-    *--order*) echo 0x3 ;;
-    *) echo 0x1 ;;
+    *--held*) [ -f fab/implied ] && cat fab/implied ;;
+    *--order*)
+        for word; do
+            [ "$before" != --order ] || cat "$word"
+            before=$word
+        done ;;
+    *) cat fab/own ;;
     esac ;;
 next)
     echo "$*" >>fab/stepped
-    for file in kept last; do
-        case "$*" in *$file.order*) if [ -f fab/$file ]; then cat "$tables"; exit 1; fi ;; esac
-    done
+    case "$*" in *--last-order*) tr '\\n' ' ' <rd/step.order >>fab/handed ;; esac
     for word; do tables=$file; file=$word; done
     if [ -f fab/moves ]; then cat fab/moves >&2; exit 3; fi
     between=
@@ -62,12 +64,19 @@ next)
         fi
     done
     cat "${between:-fab/next}"
-    cat fab/loop >&2
-    grep -q none fab/loop ;;
+    loop=fab/loop
+    [ -z "$between" ] || [ ! -f "fab/loop.${between##*.}" ] || loop=fab/loop.${between##*.}
+    cat "$loop" >&2
+    grep -q none "$loop" ;;
 audit)
     text=fab/audit
     case $2 in
     */now.held) [ -f fab/audit.held ] && text=fab/audit.held ;;
+    */trial.plan)
+        case $(tail -n 1 fab/planned) in
+        *own.order*) text=fab/audit.own ;;
+        *) text=fab/audit.best ;;
+        esac ;;
     */opensm-files-*) exec AUDITOR "$@" ;;
     esac
     cat "$text"
@@ -91,6 +100,8 @@ while :; do sleep 0.02; done
 """
 # What an audit of the triangle prints if each packet arrives.
 ALL_ARRIVE = "pairs 25 arrive 25\n"
+# The order that a rule chooses, and the options by which rounds plan if they keep an order.
+OWN, IN_ORDER = "0x1\n0x3\n", "--order rd/kept.order"
 # The types of `put_in_fab` and `check_round`, each bound to a room.
 Fab, Ends = Callable[..., None], Callable[..., dict[str, Any]]
 
@@ -134,6 +145,7 @@ def rounds(room: Room, program: pathlib.Path) -> None:
         asked="",
         planned="",
         stepped="",
+        own=OWN,
         next=room.text("t.plan"),
         loop="credit loop none\n",
     )
@@ -142,7 +154,8 @@ def rounds(room: Room, program: pathlib.Path) -> None:
     written_for_opensm(room, ends)
     by_opensm(room, fab, ends)
     directly(room, fab, ends)
-    by_a_kept_order(room, fab, ends)
+    by_a_kept_order(room, fab)
+    by_no_kept_order(room, fab)
     changes_told(room, fab, ends)
     loads_told(room, fab, ends)
     silence(room, fab, ends)
@@ -158,8 +171,6 @@ def rounds(room: Room, program: pathlib.Path) -> None:
     if os.access(program, os.X_OK):
         for name in CUT_FABRICS:
             over_cuts(room, program, name)
-        for name in "torus", "dragonfly":
-            over_cuts(room, program, name, "--told-order", 5)
 
 
 def put_in_fab(room: Room, **texts: str) -> None:
@@ -254,7 +265,9 @@ def written_for_opensm(room: Room, ends: Ends) -> None:
         (room.path / "rd/plan.lfts").exists() and "--ca mlx5_0 --port 1 --quiet" in room.text("fab/asked"),
         "options are handed to record",
     )
-    room.check("plan --routing spread --lmc 0 rd/now.reports\n" in room.text("fab/planned"), "and to ibsm plan")
+    room.check(
+        f"plan --routing spread {IN_ORDER} --lmc 0 rd/now.reports\n" in room.text("fab/planned"), "and to ibsm plan"
+    )
     room.check(room.text("rd/first.held") == room.text("round.plan"), "what was held at first is kept")
 
 
@@ -310,28 +323,45 @@ def not_begun(room: Room) -> None:
     room.refused("round rd --ibsm ./nothing --record ./record", "no program ./nothing", 4)
     room.refused("round rd --ibsm ./ibsm --record ./nothing", "no program record", 4)
     room.refused("round rd --ibsm ./ibsm --record ./record --direct --send ./nothing", "no program send", 4)
-    wrong = "--lmc 8", "--direct --opensm 1", "--opensm x", "--routing other", "--keep-order --routing updown"
-    for words in ("", *(f"rd {options}" for options in wrong)):
+    for words in ("", *(f"rd {options}" for options in ("--lmc 8", "--opensm x", "--routing other"))):
         room.run(f"round {words}", 2)
+    room.refused("round rd --direct --opensm 1", "--opensm and --direct exclude each other", 2)
+    for by in "--order x.order", "--routing updown":
+        room.refused(f"round rd --new-order {by}", "--new-order goes with neither --order nor --routing updown", 2)
+    for word, instead in (
+        ("keep-order", "the order is kept without it; --new-order chooses one anew"),
+        ("told-order", "steps go by the best order that there is without it"),
+        ("loops", "--at-once writes the plan all the same, without steps"),
+    ):
+        room.put(gone_conf=f"dir rd\n{word}\n")
+        for words in f"rd --{word}", "--config gone.conf":
+            room.refused(f"round {words}", f"round: error: --{word} is gone: {instead}\n", 2)
 
 
 def by_orders_handed_on(room: Room, fab: Fab, ends: Ends, process: int) -> None:
-    """Checks a round whose two steps go by orders that the held tables imply: the order of the first is handed on to
-    the second, and no order of another round."""
-    fab(held=room.text("round.plan"), stepped="", log="ready\n", loop="credit loop none\n0x1\n0x2\n")
-    (room.path / "rd/step.order").write_text("0x5\n")
-    told = ends(f"--opensm {process} --told-order --routing spread", 0, "audit", "the subnet holds the plan")
-    room.check([step["agrees"] for step in told["steps"]] == [1, 1], f"they agree with the plan's: {told['steps']}")
-    stepped = room.text("fab/stepped").splitlines()
-    by = "next --routing spread --told-order"
-    handed = f"{by} --last-order rd/step.order rd/after.held rd/after.reports"
-    room.check(
-        stepped[:2] == [f"{by} rd/now.held rd/now.reports", handed]
-        and room.text("rd/step.order") == "0x1\n0x2\n",
-        f"the order is handed on: {stepped}",
-    )
-    # By this order the last step has nothing left to do, so the round asks for a step without the order.
-    room.check(stepped[-1] == f"{by} rd/after.held rd/after.reports", f"and then begun anew: {stepped}")
+    """Checks rounds whose steps go by orders that the held tables imply: the order of a step is handed on to the next
+    one, and no order of another round or of an earlier step."""
+    by, told_order = f"next --routing spread {IN_ORDER}", "credit loop none\n0x1\n0x2\n"
+    began, went_on = (f"{by} rd/{name}.held rd/{name}.reports" for name in ("now", "after"))
+    handed_on = f"{by} --last-order rd/step.order rd/after.held rd/after.reports"
+    for last, agree, stepped, handed in (
+        (told_order, [1, 1], [began, handed_on, handed_on], "0x1 0x2 0x1 0x2 "),
+        ("credit loop none\n", [1, None], [began, handed_on, went_on], "0x1 0x2 "),
+    ):
+        fab(held=room.text("round.plan"), stepped="", handed="", log="ready\n", loop=last, **{"loop.1": told_order})
+        (room.path / "rd/step.order").write_text("0x5\n")
+        told = ends(f"--opensm {process} --routing spread", 0, "audit", "the subnet holds the plan")
+        room.check([step["agrees"] for step in told["steps"]] == agree, f"they agree with the plan's: {told['steps']}")
+        room.check(
+            {step["told"] for step in told["steps"]} == {"credit loop none"} == set(told["said"]),
+            f"of what is said, switches are left out: {told['steps']}, {told['said']}",
+        )
+        room.check(
+            room.text("fab/stepped").splitlines() == stepped and room.text("fab/handed") == handed,
+            f"the order is handed on: {room.text('fab/stepped')}{room.text('fab/handed')}",
+        )
+        room.check((room.path / "rd/step.order").exists() == (last == told_order), "and kept while steps go by it")
+    (room.path / "fab/loop.1").unlink()
     fab(loop="credit loop none\n")
 
 
@@ -348,7 +378,7 @@ def by_steps(room: Room, fab: Fab, ends: Ends, process: int) -> None:
     )
     names = ["now", "after", "after"]
     # A round that names no rule goes by balance.
-    words = "next --routing balance --lmc 0"
+    words = f"next --routing balance {IN_ORDER} --lmc 0"
     room.check(
         room.text("fab/stepped") == "".join(f"{words} rd/{name}.held rd/{name}.reports\n" for name in names)
         and room.text("fab/log").count("UP") == 2
@@ -358,7 +388,7 @@ def by_steps(room: Room, fab: Fab, ends: Ends, process: int) -> None:
     by_orders_handed_on(room, fab, ends, process)
     fab(held=held, loop="credit loop on one lane 0000000000000010/1 0000000000000020/1\nlids 5 4\n", log="ready\n")
     written = room.text("rd/plan.lfts")
-    loop = "credit loop on one lane 0000000000000010/1 0000000000000020/1; lids 5 4 (--loops)"
+    loop = "credit loop on one lane 0000000000000010/1 0000000000000020/1; lids 5 4 (--at-once)"
     told = ends(
         f"--opensm {process}", 1, "next", f"step 1 is not written, since packets can wait in a loop meanwhile: {loop}"
     )
@@ -366,9 +396,7 @@ def by_steps(room: Room, fab: Fab, ends: Ends, process: int) -> None:
         told["steps"][0]["status"] == 1 and room.text("fab/held") == held and room.text("rd/plan.lfts") == written,
         "a step with a credit loop is not written",
     )
-    told = ends(f"--opensm {process} --loops", 0, "audit", "the subnet holds the plan")
-    room.check([step["status"] for step in told["steps"]] == [1, 1], "but with --loops")
-    fab(held=held, stepped="", written=plan)
+    fab(stepped="", written=plan)
     (room.path / "fab/obeys").unlink()
     told = ends(f"--opensm {process} --at-once", 0, "audit", "the subnet holds the plan")
     room.check(told["steps"] == [] and room.text("fab/stepped") == "", "--at-once takes no steps")
@@ -380,7 +408,7 @@ def by_steps(room: Room, fab: Fab, ends: Ends, process: int) -> None:
     room.check(room.text("fab/held") == held, "nor is a step to a plan that may not be written")
     # The held tables never change, and the size of a table differs at each look.
     fab(plan=plan, written=held, flaps=facts.replace("cap 0000000000000010 1024", "cap 0000000000000010 1025"))
-    told = ends(f"--opensm {process}", 1, "read-back", "after 14 steps another one is left")
+    told = ends(f"--opensm {process}", 1, "read-back", "after 32 steps another one is left")
     fab(facts=facts, written=plan)
     for name in ("flaps", "step.1"):
         (room.path / "fab" / name).unlink()
@@ -418,47 +446,103 @@ def directly(room: Room, fab: Fab, ends: Ends) -> None:
         (room.path / "fab" / name).unlink()
 
 
-def by_a_kept_order(room: Room, fab: Fab, ends: Ends) -> None:
-    """Checks rounds that keep the order of switches by which they plan."""
-    held = room.text("round.plan")
-    words, holds = "--direct --keep-order --routing balance", "the subnet holds the plan"
-    asked = "order --held rd/now.held rd/now.reports\n"
+# Orders of the triangle: the kept one, and the one that the held tables imply.
+KEPT, IMPLIED = "0x4\n", "0x2\n"
+# What is checked of an order; the kept order and the implied one, if there are; how many of 25 packets arrive by the
+# held tables; the loads of the busiest channels by the order that there was and by the rule's own, if plans by both are
+# compared; options; and the order that is kept then.
+KEPT_ORDERS = (
+    ("a first round keeps the order that the held tables imply", None, IMPLIED, 25, (5, 5), "", IMPLIED),
+    ("also if one packet arrives", None, IMPLIED, 1, (5, 5), "", IMPLIED),
+    ("if none arrives, the rule's own", None, IMPLIED, 0, None, "", OWN),
+    ("if no order is implied, the rule's own", None, None, 25, None, "", OWN),
+    ("also if the implied one has no switch", None, "", 25, None, "", OWN),
+    ("an implied order may be a fifth worse", None, IMPLIED, 25, (6, 5), "", IMPLIED),
+    ("and no more", None, IMPLIED, 25, (7, 5), "", OWN),
+    ("even if packets are lost", None, IMPLIED, 20, (7, 5), "", OWN),
+    ("an order stays", KEPT, IMPLIED, 25, (5, 5), "", KEPT),
+    ("also if the rule's own is much worse", KEPT, IMPLIED, 25, (5, 50), "", KEPT),
+    ("a kept order may be a fifth worse", KEPT, IMPLIED, 25, (6, 5), "", KEPT),
+    ("and more only if packets are lost", KEPT, IMPLIED, 25, (7, 5), "", OWN),
+    ("and then stays", KEPT, IMPLIED, 24, None, "", KEPT),
+    ("no plans are compared if the kept order is the rule's own", OWN, IMPLIED, 25, None, "", OWN),
+    ("an order is chosen anew", KEPT, IMPLIED, 25, None, "--new-order", OWN),
+    ("also if packets are lost", KEPT, IMPLIED, 20, None, "--new-order", OWN),
+    ("also if there was none", None, IMPLIED, 25, None, "--new-order", OWN),
+    ("an order is kept of the other rule", KEPT, IMPLIED, 25, (5, 5), "--routing spread", KEPT),
+    ("also with roots", KEPT, IMPLIED, 25, (7, 5), "--roots x.roots --lmc 1", OWN),
+)
 
-    def goes_by(name: str, first: str, what: str) -> None:
-        """Checks that a round goes by the order in a file, and notes it as the last one at its end."""
-        fab(held=held, ordered="", planned="", stepped="")
-        told = ends(words, 0, "audit", holds)
-        by = f"--routing spread --order rd/{name}.order"
-        room.check(list(told["seconds"])[2] == "order", f"the order is chosen behind the facts: {told['seconds']}")
+
+def by_a_kept_order(room: Room, fab: Fab) -> None:
+    """Checks which order of switches rounds keep, and that they plan and step by it."""
+    kept, held = room.path / "rd/kept.order", room.text("round.plan")
+    loaded = "pairs 25 arrive 25\nbetween adapters pairs 2 arrive 2\nload max {} mean 2.00\n"
+    for what, before, implied, arrive, loads, words, wanted in KEPT_ORDERS:
+        kept.unlink(missing_ok=True)
+        (room.path / "fab/implied").unlink(missing_ok=True)
+        if before is not None:
+            kept.write_text(before)
+        if implied is not None:
+            fab(implied=implied)
+        audits = {"audit.held": f"pairs 25 arrive {arrive}\n"}
+        if loads:
+            audits |= {"audit.best": loaded.format(loads[0]), "audit.own": loaded.format(loads[1])}
+        fab(ordered="", planned="", held=held, **audits)
+        room.prints(f"round rd --ibsm ./ibsm --record ./record --look {words}", 0, "compare: looked only")
+        rule = "spread" if "spread" in words or "roots" in words else "balance"
+        roots, lmc = (" --roots x.roots", " --lmc 1") if "roots" in words else ("", "")
+        asks = before is None and arrive and "new" not in words
+        tried = "kept" if before is not None else "implied"
         room.check(
-            room.text("fab/ordered") == f"{first}order {by} rd/after.reports\n"
-            and room.text("fab/planned").startswith(f"plan {by} rd/now.reports\n")
-            and f"next {by} rd/now.held rd/now.reports\n" in room.text("fab/stepped")
-            and room.text("rd/last.order") == "0x3\n",
-            what,
+            room.text("fab/ordered").splitlines()
+            == [f"order --routing {rule}{roots} rd/now.reports"] + ["order --held rd/now.held rd/now.reports"] * asks,
+            f"{what}: {room.text('fab/ordered')}",
         )
-
-    goes_by("kept", "order --routing balance rd/now.reports\n", "at first by the rule's")
-    room.check(room.text("rd/kept.order") == "0x1\n", "which is kept")
-    goes_by("kept", "", "then by the kept one, if steps by it have no loop")
-    fab(kept="")
-    goes_by("last", "", "else by the last one")
-    fab(last="", told="0x2\n")
-    goes_by("held", asked, "else by one that the held tables have")
-    room.check(room.text("rd/kept.order") == "0x1\n", "and the kept one stays")
-    (room.path / "fab/told").unlink()
-    fab(held=held, moves="ibsm: rd/now.held: lid 4 moves\n")
-    ends(f"{words} --at-once", 0, "audit", holds)
-    (room.path / "fab/moves").unlink()
-    fab(held=held, ordered="")
-    ends(words, 1, "next", "step 1 is not written")
+        room.check(
+            room.text("fab/planned").splitlines()
+            == [
+                f"plan --routing {rule} --order rd/{name}.order{lmc} rd/now.reports"
+                for name in [*((tried, "own") if loads else ()), "kept"]
+            ],
+            f"{what}: {room.text('fab/planned')}",
+        )
+        room.check(kept.read_text() == wanted, f"{what}: {kept.read_text()}")
+        for name in audits:
+            (room.path / "fab" / name).unlink()
+    kept.unlink()
+    fab(implied=IMPLIED, stepped="", planned="", **{"audit.best": loaded.format(5), "audit.own": loaded.format(5)})
+    told = check_round(room, "--direct", 0, "audit", "the subnet holds the plan")
+    room.check(list(told["seconds"])[2] == "order", f"the order is chosen behind the facts: {told['seconds']}")
+    by = f"--routing balance {IN_ORDER} rd"
     room.check(
-        room.text("fab/ordered") == asked and room.text("fab/held") == held,
-        "and if they have none by the kept one, whose step has a loop",
+        room.text("fab/planned").splitlines()[2:]
+        == [f"plan {by}/{name}.reports" for name in ("now", "after", "after")]
+        and f"next {by}/now.held rd/now.reports\n" in room.text("fab/stepped")
+        and kept.read_text() == IMPLIED,
+        "plans and steps of a round go by the order that it keeps first",
     )
-    (room.path / "rd/kept.order").unlink()
-    for file in ("kept", "last"):
-        (room.path / "fab" / file).unlink()
+    kept.write_text(OWN)
+    for name in "implied", "audit.best", "audit.own":
+        (room.path / "fab" / name).unlink()
+
+
+def by_no_kept_order(room: Room, fab: Fab) -> None:
+    """Checks that rounds by a named order, or by up and down, keep no order."""
+    kept = room.path / "rd/kept.order"
+    kept.write_text(KEPT)
+    for words in "--routing balance --order x.order", "--routing updown":
+        fab(ordered="", planned="", stepped="", held=room.text("round.plan"))
+        told = check_round(room, f"--direct {words}", 0, "audit", "the subnet holds the plan")
+        room.check("order" not in told["seconds"] and room.text("fab/ordered") == "", f"{words}: no order is chosen")
+        room.check(
+            room.text("fab/planned").splitlines()
+            == [f"plan {words} rd/{name}.reports" for name in ("now", "after", "after")]
+            and room.text("fab/stepped").startswith(f"next {words} rd/now.held rd/now.reports\n")
+            and kept.read_text() == KEPT,
+            f"{words}: no order is kept: {room.text('fab/planned')}",
+        )
+    kept.write_text(OWN)
 
 
 # Fabrics whose cables are cut and repaired one after another.
@@ -471,9 +555,9 @@ CUT_FABRICS = {
 }
 
 
-def over_cuts(room: Room, program: pathlib.Path, name: str, flag: str = "--keep-order", count: int = 9) -> None:
-    """Checks with the built program that rounds succeed after each of some cuts and repairs, if they keep an order or
-    go by orders that the held tables imply."""
+def over_cuts(room: Room, program: pathlib.Path, name: str) -> None:
+    """Checks with the built program that rounds succeed after each of some cuts and repairs, without a step that could
+    make a credit loop."""
     fabric, chance, down = CUT_FABRICS[name], random.Random(7), set()
     between = [(end, far) for end, far in fabric.peers.items() if end < far]
     cables = [cable for cable in between if all(fabric.is_switch(name) for name, _ in cable)]
@@ -490,14 +574,14 @@ def over_cuts(room: Room, program: pathlib.Path, name: str, flag: str = "--keep-
     planned = subprocess.run(words, cwd=room.path, capture_output=True, check=True).stdout
     (room.path / "fab/held").write_bytes(planned)
     shutil.rmtree(room.path / "rc", ignore_errors=True)
-    for number in range(count):
+    for number in range(9):
         if number % 4 == 3:
             down.remove(chance.choice(sorted(down)))
         elif number:
             down.add(chance.choice([cable for cable in cables if cable not in down]))
         (room.path / "fab/facts").write_bytes(facts())
         room.run(
-            f"round rc --ibsm {program} --record ./record --send ./send --settle 0 --direct {flag} "
+            f"round rc --ibsm {program} --record ./record --send ./send --settle 0 --direct "
             "--routing balance --busier --holes",
             0,
         )
@@ -505,7 +589,7 @@ def over_cuts(room: Room, program: pathlib.Path, name: str, flag: str = "--keep-
         room.check(
             told["verdict"].startswith("the subnet holds the plan")
             and all(step["told"] == "credit loop none" for step in told["steps"]),
-            f"round {number} {flag} over a {name} with {len(down)} cables cut: {told}",
+            f"round {number} over a {name} with {len(down)} cables cut: {told}",
         )
 
 
@@ -689,10 +773,15 @@ def by_a_file(room: Room, fab: Fab) -> None:
     room.prints(f"round --config round.conf {words} --routing updown", 0, "compare: looked only")
     for more in "", "--order x.order", "--roots x.roots":
         room.prints(f"round rd --look {words} {more}", 0, "compare: looked only")
-    wanted = [f"plan --routing {rule} --lmc 0 rd/now.reports" for rule in ("spread", "updown")]
-    wanted += [
+    wanted = [
         f"plan --routing {rule} rd/now.reports"
-        for rule in ("balance", "balance --order x.order", "spread --roots x.roots")
+        for rule in (
+            f"spread {IN_ORDER} --lmc 0",
+            "updown --lmc 0",
+            f"balance {IN_ORDER}",
+            "balance --order x.order",
+            f"spread {IN_ORDER}",
+        )
     ]
     room.check(room.text("fab/planned").splitlines() == wanted, f"options of a file: {room.text('fab/planned')}")
     room.run(f"round --config bad.conf {words}", 2)
