@@ -1,0 +1,5 @@
+pub mod Arriving
+pub mod Between
+pub mod OwnSets
+pub mod Scenes
+pub mod StepPlan

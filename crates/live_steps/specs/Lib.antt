@@ -1,0 +1,4 @@
+pub mod Between
+pub mod LiveStep
+pub mod OwnSets
+pub mod StepPlan
