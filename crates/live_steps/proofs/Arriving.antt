@@ -27,10 +27,13 @@ use Rattle.next_tables.specs.ChangingFabric.{IsBeingWritten, IsInChange, StandsS
 use Rattle.next_tables.proofs.BeingWritten.{written_tables_are_in_change}
 use Rattle.next_tables.proofs.ChangingFabric.{packets_arrive_while_tables_change}
 use Rattle.ordered_steps.proofs.ChangingFabric.{packets_arrive_by_order}
+use Rattle.ordered_steps.proofs.Lost.{rule_is_tried}
+use Rattle.ordered_steps.proofs.OrderedTables.{ordered_tables_are_next}
+use Rattle.ordered_steps.proofs.Round.{all_follow_the_rule}
 use Rattle.manager_laws.specs.Scene.{Event, Scene, after_events}
 use Rattle.manager_laws.proofs.Alike.{nodes_along}
 use Rattle.manager_laws.proofs.Answers.{Continues, begun}
-use Rattle.live_steps.specs.LiveStep.{IsLiveStep, IsMoment, PacketsArriveInLiveSteps, PacketsArriveInOrderedLiveSteps, at_first}
+use Rattle.live_steps.specs.LiveStep.{IsLiveStep, IsMoment, KeptLinesAreSteps, PacketsArriveInLiveSteps, PacketsArriveInOrderedLiveSteps, at_first}
 use Rattle.live_steps.proofs.Scenes.{Now, at_moment, first_now, goes_on}
 
 -- an end port's number is one that has LIDs
@@ -152,3 +155,15 @@ packets_arrive_in_ordered_live_steps facts positions held goal plan line n quiet
     (changes facts (by_order positions) held goal plan n i quiet earlier events origin step less
     (subst (λ (m : ℕ). 1 ≤ m) is_lid one) (subst (λ (m : ℕ). m ≤ step.top) is_lid low) (fabrics k) (moments k)))
     source node end brought
+
+pub kept_lines_are_steps : KeptLinesAreSteps
+kept_lines_are_steps facts positions held goal line order kept held_right goal_right =
+    let next = next_tables (cells_of facts) (by_order positions) held goal in
+    record {
+      order = order;
+      owners = kept.in_plan ∙ sym kept.in_held;
+      held_right = held_right;
+      goal_right = goal_right;
+      is_next = rule_is_tried (cells_of facts) (position_at positions) held goal next line
+          (all_follow_the_rule (cells_of facts) (position_at positions) held goal next line (ordered_tables_are_next facts positions held goal) kept);
+    }

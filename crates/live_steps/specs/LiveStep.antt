@@ -19,7 +19,7 @@ use Rattle.packet_walks.specs.declared.packet_end.End.TheVariants.{Taken}
 use Rattle.packet_walks.specs.Fabrics.{IsSeenIn}
 use Rattle.packet_walks.specs.HopsByTables.{IsBrought}
 use Rattle.next_tables.specs.NextTables.{IsKept, StepRuleValue, by_order, next_tables, settled_first}
-use Rattle.next_tables.specs.SwitchPositions.{position_at}
+use Rattle.next_tables.specs.SwitchPositions.{AreRight, IsOrder, position_at}
 use Rattle.next_tables.specs.ChangingFabric.{ArrivesMeanwhile}
 use Rattle.ordered_steps.specs.OrderedStepLaws.{IsLineStep}
 use Rattle.manager_laws.specs.Scene.{CanHappen, Deliver, Event, IsQuiet, Scene, after_event, after_events}
@@ -125,3 +125,14 @@ PacketsArriveInOrderedLiveSteps =
     → IsLineStep (cells_of facts) (position_at positions) held goal line
     (next_tables (cells_of facts) (by_order positions) held goal)
     → ArrivesAllTheWhile facts held line quiet earlier events origin
+
+-- suppose the positions are an order, one end port alone holds the LID of `line`, in the held tables and in the goal, and
+-- both are right for this LID by the order. Then the next tables by the order are a step of the LID's line
+abbrev pub KeptLinesAreSteps : Type 0
+KeptLinesAreSteps =
+    (facts : Facts) (positions : List ℕ) (held goal : HeldPlan) (line : HeldLid)
+    → IsOrder (cells_of facts) (position_at positions) → IsKept held goal line
+    → AreRight (cells_of facts) (position_at positions) held line.lid
+    → AreRight (cells_of facts) (position_at positions) goal line.lid
+    → IsLineStep (cells_of facts) (position_at positions) held goal line
+    (next_tables (cells_of facts) (by_order positions) held goal)

@@ -1,6 +1,7 @@
 //! The laws of steps that live managers write while packets travel.
 ghost use Rattle.live_steps.specs.Between.{AnswersKeepBetween};
-ghost use Rattle.live_steps.specs.LiveStep.{PacketsArriveInLiveSteps, PacketsArriveInOrderedLiveSteps};
+ghost use Rattle.live_steps.specs.LiveStep.{KeptLinesAreSteps, PacketsArriveInLiveSteps};
+ghost use Rattle.live_steps.specs.LiveStep.{PacketsArriveInOrderedLiveSteps};
 ghost use Rattle.live_steps.specs.OwnSets.{OwnSetsCarry};
 ghost use Rattle.live_steps.specs.StepPlan.{StepPlansHaveNextBlocks};
 
@@ -18,6 +19,12 @@ pub fn packets_arrive_in_live_steps()
 /// the plan's greatest; and for this LID and this port the step is one by that order (`IsLineStep`).
 pub fn packets_arrive_in_ordered_live_steps()
     ensures { PacketsArriveInOrderedLiveSteps }
+{}
+
+/// The next tables by an order are a step by that order for a LID (`IsLineStep`) if two conditions hold: one end port
+/// alone holds the LID, the same one in the held tables and in the goal; and both are right by the order for the LID.
+pub fn kept_lines_are_steps()
+    ensures { KeptLinesAreSteps }
 {}
 
 /// An agent that is between what it was and a plan is so after its answer to a packet, if the plan's blocks are whole,
