@@ -1,6 +1,7 @@
 //! The program `ibsm`, which shows what InfiniBand subnet managers know and do.
 #![tactic(auto)]
 
+mod gone_words;
 mod opener;
 mod perform;
 mod run;

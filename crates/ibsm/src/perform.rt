@@ -96,10 +96,8 @@ where
     ensures silent { OnOk result (StaysSilent task errors.old errors.new) }
     ensures nothing_said { OnErr result (errors.new ≡ errors.old) }
 {
-    match open_all(rt, names) {
-        Ok(mut inputs) => do_task(rt.alloc(), task, &mut inputs, output, errors),
-        Err(fault) => Err(fault),
-    }
+    let mut inputs = open_all(rt, names)?;
+    do_task(rt.alloc(), task, &mut inputs, output, errors)
 }
 
 /// Performs `task` on `inputs`, which are open. There must be enough inputs for the task; a run and serving a manager
@@ -124,21 +122,21 @@ fn do_task<S: Source, W: Sink, E: Sink>(
     ensures nothing_said { OnErr result (errors.new ≡ errors.old) }
 {
     match task {
-        Task::Answer(request) => match run_files(alloc, inputs, request, output) {
-            Ok(()) => Ok(true),
-            Err(fault) => Err(fault),
-        },
+        Task::Answer(request) => {
+            run_files(alloc, inputs, request, output)?;
+            Ok(true)
+        }
         Task::OrderOfTables => run_order_of_tables(alloc, inputs, output),
         Task::Audit(asked) => run_audit(alloc, inputs, asked, output),
         Task::Next(asked) => run_next(alloc, inputs, asked, output, errors),
-        Task::Run(lmc, rule) => match run_schedule(alloc, inputs, lmc, rule, output) {
-            Ok(()) => Ok(true),
-            Err(fault) => Err(fault),
-        },
-        Task::Serve(asked) => match run_serve(alloc, inputs, asked, output) {
-            Ok(()) => Ok(true),
-            Err(fault) => Err(fault),
-        },
+        Task::Run(lmc, rule) => {
+            run_schedule(alloc, inputs, lmc, rule, output)?;
+            Ok(true)
+        }
+        Task::Serve(asked) => {
+            run_serve(alloc, inputs, asked, output)?;
+            Ok(true)
+        }
     }
 }
 

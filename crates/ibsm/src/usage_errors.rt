@@ -3,6 +3,7 @@ ghost use Rattle.std.specs.Prelude.{◌≡◌, ◌↔◌, ◌⊎◌, IfOk, IsErr
 ghost use Rattle.clap.specs.Values.{kind_of};
 ghost use Rattle.ibsm.specs.Ending.{IsFaultOfWords, IsShownOrNot};
 
+use crate::gone_words::successor;
 use crate::perform::say;
 use byte_io::ToWrite;
 use clap::Error;
@@ -50,4 +51,14 @@ pub(crate) fn explain<R: Print + Eprint, E: Write>(
         return Ok(say(errors, &[], &Fault::Write));
     }
     Ok(ExitStatus::Done)
+}
+
+/// Prints to standard error what to use instead of each of `words` that the program took in an earlier release.
+pub(crate) fn tell_successors<R: Eprint>(rt: &R, words: &[String]) {
+    for word in words {
+        let line = successor(word);
+        if !line.is_empty() {
+            let _ = rt.eprintln(line);
+        }
+    }
 }

@@ -1,6 +1,8 @@
 -- The goal in between has the plan's LIDs, so the same LIDs move; and what makes a step.
 use Rattle.std.proofs.Common.{◌≡◌, ◌∙◌, ℕ, Bool, true, false, List, Option, None, Some, ap, inl, inr, refl, subst, sym}
 use Rattle.std.specs.Option.{is_some}
+use Rattle.std.specs.Prelude.{Vec}
+use Rattle.std.specs.declared.alloc.Global.{Global}
 use Rattle.fact_store.specs.View.{Facts, cells_of}
 use Rattle.lft_blocks.specs.Rule.{RuleValue}
 use Rattle.held_tables.specs.Held.{HeldPlan}
@@ -8,7 +10,7 @@ use Rattle.next_tables.specs.NextTables.{first_moved}
 use Rattle.between_orders.specs.Between.{Goal}
 use Rattle.between_orders.proofs.Safe.{goal_lids}
 use Rattle.next_run.specs.NextRun.{Choice, IsChoice, IsGoalFrom, IsGoalNear, IsMade, IsMadeNear, choice_by, goal_or, next_by_choice, next_towards}
-use Rattle.next_run.specs.StepOrderText.{order_of_step}
+use Rattle.next_run.specs.StepOrderText.{items_of, order_of_step}
 
 goal_plan : (right : Bool) (facts : Facts) (held plan : HeldPlan) (by near : List ℕ) (g : Goal)
     → IsGoalFrom right (cells_of facts) held plan by near (Some g) → g.tables.lids ≡ plan.lids
@@ -87,3 +89,8 @@ made_again rule (Some last) facts held plan tried next order other first has_las
       is_next = record { goal_is = (Some g, goal_is, inr (sym is ∙ same, made.goal_is)); is = made.is };
       order_is = made.order_is;
     }
+
+-- an order as a list is there if the order is
+pub some_items : (order : Option (Vec ℕ Global)) → is_some (items_of order) ≡ is_some order
+some_items None = refl
+some_items (Some switches) = refl

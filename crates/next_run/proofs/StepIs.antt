@@ -1,5 +1,5 @@
 -- The text and the line that were written are those of the step from the facts, the held tables and the plan.
-use Rattle.std.proofs.Common.{◌≡◌, ◌∙◌, ◌==◌, ◌↔◌, ◌++◌, ℕ, Bool, List, [], ◌∷◌, Option, None, Result, Ok, Err, IsTrue, length, ap, inl, inr, subst, sym}
+use Rattle.std.proofs.Common.{◌≡◌, ◌∙◌, ◌==◌, ◌↔◌, ◌++◌, ℕ, Bool, List, [], ◌∷◌, Option, None, Result, Ok, Err, IsTrue, length, ap, inl, inr, refl, subst, sym}
 use Rattle.std.proofs.lemmas.Bool.{eqb-true}
 use Rattle.std.proofs.lemmas.List.{nil_from_length}
 use Rattle.std.specs.Prelude.{◌⊎◌, IfErr, OnErr, OnOk}
@@ -16,12 +16,13 @@ use Rattle.plan_tables.specs.PlanTables.{held_plan, planned}
 use Rattle.tables_file.specs.PrintedTables.{next_text}
 use Rattle.next_tables.specs.NextTables.{first_moved}
 use Rattle.sm_cli.specs.declared.fault.Fault.{Fault}
-use Rattle.sm_cli.specs.declared.fault.Fault.TheVariants.{Memory, Text, Write}
-use Rattle.sm_cli.specs.declared.text_fault.TextFault.TheVariants.{Moves}
+use Rattle.sm_cli.specs.declared.fault.Fault.TheVariants.{Write}
+use Rattle.next_tables.specs.declared.step_fault.StepFault.{StepFault}
+use Rattle.next_tables.specs.declared.step_fault.StepFault.TheVariants as steps
 use Rattle.sm_cli.proofs.Plans.{has_room}
 use Rattle.step_loops.specs.StepOrder.{NoneShorter, WaitInCycle}
 use Rattle.next_run.specs.LoopText.{loop_text}
-use Rattle.next_run.specs.NextRun.{IsMade, IsSaid, IsStep, StopsBy, StopsStep}
+use Rattle.next_run.specs.NextRun.{IsMade, IsSaid, IsStep, StopsBy, StopsStep, fault_of_step}
 use Rattle.next_run.specs.StepLoops.{IsCycleInStep, IsLoopInStep}
 use Rattle.next_run.specs.StepOrderText.{step_order_text}
 
@@ -79,9 +80,8 @@ module _ (lmc : ℕ) (rule : RuleValue) (last : Option (List ℕ)) (facts : Fact
   }
 
 -- why there are no next tables towards the plan is why there is no step
-pub stops_by : (lmc : ℕ) (rule : RuleValue) (facts : Facts) (held : HeldPlan) (sink_failed : Bool) (at : ℕ) (moved : Option ℕ) (fault : Fault)
-    → lid_fault (no_room lmc (cells_of facts)) ≡ None → moved ≡ first_moved held (planned lmc rule facts) → StopsBy at moved fault
-    → StopsStep at lmc rule facts held sink_failed fault
-stops_by lmc rule facts held sink_failed at moved (Text input (Moves lid)) room is h = (h.0, sym is ∙ h.1)
-stops_by lmc rule facts held sink_failed at moved Memory room is h = has_room lmc facts room
-stops_by lmc rule facts held sink_failed at moved fault room is h = absurd h
+pub stops_by : (lmc : ℕ) (rule : RuleValue) (facts : Facts) (held : HeldPlan) (sink_failed : Bool) (at : ℕ) (moved : Option ℕ) (fault : StepFault)
+    → lid_fault (no_room lmc (cells_of facts)) ≡ None → moved ≡ first_moved held (planned lmc rule facts) → StopsBy moved fault
+    → StopsStep at lmc rule facts held sink_failed (fault_of_step at fault)
+stops_by lmc rule facts held sink_failed at moved (steps.Moves lid) room is h = (refl, sym is ∙ h)
+stops_by lmc rule facts held sink_failed at moved steps.Memory room is h = has_room lmc facts room

@@ -181,16 +181,10 @@ abbrev pub fault_of_step : ℕ → StepFault → Fault
 fault_of_step at (steps.Moves lid) = Text at (Moves lid)
 fault_of_step at steps.Memory = Memory
 
--- making the next tables may end with a fault: it says, of the input `at`, that the LID in `moved` moves, or it is lack
--- of memory
-abbrev pub StopsBy : ℕ → Option ℕ → Fault → Type 0
-StopsBy at moved (Text input (Moves lid)) = (input ≡ at) × (moved ≡ Some lid)
-StopsBy at moved Memory = Unit {0}
-StopsBy at moved fault = ⊥
-
--- making the next tables from `held`, the input `at`, towards `plan` ends with a fault: a LID moves, or memory ran out
-abbrev pub StopsNext : ℕ → HeldPlan → HeldPlan → Fault → Type 0
-StopsNext at held plan = StopsBy at (first_moved held plan)
+-- making the next tables may end with a fault: it says that the LID in `moved` moves, or it is lack of memory
+abbrev pub StopsBy : Option ℕ → StepFault → Type 0
+StopsBy moved (steps.Moves lid) = moved ≡ Some lid
+StopsBy moved steps.Memory = Unit {0}
 
 -- a step ends with a fault: the plan has no room; the plan gives a LID to an end port, and the held tables, the input
 -- `at`, give it to another one; the output has failed; or the plan has room and memory ran out

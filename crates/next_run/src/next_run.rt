@@ -3,16 +3,17 @@ ghost use Rattle.std.specs.Prelude.{◌≡◌, ◌⊎◌, ◌+◌, ◌++◌, ◌
 ghost use Rattle.std.specs.Prelude.{length};
 ghost use Rattle.std.specs.Io.KnownBytes.{Appends};
 ghost use Rattle.fact_store.specs.View.{cells_of};
-ghost use Rattle.lft_blocks.specs.Rule.{value_of};
+ghost use Rattle.subnet_view.specs.Reading.{switches};
+ghost use Rattle.lft_blocks.specs.Rule.{RuleValue, value_of};
+ghost use Rattle.plan_order.specs.PlanOrder.{positions_by};
 ghost use Rattle.byte_io.specs.WritesPart.{WritesPart};
 ghost use Rattle.next_run.specs.LastOrder.{last_order};
-ghost use Rattle.next_run.specs.NextRun.{HasStepped, IsMade, IsMadeNear, IsSaid, IsStepFault, IsStepOf, StopsNext};
+ghost use Rattle.next_run.specs.NextRun.{HasStepped, IsMade, IsMadeNear, IsSaid, IsStepFault, IsStepOf, StopsBy};
 ghost use Rattle.next_run.specs.NextRun.{StopsStep, choice_of, fault_of_step, goal_or, next_by_choice, texts_before};
 ghost use Rattle.next_run.specs.LoopText.{loop_text};
 ghost use Rattle.next_run.specs.StepLoops.{IsLoopInStep};
 ghost use Rattle.next_run.specs.StepOrderText.{items_of, step_order_text};
-ghost use Rattle.next_tables.specs.NextTables.{first_moved, next_tables};
-ghost use Rattle.next_tables.specs.NextTables.{value_of as chosen_of};
+ghost use Rattle.next_tables.specs.NextTables.{first_moved};
 ghost use Rattle.plan_tables.specs.PlanTables.{held_plan};
 
 use crate::loop_text::StepLoop;
@@ -22,8 +23,9 @@ use crate::step_order_text::write_step_order;
 use byte_io::{Sink, Source, WriteFault};
 use held_tables::{Held, Subnet};
 use lft_blocks::{Plan, Rule};
-use next_tables::{StepFault, StepRule, next_tables};
+use next_tables::{StepFault, next_tables};
 use packet_walks::Network;
+use plan_order::plan_in_order;
 use plan_tables::held_plan;
 use sm_cli::{Fault, OrderAndTables, StepAsked, StepReader, TextFault, read_inputs, texts_if};
 use smp_bytes::Guid;
@@ -77,10 +79,8 @@ pub fn run_next<S: Source, W: Sink, E: Sink>(
     let reader = StepReader {
         has_order: asked.has_last,
     };
-    match read_inputs(alloc, asked.rule, &reader, inputs) {
-        Ok((rule, found)) => step(alloc, asked, &rule, &found, sink, told),
-        Err(fault) => Err(fault),
-    }
+    let (rule, found) = read_inputs(alloc, asked.rule, &reader, inputs)?;
+    step(alloc, asked, &rule, &found, sink, told)
 }
 
 /// Returns the number of texts that a step reads before the text of the held tables.
@@ -111,25 +111,15 @@ fn step<W: Sink, E: Sink>(
     ensures nothing_told { OnErr result (told.new ≡ told.old) }
 {
     let read = &found.read;
-    let lmc = asked.lmc;
-    let plan = Plan::of(alloc, &read.store, lmc, rule)?;
-    let Ok(subnet) = Subnet::of(alloc, &read.store) else {
-        return Err(Fault::Memory);
-    };
-    let Ok(from) = Network::of(alloc, &subnet, &read.held) else {
-        return Err(Fault::Memory);
-    };
-    let Ok(last) = last_order(alloc, asked.has_last, &found.order) else {
-        return Err(Fault::Memory);
-    };
-    let input = texts_before(asked);
-    let made = match made_step(alloc, input, rule, &last, &from, &plan) {
+    let (plan, positions) = plan_in_order(alloc, &read.store, asked.lmc, rule)?;
+    let subnet = Subnet::of(alloc, &read.store)?;
+    let from = Network::of(alloc, &subnet, &read.held)?;
+    let last = last_order(alloc, asked.has_last, &found.order)?;
+    let made = match made_step(alloc, &positions, &last, &from, &plan) {
         Ok(made) => made,
-        Err(fault) => return Err(fault),
+        Err(fault) => return Err(fault_of_step(texts_before(asked), &fault)),
     };
-    let Ok(cycle) = loop_in_step(alloc, &from, &made.next) else {
-        return Err(Fault::Memory);
-    };
+    let cycle = loop_in_step(alloc, &from, &made.next)?;
     write_next(sink, plan.lids(), &made.next)?;
     let _ = write_loop_and_order(told, &from, &cycle, &made.order);
     Ok(cycle.is_none())
@@ -176,64 +166,60 @@ fn write_loop_and_order<E: Sink>(
     write_step_order(told, order)
 }
 
-/// Makes the step from the tables of the network `from` towards `plan`, which is meant to be the plan by `rule`. If the
-/// step goes by an order that the tables imply, it takes the one nearest to the order `last`, as long as that changes
-/// something. Otherwise, and if `last` is `None`, it takes the one nearest to the order of `rule`. Returns a fault of
-/// the input `input`, the held tables' text, if a LID moves, or `Memory` if memory is refused.
+/// Makes the step from the tables of the network `from` towards `plan`. `positions` must have the position of each
+/// usable switch, in ascending order of GUID, in an order; it is meant to be the one that the plan goes by. If the step
+/// goes by an order that the tables imply, it takes the one nearest to the order `last`, as long as that changes
+/// something. Otherwise, and if `last` is `None`, it takes the one nearest to that of `positions`. Returns the fault
+/// `Moves` if a LID moves, or `Memory` if memory is refused.
 fn made_step(
     alloc: Global,
-    input: usize,
-    rule: &Rule,
+    positions: &[usize],
     last: &Option<Vec<Guid>>,
     from: &Network,
     plan: &Plan,
-) -> Result<MadeStep, Fault>
-    ensures made { IfOk result (λ made. IsMade (value_of rule.now) (items_of last.now) from.now.facts from.now.held
+) -> Result<MadeStep, StepFault>
+    requires { length positions.now ≡ length (switches (cells_of from.now.facts)) }
+    ensures made { (rule : RuleValue) → positions.now ≡ positions_by rule (cells_of from.now.facts)
+        → IfOk result (λ made. IsMade rule (items_of last.now) from.now.facts from.now.held
         (held_plan plan.now) made.next (items_of made.order)) }
-    ensures still { OnOk result (first_moved from.now.held (held_plan plan.now) ≡ None) }
-    ensures refused { IfErr result (StopsNext input from.now.held (held_plan plan.now)) }
+    ensures still { (rule : RuleValue) → positions.now ≡ positions_by rule (cells_of from.now.facts)
+        → OnOk result (first_moved from.now.held (held_plan plan.now) ≡ None) }
+    ensures refused { (rule : RuleValue) → positions.now ≡ positions_by rule (cells_of from.now.facts)
+        → IfErr result (StopsBy (first_moved from.now.held (held_plan plan.now))) }
 {
-    let Ok(planned) = held_plan(alloc, plan) else {
-        return Err(Fault::Memory);
-    };
-    let Ok(to) = Network::of(alloc, from.subnet(), &planned) else {
-        return Err(Fault::Memory);
-    };
-    let made = match step_near(alloc, input, rule, last, from, &to) {
-        Ok(made) => made,
-        Err(fault) => return Err(fault),
-    };
+    let planned = held_plan(alloc, plan)?;
+    let to = Network::of(alloc, from.subnet(), &planned)?;
+    let made = step_near(alloc, positions, last, from, &to)?;
     if last.is_some() && made.order.is_some() && are_same_tables(&made.next, from.held()) {
-        return step_near(alloc, input, rule, &None, from, &to);
+        return step_near(alloc, positions, &None, from, &to);
     }
     Ok(made)
 }
 
-/// Makes the step from the tables of the network `from` towards the tables of the network `plan`, which are meant to be
-/// those of the plan by `rule`. Both networks must have the same facts. If the step goes by an order that the tables of
-/// `from` imply, it takes the one nearest to the order `last`, or to the order of `rule` if `last` is `None`. Returns a
-/// fault of the input `input`, the held tables' text, if a LID moves, or `Memory` if memory is refused.
+/// Makes the step from the tables of the network `from` towards the tables of the network `plan`. Both networks must
+/// have the same facts. `positions` must have the position of each usable switch, in ascending order of GUID, in an
+/// order; it is meant to be the one that the plan goes by. If the step goes by an order that the tables of `from`
+/// imply, it takes the one nearest to the order `last`, or to that of `positions` if `last` is `None`. Returns the
+/// fault `Moves` if a LID moves, or `Memory` if memory is refused.
 fn step_near(
     alloc: Global,
-    input: usize,
-    rule: &Rule,
+    positions: &[usize],
     last: &Option<Vec<Guid>>,
     from: &Network,
     plan: &Network,
-) -> Result<MadeStep, Fault>
-    requires { plan.now.facts ≡ from.now.facts }
-    ensures made { IfOk result (λ made. IsMadeNear (value_of rule.now) (items_of last.now) from.now.facts from.now.held
+) -> Result<MadeStep, StepFault>
+    requires plan { plan.now.facts ≡ from.now.facts }
+    requires positions { length positions.now ≡ length (switches (cells_of from.now.facts)) }
+    ensures made { (rule : RuleValue) → positions.now ≡ positions_by rule (cells_of from.now.facts)
+        → IfOk result (λ made. IsMadeNear rule (items_of last.now) from.now.facts from.now.held
         plan.now.held made.next (items_of made.order)) }
-    ensures still { OnOk result (first_moved from.now.held plan.now.held ≡ None) }
-    ensures refused { IfErr result (StopsNext input from.now.held plan.now.held) }
+    ensures still { (rule : RuleValue) → positions.now ≡ positions_by rule (cells_of from.now.facts)
+        → OnOk result (first_moved from.now.held plan.now.held ≡ None) }
+    ensures refused { (rule : RuleValue) → positions.now ≡ positions_by rule (cells_of from.now.facts)
+        → IfErr result (StopsBy (first_moved from.now.held plan.now.held)) }
 {
-    let Ok(choice) = step_choice(alloc, rule, last, from, plan) else {
-        return Err(Fault::Memory);
-    };
-    let next = match next_by_choice(alloc, input, &choice, from, plan) {
-        Ok(next) => next,
-        Err(fault) => return Err(fault),
-    };
+    let choice = step_choice(alloc, positions, last, from, plan)?;
+    let next = next_by_choice(alloc, &choice, from, plan)?;
     let StepChoice { order, .. } = choice;
     Ok(MadeStep { next, order })
 }
@@ -241,66 +227,25 @@ fn step_near(
 /// Returns the tables to write next by the rule of `choice`, from the tables of the network `from`. They lead towards
 /// the goal of `choice` or, if `choice` has no goal, towards the tables of the network `plan`. Both networks must have
 /// the same facts. If another end port holds a LID of the goal in the tables of `from`, returns the fault `Moves` with
-/// the first such LID, at `input`, the index of the held tables' text. Returns `Memory` if memory is refused.
+/// the first such LID. Otherwise returns `Memory` if memory is refused.
 fn next_by_choice(
     alloc: Global,
-    input: usize,
     choice: &StepChoice,
     from: &Network,
     plan: &Network,
-) -> Result<Held, Fault>
+) -> Result<Held, StepFault>
     requires { plan.now.facts ≡ from.now.facts }
     ensures tables { IfOk result (λ next.
         next ≡ next_by_choice (cells_of from.now.facts) (choice_of choice.now) from.now.held plan.now.held) }
     ensures still { OnOk result (first_moved from.now.held (goal_or plan.now.held choice.now.goal) ≡ None) }
-    ensures refused { IfErr result (StopsNext input from.now.held (goal_or plan.now.held choice.now.goal)) }
+    ensures refused { IfErr result (StopsBy (first_moved from.now.held (goal_or plan.now.held choice.now.goal))) }
 {
     match &choice.goal {
-        Some(goal) => next_towards_goal(alloc, input, &choice.by, from, goal),
-        None => next_towards(alloc, input, &choice.by, from, plan),
-    }
-}
-
-/// Returns the tables to write next by the rule `by`, from the tables of the network `from` towards the tables
-/// `goal`. If another end port holds a LID of `goal` in the tables of `from`, returns the fault `Moves` with the first
-/// such LID, at `input`, the index of the held tables' text. Returns `Memory` if memory is refused.
-fn next_towards_goal(
-    alloc: Global,
-    input: usize,
-    by: &StepRule,
-    from: &Network,
-    goal: &Held,
-) -> Result<Held, Fault>
-    ensures tables { IfOk result (λ next.
-        next ≡ next_tables (cells_of from.now.facts) (chosen_of by.now) from.now.held goal.now) }
-    ensures still { OnOk result (first_moved from.now.held goal.now ≡ None) }
-    ensures refused { IfErr result (StopsNext input from.now.held goal.now) }
-{
-    let Ok(to) = Network::of(alloc, from.subnet(), goal) else {
-        return Err(Fault::Memory);
-    };
-    next_towards(alloc, input, by, from, &to)
-}
-
-/// Returns the tables to write next by the rule `by`, from the tables of the network `from` towards the tables of the
-/// network `to`. Both networks must have the same facts. Returns a fault of the input `input`, the held tables' text,
-/// if a LID moves, or `Memory` if memory is refused.
-fn next_towards(
-    alloc: Global,
-    input: usize,
-    by: &StepRule,
-    from: &Network,
-    to: &Network,
-) -> Result<Held, Fault>
-    requires { to.now.facts ≡ from.now.facts }
-    ensures tables { IfOk result (λ next.
-        next ≡ next_tables (cells_of from.now.facts) (chosen_of by.now) from.now.held to.now.held) }
-    ensures still { OnOk result (first_moved from.now.held to.now.held ≡ None) }
-    ensures refused { IfErr result (StopsNext input from.now.held to.now.held) }
-{
-    match next_tables(alloc, by, from, to) {
-        Ok(next) => Ok(next),
-        Err(fault) => Err(fault_of_step(input, &fault)),
+        Some(goal) => {
+            let to = Network::of(alloc, from.subnet(), goal)?;
+            next_tables(alloc, &choice.by, from, &to)
+        }
+        None => next_tables(alloc, &choice.by, from, plan),
     }
 }
 

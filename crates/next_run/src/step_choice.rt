@@ -2,7 +2,8 @@
 ghost use Rattle.std.specs.Prelude.{◌≡◌, IfOk, false, length};
 ghost use Rattle.std.specs.Option.{option_map};
 ghost use Rattle.fact_store.specs.View.{cells_of};
-ghost use Rattle.lft_blocks.specs.Rule.{value_of};
+ghost use Rattle.lft_blocks.specs.Rule.{RuleValue};
+ghost use Rattle.plan_order.specs.PlanOrder.{positions_by};
 ghost use Rattle.subnet_view.specs.Reading.{switches};
 ghost use Rattle.between_orders.specs.Between.{goal_of};
 ghost use Rattle.next_run.specs.LastOrder.{near_positions};
@@ -13,10 +14,9 @@ use crate::step_order_text::switches_by;
 use between_orders::{StepGoal, are_right, between};
 use fact_store::Refused;
 use held_tables::Held;
-use lft_blocks::Rule;
 use next_tables::StepRule;
 use packet_walks::Network;
-use plan_order::{plan_positions, positions_named};
+use plan_order::positions_named;
 use smp_bytes::Guid;
 use std::alloc::{AllocError, Global};
 
@@ -33,32 +33,34 @@ pub(crate) struct StepChoice {
 }
 
 /// Returns how a step from the tables of `from` towards the tables of `plan` chooses entries. Both networks must have
-/// the same facts. `plan` is meant to have the tables of the plan by `rule`.
+/// the same facts. `positions` must have the position of each usable switch, in ascending order of GUID, in an order; it
+/// is meant to be the one that the plan goes by.
 ///
-/// The step goes by the order of the plan's switches if the tables of `from` are right by it. Otherwise, if these
-/// tables imply an order, the step goes by that order, towards the goal in between. Of several implied orders, the step
-/// takes the one nearest to the order `last`, or to the order of `rule` if `last` is `None`. If the tables imply no
-/// order, the step goes by settled entries.
+/// The step goes by the order of `positions` if the tables of `from` are right by it. Otherwise, if these tables imply
+/// an order, the step goes by that order, towards the goal in between. Of several implied orders, the step takes the one
+/// nearest to the order `last`, or to that of `positions` if `last` is `None`. If the tables imply no order, the step
+/// goes by settled entries.
 pub(crate) fn step_choice(
     alloc: Global,
-    rule: &Rule,
+    positions: &[usize],
     last: &Option<Vec<Guid>>,
     from: &Network,
     plan: &Network,
 ) -> Result<StepChoice, Refused>
-    requires { plan.now.facts ≡ from.now.facts }
-    ensures { IfOk result (λ choice. IsChoice (value_of rule.now) (items_of last.now) from.now.facts from.now.held
+    requires plan { plan.now.facts ≡ from.now.facts }
+    requires positions { length positions.now ≡ length (switches (cells_of from.now.facts)) }
+    ensures { (rule : RuleValue) → positions.now ≡ positions_by rule (cells_of from.now.facts)
+        → IfOk result (λ choice. IsChoice rule (items_of last.now) from.now.facts from.now.held
         plan.now.held (choice_of choice)) }
 {
-    let positions = plan_positions(alloc, from.subnet().store(), rule)?;
-    if are_right(alloc, from, &positions)? {
+    if are_right(alloc, from, positions)? {
         return Ok(StepChoice {
-            by: StepRule::ByOrder(positions),
+            by: StepRule::ByOrder(Vec::from_slice(alloc, positions)?),
             goal: None,
             order: None,
         });
     }
-    match goal_near(alloc, last, from, plan, &positions)? {
+    match goal_near(alloc, last, from, plan, positions)? {
         Some(StepGoal { positions, tables }) => {
             let switches = switches_by(alloc, from, &positions)?;
             Ok(StepChoice {

@@ -1,3 +1,4 @@
+use fact_store::Refused;
 use smp_bytes::Lid;
 use std::alloc::AllocError;
 use thiserror::Error;
@@ -20,6 +21,17 @@ impl From<AllocError> for StepFault {
     ghost from_gives = { λ e fault. fault ≡ Memory };
 
     fn from(_: AllocError) -> Self {
+        StepFault::Memory
+    }
+}
+
+impl From<Refused> for StepFault {
+    ghost use Rattle.std.specs.Prelude.{◌≡◌};
+    ghost use Rattle.next_tables.specs.declared.step_fault.StepFault.TheVariants.{Memory};
+
+    ghost from_gives = { λ e fault. fault ≡ Memory };
+
+    fn from(_: Refused) -> Self {
         StepFault::Memory
     }
 }

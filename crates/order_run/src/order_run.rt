@@ -42,10 +42,8 @@ pub fn run_order_of_tables<S: Source, W: Sink>(
         inputs.old inputs.new (W.has_failed sink.new)) }
     ensures nothing_written { OnErr result ((result ≡ Err Fault.Write) ⊎ (sink.new ≡ sink.old)) }
 {
-    match read_tables_and_files(alloc, 0, inputs) {
-        Ok(read) => answer(alloc, sink, &read.store, &read.held),
-        Err(fault) => Err(fault),
-    }
+    let read = read_tables_and_files(alloc, 0, inputs)?;
+    answer(alloc, sink, &read.store, &read.held)
 }
 
 /// Writes the order of the switches that `held` implies in the subnet of `store`, or nothing if `held` implies no
@@ -58,18 +56,10 @@ fn answer<W: Sink>(alloc: Global, sink: &mut W, store: &Store, held: &Held) -> R
     ensures refused { IfErr result (IsOutputFault (W.has_failed sink.new)) }
     ensures nothing_written { OnErr result ((result ≡ Err Fault.Write) ⊎ (sink.new ≡ sink.old)) }
 {
-    let Ok(subnet) = Subnet::of(alloc, store) else {
-        return Err(Fault::Memory);
-    };
-    let Ok(network) = Network::of(alloc, &subnet, held) else {
-        return Err(Fault::Memory);
-    };
-    let Ok(order) = order_of(alloc, &network) else {
-        return Err(Fault::Memory);
-    };
-    let Ok(switches) = told_switches(alloc, &network, &order) else {
-        return Err(Fault::Memory);
-    };
+    let subnet = Subnet::of(alloc, store)?;
+    let network = Network::of(alloc, &subnet, held)?;
+    let order = order_of(alloc, &network)?;
+    let switches = told_switches(alloc, &network, &order)?;
     write_order(sink, &switches)?;
     Ok(order.is_some())
 }

@@ -1,4 +1,5 @@
 -- Two sources, as the parts of their list, before and after both were read.
+use Rattle.std.specs.Prelude.{IfOk, Result, Ok, Err}
 use Rattle.std.proofs.Common.{◌≡◌, ◌∙◌, List, [], ◌∷◌, ◌++◌, length, get_or, refl, ap, sym, arith}
 use Rattle.std.proofs.Math.ListN.{set}
 use Rattle.schedule_run.specs.Run.{AreTexts}
@@ -34,3 +35,8 @@ module _ {S : Type 0} where
     schedule = other;
     are = two_set front back one other f (ap length (sym parts) ∙ n);
   }
+
+-- what two clauses say of a result says a third
+pub both : {A E : Type 0} (result : Result A E) (P Q R : A → Type 0) → IfOk result P → IfOk result Q → ((a : A) → P a → Q a → R a) → IfOk result R
+both (Ok a) P Q R p q f = f a p q
+both (Err e) P Q R p q f = tt

@@ -43,10 +43,7 @@ pub fn run_schedule<S: Source, W: Sink>(
     ensures nothing_written { OnErr result ((result ≡ Err Fault.Write)
         ⊎ (result ≡ Err Fault.Memory) ⊎ (sink.new ≡ sink.old)) }
 {
-    let (rule, setting) = match read_inputs(alloc, asked, &TopologyAndSchedule, inputs) {
-        Ok(read) => read,
-        Err(fault) => return Err(fault),
-    };
+    let (rule, setting) = read_inputs(alloc, asked, &TopologyAndSchedule, inputs)?;
     let planning = Planning::new(lmc, rule);
     match run_commands(alloc, &setting.topology, &setting.schedule, &planning, sink) {
         Ok(()) => Ok(()),

@@ -67,14 +67,8 @@ fn read_setting<S: Source>(alloc: Global, before: usize, texts: &mut [S]) -> Res
         (AreNotTold S.state before texts.old texts.new) }
 {
     let (topology, schedule) = texts.split_at_mut(1);
-    let texts = match read_texts(alloc, before, &mut topology[0], &mut schedule[0]) {
-        Ok(texts) => texts,
-        Err(fault) => return Err(fault),
-    };
-    match judge(alloc, before, &texts) {
-        Ok(setting) => Ok(setting),
-        Err(fault) => Err(fault),
-    }
+    let texts = read_texts(alloc, before, &mut topology[0], &mut schedule[0])?;
+    judge(alloc, before, &texts)
 }
 
 /// Reads the texts of `topology` and then of `schedule` to their ends. `first`, the index of the topology's input, must

@@ -41,10 +41,7 @@ pub fn run_serve<S: Source, W: Sink>(
 {
     let first = asked.rule.texts();
     let (texts, lines) = inputs.split_at_mut(first);
-    let rule = match read_inputs(alloc, asked.rule, &NoFiles, texts) {
-        Ok((rule, _none)) => rule,
-        Err(fault) => return Err(fault),
-    };
+    let (rule, _none) = read_inputs(alloc, asked.rule, &NoFiles, texts)?;
     let planning = Planning::new(asked.lmc, rule);
     let conduct = Conduct::Live(asked.sm_key);
     let manager = Manager::new(

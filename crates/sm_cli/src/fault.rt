@@ -5,6 +5,7 @@ use byte_io::WriteFault;
 use fact_store::Refused;
 use lid_assign::{LidFault, NoRoom};
 use record_file::FileFault;
+use std::alloc::AllocError;
 use thiserror::Error;
 
 /// Why a run failed. `input` is the index of an input among the inputs of the run.
@@ -38,6 +39,17 @@ impl From<WriteFault> for Fault {
 
     fn from(_: WriteFault) -> Self {
         Fault::Write
+    }
+}
+
+impl From<AllocError> for Fault {
+    ghost use Rattle.std.specs.Prelude.{◌≡◌};
+    ghost use Rattle.sm_cli.specs.declared.fault.Fault.TheVariants.{Memory};
+
+    ghost from_gives = { λ e fault. fault ≡ Memory };
+
+    fn from(_: AllocError) -> Self {
+        Fault::Memory
     }
 }
 

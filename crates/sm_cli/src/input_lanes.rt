@@ -39,14 +39,9 @@ pub fn read_lanes_and_tables<S: Source>(
 {
     let count = texts_if(has_lanes);
     let (texts, others) = inputs.split_at_mut(count);
-    let lanes = match lanes_if(alloc, has_lanes, texts) {
-        Ok(lanes) => lanes,
-        Err(fault) => return Err(fault),
-    };
-    match read_tables_and_files(alloc, count, others) {
-        Ok(read) => Ok(LanesAndTables { lanes, read }),
-        Err(fault) => Err(fault),
-    }
+    let lanes = lanes_if(alloc, has_lanes, texts)?;
+    let read = read_tables_and_files(alloc, count, others)?;
+    Ok(LanesAndTables { lanes, read })
 }
 
 /// Reads the lanes from the only source of `texts`, to its end. Returns `None` if `has_lanes` is false; `texts` must
@@ -63,10 +58,7 @@ fn lanes_if<S: Source>(
     if !has_lanes {
         return Ok(None);
     }
-    match read_lanes(alloc, 0, texts) {
-        Ok(lanes) => Ok(Some(lanes)),
-        Err(fault) => Err(fault),
-    }
+    Ok(Some(read_lanes(alloc, 0, texts)?))
 }
 
 /// Reads the lanes from the only source of `texts`, to its end. `texts` must have one source. `input` is the index of
@@ -80,10 +72,7 @@ pub(crate) fn read_lanes<S: Source>(
     ensures read { IfOk result (AreLanes S.state texts.old texts.new) }
     ensures refused { IfErr result (AreNoLanes S.state input texts.old texts.new) }
 {
-    match read_text(alloc, input, &mut texts[0]) {
-        Ok(lanes) => Ok(lanes),
-        Err(fault) => Err(fault),
-    }
+    read_text(alloc, input, &mut texts[0])
 }
 
 /// Reads the lanes from `source`, to its end. `input` is the index of `source` in the run.

@@ -73,14 +73,9 @@ fn read_order_and_tables<S: Source>(
 {
     let count = texts_if(has_order);
     let (texts, others) = inputs.split_at_mut(count);
-    let order = match read_order(alloc, before, has_order, texts) {
-        Ok(order) => order,
-        Err(fault) => return Err(fault),
-    };
-    match read_tables_and_files(alloc, before + count, others) {
-        Ok(read) => Ok(OrderAndTables { order, read }),
-        Err(fault) => Err(fault),
-    }
+    let order = read_order(alloc, before, has_order, texts)?;
+    let read = read_tables_and_files(alloc, before + count, others)?;
+    Ok(OrderAndTables { order, read })
 }
 
 /// Reads the order from the only source of `texts`, to its end, and returns the switches that it names. Returns no
@@ -98,8 +93,5 @@ fn read_order<S: Source>(
     if !has_order {
         return Ok(Vec::new(alloc));
     }
-    match read_switches(alloc, input, &mut texts[0]) {
-        Ok(order) => Ok(order),
-        Err(fault) => Err(fault),
-    }
+    read_switches(alloc, input, &mut texts[0])
 }

@@ -37,15 +37,10 @@ pub fn read_tables_and_files<S: Source>(
     ensures refused { IfErr result (AreNoTablesAndFiles S.state before inputs.old inputs.new) }
 {
     let (tables, files) = inputs.split_at_mut(1);
-    let held = match read_tables(alloc, before, tables) {
-        Ok(held) => held,
-        Err(fault) => return Err(fault),
-    };
+    let held = read_tables(alloc, before, tables)?;
     let floor = Generation::new(1).unwrap();
-    match read_files(alloc, before + 1, files, floor) {
-        Ok(store) => Ok(TablesAndFacts { held, store }),
-        Err(fault) => Err(fault),
-    }
+    let store = read_files(alloc, before + 1, files, floor)?;
+    Ok(TablesAndFacts { held, store })
 }
 
 /// Reads the tables from the only source of `texts`, to its end. `texts` must have one source. `input` is the index of
@@ -56,10 +51,7 @@ fn read_tables<S: Source>(alloc: Global, input: usize, texts: &mut [S]) -> Resul
     ensures refused { IfErr result
         (AreNoTables S.state input texts.old texts.new) }
 {
-    match read_text(alloc, input, &mut texts[0]) {
-        Ok(held) => Ok(held),
-        Err(fault) => Err(fault),
-    }
+    read_text(alloc, input, &mut texts[0])
 }
 
 /// Reads the tables from `source`, to its end. `input` is its index among the inputs of the run. Returns the fault of

@@ -66,14 +66,8 @@ pub fn read_inputs<S: Source, R: InputReader<S>>(
     ensures refused { IfErr result (IsInputFault S.state (R.reader reader.now) asked inputs.old inputs.new) }
 {
     let (texts, others) = inputs.split_at_mut(asked.texts());
-    let rule = match read_rule(alloc, asked, texts) {
-        Ok(rule) => rule,
-        Err(fault) => return Err(fault),
-    };
-    let told = match reader.read(alloc, asked.texts(), others) {
-        Ok(told) => told,
-        Err(fault) => return Err(fault),
-    };
+    let rule = read_rule(alloc, asked, texts)?;
+    let told = reader.read(alloc, asked.texts(), others)?;
     match rule_fault(asked, &rule, reader, &told) {
         Some(fault) => Err(Fault::Text { input: 0, fault }),
         None => Ok((rule, told)),
@@ -99,24 +93,24 @@ fn read_rule<S: Source>(alloc: Global, asked: RuleAsked, texts: &mut [S]) -> Res
         RuleAsked::Balance => Ok(Rule::Spread {
             order: SwitchOrder::LeastLoaded,
         }),
-        RuleAsked::SpreadFromRoots => match read_switches(alloc, 0, &mut texts[0]) {
-            Ok(roots) => Ok(Rule::Spread {
+        RuleAsked::SpreadFromRoots => {
+            let roots = read_switches(alloc, 0, &mut texts[0])?;
+            Ok(Rule::Spread {
                 order: SwitchOrder::FromRoots { roots },
-            }),
-            Err(fault) => Err(fault),
-        },
-        RuleAsked::SpreadInOrder => match read_switches(alloc, 0, &mut texts[0]) {
-            Ok(switches) => Ok(Rule::Spread {
+            })
+        }
+        RuleAsked::SpreadInOrder => {
+            let switches = read_switches(alloc, 0, &mut texts[0])?;
+            Ok(Rule::Spread {
                 order: SwitchOrder::AsNamed { switches },
-            }),
-            Err(fault) => Err(fault),
-        },
-        RuleAsked::BalanceInOrder => match read_switches(alloc, 0, &mut texts[0]) {
-            Ok(switches) => Ok(Rule::Spread {
+            })
+        }
+        RuleAsked::BalanceInOrder => {
+            let switches = read_switches(alloc, 0, &mut texts[0])?;
+            Ok(Rule::Spread {
                 order: SwitchOrder::BalancedAs { switches },
-            }),
-            Err(fault) => Err(fault),
-        },
+            })
+        }
     }
 }
 

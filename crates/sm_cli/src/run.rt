@@ -48,10 +48,8 @@ pub fn run_files<S: Source, W: Sink>(
     let reader = FilesFrom {
         floor: request.floor,
     };
-    match read_inputs(alloc, request.output.rule(), &reader, inputs) {
-        Ok((rule, store)) => write_answer(alloc, sink, request.output, &rule, &store),
-        Err(fault) => Err(fault),
-    }
+    let (rule, store) = read_inputs(alloc, request.output.rule(), &reader, inputs)?;
+    write_answer(alloc, sink, request.output, &rule, &store)
 }
 
 /// Writes what `output` asks for from the facts in `store`, and flushes. A plan or an order is by `rule`, whatever rule

@@ -19,15 +19,15 @@ map_there f (Some x) = refl
 
 pub returns-clause-told : goal.returns-clause-told
 returns-clause-told g c =
-    let found = c.in-Ok-of.ensures in
-    let facts_are = found.facts ∙ c.in-Ok.ensures in
-    let order : Option (List ℕ) = option_map (λ taken. taken.items) c.in-Ok-order_of.order in
+    let found = c.in_ok-network.ensures in
+    let facts_are = found.facts ∙ c.in_ok-subnet.ensures in
+    let order : Option (List ℕ) = option_map (λ taken. taken.items) c.in_ok-order.order in
     let Told : Facts × HeldPlan → Type 0 = λ x. IsImpliedOrder (cells_of x.0) x.1 (range_with_len 0 (length (switches (cells_of x.0)))) order in
     let Written : List ℕ → Type 0 = λ text. Appends (g.W.Sink.written c.args.sink.now) (g.W.Sink.written c.write_order.new.sink) text in
     record {
       order = order;
-      told = subst Told (λ i. (facts_are i, found.held i)) c.in-Ok-order_of.ensures;
-      written = subst Written (ap order_text (c.deref.ensures.value ∙ c.in-Ok-told_switches.ensures
+      told = subst Told (λ i. (facts_are i, found.held i)) c.in_ok-order.ensures;
+      written = subst Written (ap order_text (c.deref.ensures.value ∙ c.in_ok-switches.ensures
           ∙ ap (λ (f : Facts). told_switches (cells_of f) order) facts_are)) c.in_ok-write_order.ensures.writes.ok;
-      judged = c.is_some.ensures ∙ map_there (λ taken. taken.items) c.in-Ok-order_of.order;
+      judged = c.is_some.ensures ∙ map_there (λ taken. taken.items) c.in_ok-order.order;
     }

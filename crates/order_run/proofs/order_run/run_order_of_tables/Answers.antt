@@ -3,12 +3,12 @@ use Rattle.std.proofs.Common.{inr}
 use Rattle.std.proofs.lemmas.Result.{IfErr-weaker, IfOk-weaker}
 use Rattle.order_run.proofs.order_run.run_order_of_tables.Goals as goal
 
-pub returns-in-Ok-clause-done : goal.returns-in-Ok-clause-done
-returns-in-Ok-clause-done g c =
-    IfOk-weaker c.answer.result _ _ (λ has_order telling. record { read_are = c.in-Ok.read; read = c.in-Ok.ensures.read; telling = telling })
+pub returns-clause-done : goal.returns-clause-done
+returns-clause-done g c =
+    IfOk-weaker c.answer.result _ _ (λ has_order telling. record { read_are = c.in_ok-read.read; read = c.in_ok-read.ensures.read; telling = telling })
     c.answer.ensures.told
 
-pub returns-in-Ok-clause-refused : goal.returns-in-Ok-clause-refused
-returns-in-Ok-clause-refused g c =
-    IfErr-weaker c.answer.result _ _ (λ fault why. inr (record { read_are = c.in-Ok.read; read = c.in-Ok.ensures.read; why = why }))
+pub returns-clause-refused : goal.returns-clause-refused
+returns-clause-refused g c =
+    IfErr-weaker c.answer.result _ _ (λ fault why. inr (record { read_are = c.in_ok-read.read; read = c.in_ok-read.ensures.read; why = why }))
     c.answer.ensures.refused

@@ -1,26 +1,30 @@
 -- The inputs are two parts of their list, the lanes and the others.
 use Rattle.std.proofs.Common.{ℕ, inl, inr, refl, subst}
 use Rattle.sm_cli.specs.InputTables.{AreNoTablesAndFiles}
+use Rattle.sm_cli.proofs.HandedOn.{handed_on}
 use Rattle.sm_cli.proofs.InParts.{in_parts}
 use Rattle.sm_cli.proofs.input_lanes.read_lanes_and_tables.Goals as goal
 
-pub returns-in-Err-clause-refused : goal.returns-in-Err-clause-refused
-returns-in-Err-clause-refused g c =
-    inl (in_parts c.args.inputs.now c.split_at_mut-texts.result.0.now c.split_at_mut-texts.result.1.now c.lanes_if.new.texts
-    c.split_at_mut-texts.result.1.now c.split_at_mut-texts.ensures.value c.in-Err.ensures.refused refl)
+pub returns-in_err-lanes-clause-refused : goal.returns-in_err-lanes-clause-refused
+returns-in_err-lanes-clause-refused g c =
+    handed_on c.from_residual.result c.in_err-lanes.field-0.0 _ c.from_residual.ensures.1
+    (inl (in_parts c.args.inputs.now c.split_at_mut-texts.result.0.now c.split_at_mut-texts.result.1.now c.lanes_if.new.texts
+    c.split_at_mut-texts.result.1.now c.split_at_mut-texts.ensures.value c.in_err-lanes.ensures.refused refl))
 
-pub returns-in-Ok-read_tables_and_files-clause-read : goal.returns-in-Ok-read_tables_and_files-clause-read
-returns-in-Ok-read_tables_and_files-clause-read g c =
+pub returns-clause-read : goal.returns-clause-read
+returns-clause-read g c =
     in_parts c.args.inputs.now c.split_at_mut-texts.result.0.now c.split_at_mut-texts.result.1.now c.lanes_if.new.texts
-    c.read_tables_and_files.new.inputs c.split_at_mut-texts.ensures.value c.in-Ok.ensures.read c.in-Ok-read_tables_and_files.ensures.read
+    c.read_tables_and_files.new.inputs c.split_at_mut-texts.ensures.value c.in_ok-lanes.ensures.read c.in_ok-read.ensures.read
 
-pub returns-in-Err-read_tables_and_files-clause-refused : goal.returns-in-Err-read_tables_and_files-clause-refused
-returns-in-Err-read_tables_and_files-clause-refused g c =
+pub returns-in_err-read-clause-refused : goal.returns-in_err-read-clause-refused
+returns-in_err-read-clause-refused g c =
+    let fault = c.in_err-read.field-0.0 in
     let Refused : ℕ → Type 0 = λ texts. AreNoTablesAndFiles g.S.Source.state texts c.split_at_mut-texts.result.1.now
-    c.read_tables_and_files.new.inputs c.in-Err-read_tables_and_files.fault in
-    inr (
-      c.in-Ok.lanes,
+    c.read_tables_and_files.new.inputs fault in
+    handed_on c.from_residual-in_err-read.result fault _ c.from_residual-in_err-read.ensures.1
+    (inr (
+      c.in_ok-lanes.lanes,
       in_parts c.args.inputs.now c.split_at_mut-texts.result.0.now c.split_at_mut-texts.result.1.now c.lanes_if.new.texts
-          c.read_tables_and_files.new.inputs c.split_at_mut-texts.ensures.value c.in-Ok.ensures.read
-          (subst Refused c.texts_if-count.ensures c.in-Err-read_tables_and_files.ensures.refused),
-    )
+          c.read_tables_and_files.new.inputs c.split_at_mut-texts.ensures.value c.in_ok-lanes.ensures.read
+          (subst Refused c.texts_if-count.ensures c.in_err-read.ensures.refused),
+    ))

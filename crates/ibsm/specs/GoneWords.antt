@@ -1,0 +1,14 @@
+-- Words that the program took in an earlier release, and what to use instead.
+use Rattle.std.specs.Prelude.{ℕ, List, [], codes, if◌then◌else◌}
+use Rattle.std.specs.Str.{bytes_eq}
+
+-- the line that says what to use instead of `word`; empty if `word` is not gone
+abbrev pub successor : List ℕ → List ℕ
+successor word =
+    if bytes_eq word (codes "order-of") then
+    codes "in place of 'order-of TABLES FILE..': 'order --held TABLES FILE..'"
+    else if bytes_eq word (codes "--told-order") then
+    codes "in place of 'next --told-order': 'next', which goes by an order that the tables imply"
+    else if bytes_eq word (codes "--answers-as-asked") then
+    codes "in place of '--answers-as-asked': 'audit --lanes' alone, which also tells what holds with answers"
+    else []
