@@ -113,6 +113,13 @@ class Bench:
         words = re.search(r"\d+ requests in [\d.]+ s", self.said)
         self.figures.append(f"{self.path.name}, {what}: {words[0] if words else self.said}")
 
+    def programs(self) -> list[object]:
+        """Returns the option that names the folder of the programs of a round."""
+        its = self.room / "out/ibsm"
+        if not its.exists():
+            its.symlink_to(pathlib.Path(self.program).resolve())
+        return ["--programs", self.room / "out"]
+
     def record(self, *words: object, **how: Any) -> int:
         return self.run(self.room / "out/record", *words, simulated=True, **how)
 

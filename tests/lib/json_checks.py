@@ -46,7 +46,14 @@ TABLES_VALUE = {
         {"guid": TWO, "top": 0, "blocks": []},
     ],
 }
-SOUND = """pairs 25 arrive 25
+
+
+def judged(lines: str, *fails: str) -> str:
+    """Returns the text of an audit with these lines, and the last one, with what fails."""
+    return f"{lines}passes {'no: ' + ', '.join(fails) if fails else 'yes'}\n"
+
+
+SOUND_LINES = """pairs 25 arrive 25
 between adapters pairs 4 arrive 4
 with a switch pairs 21 arrive 21
 missed above-top 0 no-entry 0 no-port 0 no-link 0 foreign 0 misdelivered 0 round 0
@@ -54,7 +61,7 @@ hops max 3 mean 3.00
 load max 1 mean 0.33
 credit loop none
 """
-UNSOUND = f"""pairs 25 arrive 9
+UNSOUND_LINES = f"""pairs 25 arrive 9
 between adapters pairs 4 arrive 2
 with a switch pairs 21 arrive 7
 missed above-top 1 no-entry 2 no-port 3 no-link 4 foreign 5 misdelivered 6 round 7
@@ -75,11 +82,13 @@ hops none
 load none
 credit loop on one lane {ONE}/1 {TWO}/2 {THREE}/1
 """
+UNSOUND_FAILS = "pairs", "tableless", "unusable", "lidless", "credit loop"
+SOUND, UNSOUND = judged(SOUND_LINES), judged(UNSOUND_LINES, *UNSOUND_FAILS)
 NOTHING = {"lost": [], "misdelivered": [], "round": [], "unowned": [], "twice": [], "unknown": [], "tableless": []}
 NOTHING |= {"unusable": [], "lidless": [], "unjoined": []}
 CAUSES = ("above_top", "no_entry", "no_port", "no_link", "foreign", "misdelivered", "round")
 SOUND_VALUE = {
-    **{"form": "audit", "passes": True, "pairs": 25, "arrive": 25},
+    **{"form": "audit", "passes": True, "fails": [], "pairs": 25, "arrive": 25},
     "between_adapters": {"pairs": 4, "arrive": 4},
     "with_a_switch": {"pairs": 21, "arrive": 21},
     "missed": dict.fromkeys(CAUSES, 0),
@@ -92,7 +101,7 @@ SOUND_VALUE = {
     **{"lanes": None, "loads": [], "way": None},
 }
 UNSOUND_VALUE = {
-    **{"form": "audit", "passes": False, "pairs": 25, "arrive": 9},
+    **{"form": "audit", "passes": False, "fails": [*UNSOUND_FAILS], "pairs": 25, "arrive": 9},
     "between_adapters": {"pairs": 4, "arrive": 2},
     "with_a_switch": {"pairs": 21, "arrive": 7},
     "missed": dict(zip(CAUSES, range(1, 8))),
@@ -240,22 +249,27 @@ TEXTS = (
     ("tables", TABLES[TABLES.index("switch") :], TABLES_VALUE | {"lids": []}),
     ("audit", SOUND, SOUND_VALUE),
     ("audit", UNSOUND, UNSOUND_VALUE),
-    ("audit", SOUND + LOADS, SOUND_VALUE | {"loads": LOADS_VALUE}),
+    ("audit", judged(SOUND_LINES + LOADS), SOUND_VALUE | {"loads": LOADS_VALUE}),
     *(
-        ("audit", f"{SOUND}way {HOST}/1 7 {line}\n", SOUND_VALUE | {"way": {"from": f"{HOST}/1", "lid": 7} | value})
+        (
+            "audit",
+            judged(f"{SOUND_LINES}way {HOST}/1 7 {line}\n"),
+            SOUND_VALUE | {"way": {"from": f"{HOST}/1", "lid": 7} | value},
+        )
         for line, value in WAYS
     ),
     (
         "audit",
-        f"{SOUND}{LOADS}way {HOST}/1 7: no end port\n",
+        judged(f"{SOUND_LINES}{LOADS}way {HOST}/1 7: no end port\n"),
         SOUND_VALUE | {"loads": LOADS_VALUE, "way": {"from": f"{HOST}/1", "lid": 7, "channels": [], "end": None}},
     ),
-    ("audit", SOUND + BY_LANE, SOUND_VALUE | {"lanes": BY_LANE_VALUE}),
+    ("audit", judged(SOUND_LINES + BY_LANE), SOUND_VALUE | {"lanes": BY_LANE_VALUE}),
     (
         "audit",
-        SOUND.replace("credit loop none\n", WRONG_BY_LANE),
+        judged(SOUND_LINES.replace("credit loop none\n", WRONG_BY_LANE), "no-level", "dropped", "credit loop"),
         SOUND_VALUE
-        | {"passes": False, "credit_loop": [f"{ONE}/1", f"{TWO}/2"], "lanes": WRONG_BY_LANE_VALUE},
+        | {"passes": False, "fails": ["no-level", "dropped", "credit loop"], "lanes": WRONG_BY_LANE_VALUE}
+        | {"credit_loop": [f"{ONE}/1", f"{TWO}/2"]},
     ),
     (
         "audit",
@@ -267,12 +281,13 @@ TEXTS = (
     *(
         (
             "audit",
-            SOUND.replace("credit loop none\n", f"{line}\ncredit loop none\n{BY_LANE}"),
-            SOUND_VALUE | {"passes": False, "lanes": BY_LANE_VALUE | {name: WRONG_BY_LANE_VALUE[name]}},
+            judged(SOUND_LINES.replace("credit loop none\n", f"{line}\ncredit loop none\n{BY_LANE}"), fails),
+            SOUND_VALUE
+            | {"passes": False, "fails": [fails], "lanes": BY_LANE_VALUE | {name: WRONG_BY_LANE_VALUE[name]}},
         )
-        for name, line in (
-            ("dropped", f"dropped 4 at {ONE} 1 2 level 5"),
-            ("no_level", f"no-level {HOST}/1 3\nno-level {OTHER}/1 2"),
+        for name, fails, line in (
+            ("dropped", "dropped", f"dropped 4 at {ONE} 1 2 level 5"),
+            ("no_level", "no-level", f"no-level {HOST}/1 3\nno-level {OTHER}/1 2"),
         )
     ),
     ("next", "credit loop none\n", {"form": "next", "credit_loop": [], "lids": [], "order": []}),
@@ -334,25 +349,13 @@ def as_json(room: Room) -> None:
 
 
 def verdicts(room: Room) -> None:
-    """Checks that `passes` agrees with the exit status of `ibsm audit`."""
-    empty = SOUND.replace("25", "0").replace("21", "0").replace("pairs 4 arrive 4", "pairs 0 arrive 0")
-    for text, line, is_sound in (
-        (SOUND, "", True),
-        (SOUND.replace("arrive 25", "arrive 24"), "", False),
-        (SOUND, f"unowned 6 {OTHER}/2\n", True),
-        (SOUND, f"twice 6 {OTHER}/2\n", True),
-        (SOUND, f"unknown {OTHER}\n", True),
-        (SOUND, f"unjoined {ONE}/4\n", True),
-        (SOUND, "disputed 1\n", True),
-        (SOUND, f"tableless {ONE}\n", False),
-        (empty, f"tableless {ONE}\n", True),
-        (empty, f"lidless {ONE}/0\n", False),
-        (empty, f"unusable {ONE}\n", False),
-        (empty, "", True),
-        (SOUND.replace("none", f"on one lane {ONE}/1 {TWO}/1"), "", False),
-    ):
-        room.put(it=text.replace("hops", f"{line}hops"))
-        room.check(json.loads(room.run("json it", 0))["passes"] == is_sound, f"passes, with `{line.strip()}`")
+    """Checks that the verdict is that of the last line, whatever else the text says."""
+    words = ["pairs", "tableless", "unusable", "lidless", "load", "no-level", "dropped", "credit loop"]
+    for lines in SOUND_LINES, UNSOUND_LINES:
+        for fails in [], *([word] for word in words), words:
+            room.put(it=judged(lines, *fails))
+            told = json.loads(room.run("json it", 0))
+            room.check(told["passes"] == (not fails) and told["fails"] == fails, f"the verdict where {fails} fail")
 
 
 def gauges(room: Room) -> None:
@@ -375,14 +378,20 @@ def faults(room: Room) -> None:
     """Checks that cut texts, and texts of no form or of another one, print nothing."""
     for text, words, why in (
         (SOUND.replace("credit loop none\n", ""), "it", "it: it is no whole text of audit: is it cut?"),
+        (SOUND_LINES, "it", "it: it is no whole text of audit: is it cut?"),
+        (SOUND_LINES + LOADS, "it", "no whole text of audit"),
         (SOUND.replace("hops max 3 mean 3.00\n", ""), "it", "no whole text of audit"),
         (SOUND.replace("credit loop none\n", WRONG_BY_LANE.rsplit("answers c")[0]), "it", "no whole text of audit"),
         (SOUND[:-1], "it", "its last line has no end"),
         (SOUND.replace("load max 1", "load min 1"), "it", "it: line 6 is no line of a text of audit: load min"),
         (SOUND.replace("round 0", "round 0y"), "it", "line 4 is no line of a text of audit"),
         (UNSOUND.replace("no such port", "no port"), "it", "line 5 is no line of a text of audit"),
-        (f"{SOUND}channel {ONE}/1 load\n", "it", "line 8 is no line of a text of audit"),
-        (f"{SOUND}way {HOST}/1 7 {ONE}/1\n", "it", "line 8 is no line of a text of audit"),
+        (f"{SOUND_LINES}channel {ONE}/1 load\n", "it", "line 8 is no line of a text of audit"),
+        (f"{SOUND_LINES}way {HOST}/1 7 {ONE}/1\n", "it", "line 8 is no line of a text of audit"),
+        *(
+            (f"{SOUND_LINES}passes {words}\n", "it", "line 8 is no line of a text of audit")
+            for words in ("", "no", "no: ", "no: lost", "no: pairs,", "no: pairs lidless", "yes: load", "yes, load")
+        ),
         (FACTS.replace("claim", "claims"), "it", "line 10 is no line of a text of facts"),
         (FACTS + "floor 3\n", "it", "line 12 is no line"),
         (TABLES.replace("02" * 64, "02" * 63), "it", "line 4 is no line of a text of tables"),
@@ -396,7 +405,7 @@ def faults(room: Room) -> None:
         ("", "it", "it: no text"),
         ("", "it --form audit", "no whole text of audit"),
         ("nonsense\n", "it", "it: this is none of the files and texts"),
-        (FACTS, "it --prometheus", "it is a text of facts, and --prometheus takes an audit"),
+        (FACTS, "it --prometheus", "it is a text of facts, and --prometheus takes an audit or a status file"),
         (FACTS, "it --form tables", "line 1 is no line of a text of tables"),
         (SOUND, "nothing", "nothing"),
     ):

@@ -130,10 +130,6 @@ class Judged(NamedTuple):
     without: list[tuple[End, int]]
     drops: set[Drop]
 
-    def passes(self) -> bool:
-        """Returns whether there is no loop, no pair without a level, and nothing dropped."""
-        return not (self.loop or self.without or self.drops)
-
 
 class Rule:
     """Facts, tables and lanes, and what packets do by them."""

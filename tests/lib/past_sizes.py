@@ -57,7 +57,8 @@ def check_tree(room: Room) -> None:
     room.put("tree.plan", plan)
     room.prints(audit, "audit", "tree.plan", "tree")
     way = f"{tree.adapters[0]:x}/1,{tree.lids()[1][-1]}"
-    room.prints(audit + tree.appendix(), "audit", "--loads", "--way", way, "tree.plan", "tree")
+    with_appendix = audit.replace(b"passes yes\n", tree.appendix() + b"passes yes\n")
+    room.prints(with_appendix, "audit", "--loads", "--way", way, "tree.plan", "tree")
     for tables in "tree.plan", "/dev/null":
         room.prints(plan, "next", tables, "tree")
     # Overlapping parts, in two groupings.
@@ -123,7 +124,8 @@ def check_switches(room: Room) -> None:
         room.prints(plan, "next", *options, "switches.plan", "switches")
         lines = room.run("audit", "switches.plan", "switches").decode().splitlines(True)
         wanted = audits.counted(ends**2, adapters**2)
-        check("".join(lines[:4]) == wanted and len(lines) == 7, f"the audit of a plan by {options}: {lines[:8]}")
+        passes = len(lines) == 8 and lines[-1] == "passes yes\n"
+        check("".join(lines[:4]) == wanted and passes, f"the audit of a plan by {options}: {lines[:8]}")
     check(len(lids) == 1, "LIDs differ by the rule")
 
 

@@ -35,9 +35,14 @@ def spelled(text: str) -> str:
     return "\n".join(" ".join(line) for line in words)
 
 
-def found(text: str) -> Ended:
-    """Returns the end of an audit that finds missing things, undelivered packets or a credit loop."""
-    return Ended(1, b"", spelled(text).encode())
+def sound(text: str) -> Ended:
+    """Returns the end of an audit that passes, by its text without the last line."""
+    return prints(f"{spelled(text)}passes yes\n")
+
+
+def found(text: str, *flaws: str) -> Ended:
+    """Returns the end of an audit that does not pass, by its text without the last line, and the words of that line."""
+    return Ended(1, b"", f"{spelled(text)}passes no: {', '.join(flaws)}\n".encode())
 
 
 def lost(at: str, *packets: str) -> str:
@@ -69,7 +74,7 @@ def counted(sent: int, between: int, **missed: int) -> str:
 BOTH = "hops max 3 mean 3.00\nload max 1 mean 1.00\n"
 ONE = "hops max 3 mean 3.00\nload max 1 mean 0.50\n"
 NEITHER = "hops none\nload max 0 mean 0.00\n"
-ALL_ARRIVE = prints(counted(16, 4) + BOTH + "credit loop none\n")
+ALL_ARRIVE = sound(counted(16, 4) + BOTH + "credit loop none\n")
 AT_10, AT_20, AT_100 = f"{0x10:016x}", f"{0x20:016x}", f"{0x100:016x}"
 
 # An audit of the two switches and two adapters without tables.
@@ -80,7 +85,7 @@ NOTHING = (
 
 # An audit of a single fact: the claim of the last port of the node with the greatest GUID.
 CLAIM_ALONE = found(
-    f"{counted(0, 0)}unusable {'f' * 16}\nunjoined {'f' * 16}/254\nhops none\nload none\ncredit loop none\n"
+    f"{counted(0, 0)}unusable {'f' * 16}\nunjoined {'f' * 16}/254\nhops none\nload none\ncredit loop none\n", "unusable"
 )
 
 
@@ -92,7 +97,7 @@ def tables(plan: Callable[..., Ended]) -> Iterator[tuple[str, str, Ended]]:
     yield from tables_astray(plan)
     yield from tables_cut_short(good)
     yield from tables_with_other_lids(plan, good)
-    yield "nothing", "", found(NOTHING)
+    yield "nothing", "", found(NOTHING, "tableless", "lidless")
 
 
 def tables_astray(plan: Callable[..., Ended]) -> Iterator[tuple[str, str, Ended]]:
@@ -104,7 +109,8 @@ def tables_astray(plan: Callable[..., Ended]) -> Iterator[tuple[str, str, Ended]
             counted(16, 4, no_link=2, apart=1)
             + lost(f"{AT_10} by 3: no link", "10/0 4", "100/1 4")
             + ONE
-            + "credit loop none\n"
+            + "credit loop none\n",
+            "pairs",
         ),
     )
     yield (
@@ -112,7 +118,7 @@ def tables_astray(plan: Callable[..., Ended]) -> Iterator[tuple[str, str, Ended]
         plan(LIDS, "10 0 1 2 4", "20 5 0 1 2").printed.decode(),
         found(
             counted(16, 4, no_port=2, no_link=2, apart=1) + lost(f"{AT_20} by 5: no such port", "20/0 1", "200/1 1")
-            + lost(f"{AT_10} by 4: no link", "10/0 4", "100/1 4") + ONE + "credit loop none\n"
+            + lost(f"{AT_10} by 4: no link", "10/0 4", "100/1 4") + ONE + "credit loop none\n", "pairs"
         ),
     )
     yield (
@@ -122,7 +128,8 @@ def tables_astray(plan: Callable[..., Ended]) -> Iterator[tuple[str, str, Ended]
             counted(16, 4, foreign=2)
             + lost(f"{AT_100}: foreign port", "10/0 2", "100/1 2")
             + BOTH
-            + "credit loop none\n"
+            + "credit loop none\n",
+            "pairs",
         ),
     )
     yield (
@@ -132,7 +139,9 @@ def tables_astray(plan: Callable[..., Ended]) -> Iterator[tuple[str, str, Ended]
             counted(16, 4, round=3, apart=1)
             + "round 10/0 4\nround 20/0 4\nround 100/1 4\n"
             + ONE
-            + "credit loop on one lane 10/1 20/1\n"
+            + "credit loop on one lane 10/1 20/1\n",
+            "pairs",
+            "credit loop",
         ),
     )
 
@@ -149,7 +158,8 @@ def tables_cut_short(good: str) -> Iterator[tuple[str, str, Ended]]:
         + lost(f"{AT_20} by 255: above top", "20/0 49151")
         + lost(f"{AT_10} by 255: above top", "100/1 49151")
         + BOTH
-        + "credit loop none\n"
+        + "credit loop none\n",
+        "pairs",
     )
     all_lost = (
         "20/0 1", "200/1 1", "10/0 2", "20/0 2", "100/1 2", "200/1 2", "20/0 3", "200/1 3", "10/0 4", "20/0 4",
@@ -161,12 +171,14 @@ def tables_cut_short(good: str) -> Iterator[tuple[str, str, Ended]]:
         + NEITHER
         + "credit loop none\n"
     )
-    yield "a switch without its block", "\n".join(lines[:-1]) + "\n", found(without)
+    yield "a switch without its block", "\n".join(lines[:-1]) + "\n", found(without, "pairs")
     # A switch without tables has a top of 0.
     tableless = (
         counted(16, 4, above_top=11, apart=2) + lost(f"{AT_20} by 255: above top", *all_lost) + f"tableless {AT_20}\n"
     )
-    yield "a switch without tables", "\n".join(lines[:-2]) + "\n", found(tableless + NEITHER + "credit loop none\n")
+    yield "a switch without tables", "\n".join(lines[:-2]) + "\n", found(
+        tableless + NEITHER + "credit loop none\n", "pairs", "tableless"
+    )
     yield (
         "a top too low",
         good.replace(f"switch {AT_10} top 4", f"switch {AT_10} top 3"),
@@ -174,7 +186,8 @@ def tables_cut_short(good: str) -> Iterator[tuple[str, str, Ended]]:
             counted(16, 4, above_top=2, apart=1)
             + lost(f"{AT_10} by 255: above top", "10/0 4", "100/1 4")
             + ONE
-            + "credit loop none\n"
+            + "credit loop none\n",
+            "pairs",
         ),
     )
 
@@ -190,7 +203,8 @@ def tables_with_other_lids(plan: Callable[..., Ended], good: str) -> Iterator[tu
         twice,
         found(
             counted(16, 4, misdelivered=4, apart=2) + "".join(f"misdelivered {line}\n" for line in misdelivered)
-            + "twice 3 100/1\ntwice 3 200/1\n" + NEITHER + "credit loop none\n"
+            + "twice 3 100/1\ntwice 3 200/1\n" + NEITHER + "credit loop none\n",
+            "pairs",
         ),
     )
     # A port and a switch unknown to the facts are reported, and change nothing.
@@ -198,13 +212,13 @@ def tables_with_other_lids(plan: Callable[..., Ended], good: str) -> Iterator[tu
     yield (
         "a port and a switch that the facts don't know",
         strange,
-        prints(spelled(f"{counted(16, 4)}unowned 5 300/1\nunknown {0x30:016x}\n" + BOTH + "credit loop none\n")),
+        sound(f"{counted(16, 4)}unowned 5 300/1\nunknown {0x30:016x}\n" + BOTH + "credit loop none\n"),
     )
     # No packet is for an end port that no line names.
     yield (
         "an end port without a LID",
         good.replace(f"lid 4 {0x200:016x}/1\n", ""),
-        found(counted(12, 2) + "lidless 200/1\n" + ONE + "credit loop none\n"),
+        found(counted(12, 2) + "lidless 200/1\n" + ONE + "credit loop none\n", "lidless"),
     )
     # The two switches send each other packets for LID 5, which nobody holds.
     unheld = plan(f"{LIDS} 5 300/1", *(f"{row} 1" for row in GOOD)).printed.decode().replace(
@@ -213,7 +227,7 @@ def tables_with_other_lids(plan: Callable[..., Ended], good: str) -> Iterator[tu
     yield (
         "a loop for a LID that nobody holds",
         unheld,
-        found(counted(16, 4) + BOTH + "credit loop on one lane 10/1 20/1\n"),
+        found(counted(16, 4) + BOTH + "credit loop on one lane 10/1 20/1\n", "credit loop"),
     )
     yield (
         "the same, above the top of one switch",
@@ -227,8 +241,8 @@ def ranges(plan: Callable[..., Ended]) -> Iterator[tuple[str, str, Ended]]:
     7."""
     good = plan("1 10/0 2 20/0 4 100/1 6 200/1", *GOOD, lmc=1).printed.decode()
     all_four = "hops max 3 mean 3.00\nload max 2 mean 2.00\n"
-    yield "tables for two LIDs a port", good, prints(counted(24, 8) + all_four + "credit loop none\n")
-    yield "the same, told one by one", one_by_one(good), prints(counted(24, 8) + all_four + "credit loop none\n")
+    yield "tables for two LIDs a port", good, sound(counted(24, 8) + all_four + "credit loop none\n")
+    yield "the same, told one by one", one_by_one(good), sound(counted(24, 8) + all_four + "credit loop none\n")
     table = good.index(f"switch {AT_10}")
     entry = good.index("block 0 ", table) + len("block 0 ") + 2 * 7
     yield (
@@ -236,7 +250,8 @@ def ranges(plan: Callable[..., Ended]) -> Iterator[tuple[str, str, Ended]]:
         good[:entry] + "03" + good[entry + 2 :],
         found(
             counted(24, 8, no_link=2, apart=1) + lost(f"{AT_10} by 3: no link", "10/0 7", "100/1 7")
-            + "hops max 3 mean 3.00\nload max 2 mean 1.50\ncredit loop none\n"
+            + "hops max 3 mean 3.00\nload max 2 mean 1.50\ncredit loop none\n",
+            "pairs",
         ),
     )
     # Packets for 5 arrive at 100/1; 7 has no owner.
@@ -244,7 +259,8 @@ def ranges(plan: Callable[..., Ended]) -> Iterator[tuple[str, str, Ended]]:
         counted(24, 8, misdelivered=4, apart=2)
         + "misdelivered 200/1 5 at 200/1\nmisdelivered 10/0 5 at 100/1\nmisdelivered 20/0 5 at 100/1\n"
         "misdelivered 100/1 5 at 100/1\ntwice 5 100/1\ntwice 5 200/1\nhops max 3 mean 3.00\nload max 1 mean 1.00\n"
-        "credit loop none\n"
+        "credit loop none\n",
+        "pairs",
     )
     shared = good.replace("lid 6 ", "lid 5 ")
     yield "ranges that have a LID in common", shared, in_common
@@ -253,14 +269,14 @@ def ranges(plan: Callable[..., Ended]) -> Iterator[tuple[str, str, Ended]]:
     yield (
         "a LID of a range that is told once more",
         told_again(good, again),
-        prints(counted(24, 8) + all_four + "credit loop none\n"),
+        sound(counted(24, 8) + all_four + "credit loop none\n"),
     )
     yield "ranges that have a LID in common, which is told once more", told_again(shared, again), in_common
     strange = f"lid 8 {0x300:016x}/1 lmc 1\nlid 9 {0x300:016x}/1\n"
     yield (
         "a LID of a port that the facts don't know, told once more",
         good.replace(f"switch {AT_10}", f"{strange}switch {AT_10}"),
-        prints(spelled(f"{counted(24, 8)}unowned 8 300/1\nunowned 9 300/1\n{all_four}credit loop none\n")),
+        sound(f"{counted(24, 8)}unowned 8 300/1\nunowned 9 300/1\n{all_four}credit loop none\n"),
     )
 
 
@@ -278,31 +294,36 @@ def unclear() -> Iterator[tuple[str, Ended]]:
     # Only the packets of each port to itself, and those between 10 and 100, are counted.
     yield "no room", found(
         f"{counted(6, 2)}unknown {AT_20}\nunusable {AT_20}\nunjoined 10/1\n{ports}hops none\nload none\n"
-        "credit loop none\n"
+        "credit loop none\n",
+        "unusable",
     )
     yield "disputed type", found(
         f"{counted(5, 2)}unowned 2 20/0\nunknown {AT_20}\nunusable {AT_20}\nunjoined 10/1\nunjoined 20/0\n"
-        f"{ports}disputed 1\nhops none\nload none\ncredit loop none\n"
+        f"{ports}disputed 1\nhops none\nload none\ncredit loop none\n",
+        "unusable",
     )
-    yield "silent adapter", prints(
-        spelled(f"{counted(9, 1)}unowned 4 200/1\nunjoined 20/2\nhops none\nload max 0 mean 0.00\ncredit loop none\n")
+    yield "silent adapter", sound(
+        f"{counted(9, 1)}unowned 4 200/1\nunjoined 20/2\nhops none\nload max 0 mean 0.00\ncredit loop none\n"
     )
     # Without the wire, 10 and 100 are apart from 20 and 200.
     apart = f"{counted(8, 2)}unjoined 10/1\nunjoined 20/1\n"
-    yield "wire without states", prints(spelled(f"{apart}hops none\nload none\ncredit loop none\n"))
-    yield "wire with a disputed state", prints(spelled(f"{apart}disputed 1\nhops none\nload none\ncredit loop none\n"))
+    yield "wire without states", sound(f"{apart}hops none\nload none\ncredit loop none\n")
+    yield "wire with a disputed state", sound(f"{apart}disputed 1\nhops none\nload none\ncredit loop none\n")
     # Nobody owns the LID of 20, and packets for the others pass through it.
     nameless = f"{counted(9, 4)}unowned 2 20/0\nunjoined 20/0\n"
-    yield "switch without a GUID", prints(spelled(f"{nameless}{BOTH}credit loop none\n"))
-    yield "switch with a disputed GUID", prints(spelled(f"{nameless}disputed 1\n{BOTH}credit loop none\n"))
+    yield "switch without a GUID", sound(f"{nameless}{BOTH}credit loop none\n")
+    yield "switch with a disputed GUID", sound(f"{nameless}disputed 1\n{BOTH}credit loop none\n")
     whole = counted(16, 4)
-    yield "table of nobody", found(f"{whole}unusable {0x300:016x}\n{BOTH}credit loop none\n")
+    yield "table of nobody", found(
+        f"{whole}unusable {0x300:016x}\n{BOTH}credit loop none\n", "unusable"
+    )
     strangers = "".join(f"unusable {guid:016x}\n" for guid in range(0x301, 0x306))
     yield "name for each node", found(
-        f"{whole}{strangers}unjoined 301/1\nunjoined 303/1\nunjoined 304/1\nunjoined 305/2\n{BOTH}credit loop none\n"
+        f"{whole}{strangers}unjoined 301/1\nunjoined 303/1\nunjoined 304/1\nunjoined 305/2\n{BOTH}credit loop none\n",
+        "unusable",
     )
-    yield "cable that is down", prints(f"{whole}{BOTH}credit loop none\n")
-    yield "disputed link", prints(spelled(f"{whole}unjoined 10/3\ndisputed 1\n{BOTH}credit loop none\n"))
+    yield "cable that is down", sound(f"{whole}{BOTH}credit loop none\n")
+    yield "disputed link", sound(f"{whole}unjoined 10/3\ndisputed 1\n{BOTH}credit loop none\n")
 
 
 def otherwise(text: str) -> str:
@@ -335,29 +356,31 @@ def rings(plan: Callable[..., Ended]) -> Iterator[tuple[str, str, Ended]]:
     yield (
         "the short way both ways",
         plan(RING_LIDS, *short).printed.decode(),
-        found(counted(25, 0) + NEITHER + "credit loop on one lane 10/1 20/1 30/1 40/1 50/1\n"),
+        found(counted(25, 0) + NEITHER + "credit loop on one lane 10/1 20/1 30/1 40/1 50/1\n", "credit loop"),
     )
     # Each sends only to its neighbors: no packet takes two channels in a row.
     beside = ring("0 1 - - 2", "2 0 1 - -", "- 2 0 1 -", "- - 2 0 1", "1 - - 2 0")
     far = (0x30, 1), (0x40, 1), (0x40, 2), (0x50, 2), (0x10, 3), (0x50, 3), (0x10, 4), (0x20, 4), (0x20, 5), (0x30, 5)
     missing = "".join(f"lost {guid:x}/0 {lid} at {guid:016x} by 255: no entry\n" for guid, lid in far)
     yield "one wire far", plan(RING_LIDS, *beside).printed.decode(), found(
-        counted(25, 0, no_entry=10) + missing + NEITHER + "credit loop none\n"
+        counted(25, 0, no_entry=10) + missing + NEITHER + "credit loop none\n", "pairs"
     )
     yield (
         "not across one wire",
         plan(RING_LIDS, *cut).printed.decode(),
-        prints(counted(25, 0) + NEITHER + "credit loop none\n"),
+        sound(counted(25, 0) + NEITHER + "credit loop none\n"),
     )
     # Of 25 packets of the same kind, 20 are listed.
     first = [f"{guid:x}/0 {lid}" for lid in range(1, 5) for guid in RING]
     nowhere = "".join(lost(f"{int(packet.split('/')[0], 16):016x} by 9: no such port", packet) for packet in first)
     yield "no port of any switch", plan(RING_LIDS, *ring(*["9 9 9 9 9"] * 5)).printed.decode(), found(
-        counted(25, 0, no_port=25) + nowhere + "more lost 5\n" + NEITHER + "credit loop none\n"
+        counted(25, 0, no_port=25) + nowhere + "more lost 5\n" + NEITHER + "credit loop none\n", "pairs"
     )
     yield "round for ever", plan(RING_LIDS, *ring(*["1 1 1 1 1"] * 5)).printed.decode(), found(
         counted(25, 0, round=25) + "".join(f"round {packet}\n" for packet in first) + "more round 5\n"
-        + NEITHER + "credit loop on one lane 10/1 20/1 30/1 40/1 50/1\n"
+        + NEITHER + "credit loop on one lane 10/1 20/1 30/1 40/1 50/1\n",
+        "pairs",
+        "credit loop",
     )
     yield "each to itself", plan(RING_LIDS, *ring(*["0 0 0 0 0"] * 5)).printed.decode(), found(
         counted(25, 0, misdelivered=20)
@@ -367,7 +390,8 @@ def rings(plan: Callable[..., Ended]) -> Iterator[tuple[str, str, Ended]]:
             for guid in RING
             if guid != own
         )
-        + NEITHER + "credit loop none\n"
+        + NEITHER + "credit loop none\n",
+        "pairs",
     )
 
 
@@ -382,12 +406,14 @@ def ring_and_two(plan: Callable[..., Ended]) -> Iterator[tuple[str, str, Ended]]
     short = ring("0 1 1 2 2 - -", "2 0 1 1 2 - -", "2 2 0 1 1 - -", "1 2 2 0 1 - -", "1 1 2 2 0 - -")
     lids = f"{RING_LIDS} 6 60/0 7 70/0"
     whole = plan(lids, *short, "60 1 - - - - 0 1", "70 1 - - - - 1 0").printed.decode()
-    yield "a ring beside a loop of two", whole, found(counted(29, 0) + NEITHER + "credit loop on one lane 60/1 70/1\n")
+    yield "a ring beside a loop of two", whole, found(
+        counted(29, 0) + NEITHER + "credit loop on one lane 60/1 70/1\n", "credit loop"
+    )
     apart = plan(lids, *short, "60 - - - - - 0 1", "70 - - - - - 1 0").printed.decode()
     yield (
         "a ring beside two",
         apart,
-        found(counted(29, 0) + NEITHER + "credit loop on one lane 10/1 20/1 30/1 40/1 50/1\n"),
+        found(counted(29, 0) + NEITHER + "credit loop on one lane 10/1 20/1 30/1 40/1 50/1\n", "credit loop"),
     )
 
 
@@ -401,7 +427,7 @@ def pairs() -> Iterator[tuple[str, str, Ended]]:
     yield (
         "two adapters and no switch",
         lids,
-        prints(counted(4, 4) + "hops max 1 mean 1.00\nload none\ncredit loop none\n"),
+        sound(counted(4, 4) + "hops max 1 mean 1.00\nload none\ncredit loop none\n"),
     )
 
 
@@ -419,13 +445,14 @@ def rows(plan: Callable[..., Ended]) -> Iterator[tuple[str, str, Ended]]:
     yield (
         "three in a row",
         all_arrive,
-        prints(counted(36, 9) + "hops max 4 mean 3.33\nload max 2 mean 2.00\ncredit loop none\n"),
+        sound(counted(36, 9) + "hops max 4 mean 3.33\nload max 2 mean 2.00\ncredit loop none\n"),
     )
     # Packets for 200 are lost at 20 and count nowhere.
     cut = plan(lids, "10 3 1 4 0 1 1", "20 2 9 2 2 0 1", "30 2 3 2 2 2 0").printed.decode()
     there = lost(f"{AT_20} by 9: no such port", "10/0 2", "20/0 2", "100/1 2", "300/1 2")
     yield "three in a row, the middle one without a way to 200", cut, found(
-        counted(36, 9, no_port=4, apart=2) + there + "hops max 4 mean 3.00\nload max 2 mean 1.00\ncredit loop none\n"
+        counted(36, 9, no_port=4, apart=2) + there + "hops max 4 mean 3.00\nload max 2 mean 1.00\ncredit loop none\n",
+        "pairs",
     )
 
 

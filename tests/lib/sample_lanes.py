@@ -4,7 +4,7 @@ from __future__ import annotations
 from collections.abc import Callable, Iterator
 
 import sample_audits as audits
-from built_program import Ended, prints, refused, says
+from built_program import Ended, refused, says
 
 # Lane 0 for each service level, and level 0 for each LID of a block.
 LANES, LEVELS = "00" * 16, "00" * 64
@@ -126,45 +126,58 @@ def pairs(plan: Callable[..., Ended]) -> Iterator[Row]:
     """Yields audits of two switches and two adapters: with a lane and a level for all packets, without levels, with a
     packet that is dropped for lack of a lane, and of packets for a LID that nobody holds."""
     good = plan(audits.LIDS, *audits.GOOD).printed.decode()
-    yield "one lane", good, ONE_LEVEL, "", prints(HEAD + NO_LOOPS)
-    for bound, ended in ("1", prints), ("0", audits.found):
-        yield "a greatest load", good, ONE_LEVEL, f"--max-load={bound}", ended(HEAD + NO_LOOPS)
+    yield "one lane", good, ONE_LEVEL, "", audits.sound(HEAD + NO_LOOPS)
+    yield "a greatest load", good, ONE_LEVEL, "--max-load=1", audits.sound(HEAD + NO_LOOPS)
+    yield "a lower one", good, ONE_LEVEL, "--max-load=0", audits.found(HEAD + NO_LOOPS, "load")
     # Only packets between different adapter ports need a level.
     lacking = ["200/1 3", "100/1 4"]
     for text in "", "lanes %\n":
-        yield "no levels", good, text, "", audits.found(HEAD + without_level(*lacking) + NO_LOOPS)
+        yield "no levels", good, text, "", audits.found(HEAD + without_level(*lacking) + NO_LOOPS, "no-level")
     one = "".join(f"levels {end} 0 $\n" for end in ENDS[:3]) + f"levels 200/1 0 {levels({1: 0, 2: 15, 4: 0})}\n"
     yield (
         "one packet without a level", good, f"lanes %\n{one}", "",
-        audits.found(HEAD + without_level("200/1 3") + NO_LOOPS),
+        audits.found(HEAD + without_level("200/1 3") + NO_LOOPS, "no-level"),
     )
     # Of what 100/1 sends by switch 10, only the packets for LID 2 have level 1.
     dropping = f"lanes %\nsl2vl 10 2 1 {bytes_in({1: 15}, 16, 0)}\nlevel 0\nlevels 100/1 0 {levels({2: 1})}\n"
     dropped = f"dropped 2 at {audits.AT_10} 2 1 level 1\n"
     yield "a lane that lacks", good, dropping, "", audits.found(
-        f"{HEAD}{dropped}credit loop none\nanswers {dropped}{NO_ANSWERS}"
+        f"{HEAD}{dropped}credit loop none\nanswers {dropped}{NO_ANSWERS}", "dropped"
     )
     yield (
         "a lane that lacks, where no packet has the level", good, dropping.replace(levels({2: 1}), levels({2: 2})), "",
-        prints(HEAD + NO_LOOPS),
+        audits.sound(HEAD + NO_LOOPS),
     )
     # Switch 20 asks 100/1 at level 1, and would get its answer at the same level by switch 10.
     asking = dropping.replace("levels 100/1", "levels 20/0").replace(levels({2: 1}), levels({3: 1}))
-    yield "a lane that lacks for answers alone", good, asking, "", prints(
+    yield "a lane that lacks for answers alone", good, asking, "", audits.sound(
         f"{HEAD}credit loop none\nanswers {dropped}{NO_ANSWERS}"
     )
     unheld = plan(f"{audits.LIDS} 5 300/1", *(f"{row} 1" for row in audits.GOOD)).printed.decode().replace(
         f"lid 5 {0x300:016x}/1\n", ""
     )
     yield "a loop for a LID that nobody holds", unheld, ONE_LEVEL, "", audits.found(
-        waiting(HEAD, "10/1 vl 0 20/1 vl 0")
+        waiting(HEAD, "10/1 vl 0 20/1 vl 0"), "credit loop"
     )
     yield "the same on another lane", unheld, f"lanes {'0e' * 16}\nlevel 15\n", "", audits.found(
-        waiting(HEAD, "10/1 vl 14 20/1 vl 14")
+        waiting(HEAD, "10/1 vl 14 20/1 vl 14"), "credit loop"
     )
     yield "that loop cut by a lane that lacks", unheld, f"{ONE_LEVEL}sl2vl 20 1 1 {'0f' * 16}\n", "", audits.found(
         f"{HEAD}dropped 5 at {audits.AT_20} 1 1 level 0\ncredit loop none\n"
-        f"answers dropped 5 at {audits.AT_20} 1 1 level 0\n{NO_ANSWERS}"
+        f"answers dropped 5 at {audits.AT_20} 1 1 level 0\n{NO_ANSWERS}",
+        "dropped",
+    )
+
+
+def astray(plan: Callable[..., Ended]) -> tuple[str, str]:
+    """Returns tables and lanes of the two switches, of switch 30 at port 4 of switch 10, and of adapter 300 at switch
+    30. Switch 30 has no tables, adapter 300 no LID, and packets no level but those from 10/0 and 100/1. One of 100/1 is
+    dropped, and those of 10/0 for LID 5, which nobody holds, go round."""
+    tables = plan(f"{audits.LIDS} 5 500/1", *(f"{row} 1" for row in audits.GOOD)).printed.decode()
+    levels_of = f"levels 10/0 0 $\nlevels 100/1 0 {levels({2: 1})}\n"
+    return (
+        tables.replace(f"lid 5 {0x500:016x}/1\n", ""),
+        f"lanes %\nsl2vl 10 2 1 {bytes_in({1: 15}, 16, 0)}\n{levels_of}",
     )
 
 
@@ -184,16 +197,16 @@ def rings(plan: Callable[..., Ended]) -> Iterator[Row]:
     short = audits.ring("0 1 1 2 2", "2 0 1 1 2", "2 2 0 1 1", "1 2 2 0 1", "1 1 2 2 0")
     tables = plan(audits.RING_LIDS, *short).printed.decode()
     head = audits.counted(25, 0) + audits.NEITHER
-    none = prints(head + NO_LOOPS)
+    none = audits.sound(head + NO_LOOPS)
     round_once = " ".join(f"{guid:x}/1 vl 0" for guid in audits.RING)
-    loop = audits.found(waiting(head, round_once))
+    loop = audits.found(waiting(head, round_once), "credit loop")
     back, forth = f"sl2vl 10 1 2 {'01' * 16}\n", f"sl2vl 10 2 1 {'01' * 16}\n"
     yield "one way round cut", tables, ONE_LEVEL + back, "", loop
     yield "both ways round cut", tables, ONE_LEVEL + back + forth, "", none
     # What 40 sends for LIDs 1 and 2 is a part of the loop, once each way round.
     two = f"lanes {bytes_in({1: 1}, 16, 0)}\nlevel 0\n"
     # Answers to 10 and 20, which ask at level 0, close the loop again.
-    answers = prints(audits.spelled(f"{head}credit loop none\nanswers credit loop by lane {round_once}\n"))
+    answers = audits.sound(f"{head}credit loop none\nanswers credit loop by lane {round_once}\n")
     yield "another level both ways", tables, f"{two}levels 40/0 0 {levels({1: 1, 2: 1})}\n", "", answers
     yield "another level one way", tables, f"{two}{back}levels 40/0 0 {levels({1: 1})}\n", "", answers
 
@@ -204,7 +217,7 @@ def rings_and_two(plan: Callable[..., Ended]) -> Iterator[Row]:
     lids = f"{audits.RING_LIDS} 6 60/0 7 70/0"
     tables = plan(lids, *short, "60 - - - - - 0 1", "70 - - - - - 1 0").printed.decode()
     head = audits.counted(29, 0) + audits.NEITHER
-    yield "packets of switches without a level", tables, "lanes %\n", "", prints(head + NO_LOOPS)
+    yield "packets of switches without a level", tables, "lanes %\n", "", audits.sound(head + NO_LOOPS)
 
 
 # Two switches with three adapters each.
@@ -222,8 +235,8 @@ def sixes(plan: Callable[..., Ended]) -> Iterator[Row]:
     # Of 30 packets between different adapters 12 take two wires, and 18 three: nine each way between the switches.
     head = audits.counted(64, 36) + "hops max 3 mean 2.60\nload max 9 mean 9.00\n"
     yield "30 packets without a level", tables, "lanes %\n", "", audits.found(
-        head + without_level(*lacking[:20]) + "more no-level 10\n" + NO_LOOPS
+        head + without_level(*lacking[:20]) + "more no-level 10\n" + NO_LOOPS, "no-level"
     )
     yield "all packets without a level", tables, "lanes %\n", "--all", audits.found(
-        head + without_level(*lacking) + NO_LOOPS
+        head + without_level(*lacking) + NO_LOOPS, "no-level"
     )

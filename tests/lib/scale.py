@@ -324,8 +324,8 @@ class Tree:
         pairs = adapters * (adapters - 1)
         lines = f"hops max {most} mean {hundredths(100 * sums // pairs)}\n"
         lines += f"load max {max(loads)} mean {hundredths(100 * sum(loads) // len(loads))}\n"
-        return sums, sum(loads), (audits.counted(count**2, adapters**2) + lines + "credit loop none\n").encode()
-
+        text = audits.counted(count**2, adapters**2) + lines + "credit loop none\n"
+        return sums, sum(loads), audits.sound(text).printed
 
     def loads(self) -> dict[tuple[int, int], int]:
         """Returns the load of each channel, by the GUID and the port that it leaves by, for adapters of one port under

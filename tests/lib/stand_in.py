@@ -58,6 +58,7 @@ def main(words: list[str]) -> int:
         end, _, lid = options.way.partition(",")
         print(subnet.way_line(end_in(end), int(lid)), end="")
     _, pairs, _, arrive = lines[0].split(" ")
+    print("passes yes" if pairs == arrive else "passes no: pairs")
     return 0 if pairs == arrive else 1
 
 

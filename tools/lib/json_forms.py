@@ -15,6 +15,8 @@ RATE = r"\d+x [A-Z]+ [0-9.]+ Gb/s"
 KINDS = ("lost", "misdelivered", "round", "unowned", "twice", "unknown", "tableless", "unusable", "lidless", "unjoined")
 MISSED = ("above-top", "no-entry", "no-port", "no-link", "foreign", "misdelivered", "round")
 LOSSES = "above top|no entry|no such port|no link"
+# What the last line of an audit says that fails, in its order.
+FAILS = ("pairs", "tableless", "unusable", "lidless", "load", "no-level", "dropped", "credit loop")
 # The head of the line of a packet's way: its sender, its LID and its channels.
 WAY = rf"way {PORT} {NUMBER}((?: [0-9a-f]{{16}}/[0-9]{{1,3}})*)"
 # The line of a credit loop, with the method that takes it.
@@ -150,10 +152,12 @@ class AuditRead(Rules):
         (rf"no-level {PORT} {NUMBER}", "unleveled"),
         (rf"(more no-level) {NUMBER}", "count"),
         (rf"(answers )?dropped {NUMBER} at {GUID} {NUMBER} {NUMBER} level {NUMBER}", "drop"),
+        (rf"passes (?:yes|no: ((?:{'|'.join(FAILS)})(?:, (?:{'|'.join(FAILS)}))*))", "verdict"),
     )
 
     def __init__(self) -> None:
-        self.told, self.counts, self.spreads, self.cycle = {}, {"disputed": 0, "more no-level": 0}, {}, None
+        self.fails, self.cycle = None, None
+        self.told, self.counts, self.spreads = {}, {"disputed": 0, "more no-level": 0}, {}
         self.no_level, self.drops, self.lane_loops = [], {}, {}
         self.found, self.others = {kind: [] for kind in KINDS}, {}
         self.loads, self.way = {}, None
@@ -224,20 +228,18 @@ class AuditRead(Rules):
     def lacks(self) -> bool:
         parts = {"", "between_adapters", "with_a_switch", "missed"}
         by_lane = self.no_level or self.drops or self.lane_loops.get(False)
-        is_cut = self.cycle is None or bool(by_lane) and True not in self.lane_loops
+        is_cut = None in (self.fails, self.cycle) or bool(by_lane) and True not in self.lane_loops
         return is_cut or set(self.told) != parts or set(self.spreads) != {"hops", "load"}
 
+    def verdict(self, fails: str | None) -> None:
+        self.fails = fails.split(", ") if fails else []
+
     def passes(self) -> bool:
-        """Returns whether the tables pass. Without end ports there are neither pairs nor ports without a
-        LID."""
-        all_pairs, found = self.told[""], self.found
-        arrive = all_pairs["pairs"] == all_pairs["arrive"] and not self.cycle
-        arrive = arrive and not self.no_level and False not in self.drops
-        have_tables = not found["tableless"] or not all_pairs["pairs"]
-        return arrive and have_tables and not found["unusable"] and not found["lidless"]
+        """Returns whether the audit ended with status 0, by its last line."""
+        return not self.fails
 
     def value_of_text(self) -> dict[str, Any]:
-        told = {"passes": self.passes()} | self.told[""]
+        told = {"passes": self.passes(), "fails": self.fails} | self.told[""]
         told |= {name: self.told[name] for name in ("between_adapters", "with_a_switch", "missed")}
         told |= self.found | {"more": self.others, "disputed": self.counts["disputed"]} | self.spreads
         told |= {"credit_loop": self.cycle, "lanes": self.lanes()}

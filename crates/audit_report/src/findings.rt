@@ -6,9 +6,8 @@ ghost use Rattle.audit_counts.specs.Ways.{AreKnownToArrive, AreWayFigures, loads
 ghost use Rattle.audit_counts.specs.Packets.{packets_of};
 ghost use Rattle.audit_counts.specs.PacketTally.{IsTally};
 ghost use Rattle.audit_counts.specs.Unmatched.{IsUnmatched};
-ghost use Rattle.audit_report.specs.Passing.{CanRise, DeliversWithin, EachArrives, EachHasTables, EachHoldsLid};
-ghost use Rattle.audit_report.specs.Passing.{EachNodeIsKnown, IsCycle, IsFound};
-ghost use Rattle.audit_report.specs.Passing.{IsSound, IsWholeFor, Passes, PassesWithin, is_within};
+ghost use Rattle.audit_report.specs.Passing.{CanRise, EachArrives, EachHasTables, EachHoldsLid, EachNodeIsKnown};
+ghost use Rattle.audit_report.specs.Passing.{IsCycle, IsFound, is_within};
 
 use audit_channels::{ChannelOrder, channel_order};
 use audit_counts::{
@@ -90,48 +89,24 @@ impl<'a> Audit<'a> {
         })
     }
 
-    /// Returns whether the tables pass and, if there is a `bound`, no channel has a greater load. The load of a
-    /// channel counts the delivered packets that take it, one from each adapter port to each LID of another adapter
-    /// port.
-    pub fn passes_within(&self, bound: Option<u64>) -> bool
-        ensures { IsTrue result ↔ PassesWithin bound (cells_of self.now.facts) self.now.held }
-    {
-        self.passes() && self.is_within(bound)
-    }
-
     /// Returns whether the greatest load of a channel is at most `bound`. Returns true if there is no bound or no
-    /// channel.
-    fn is_within(&self, bound: Option<u64>) -> bool
+    /// channel. The load of a channel counts the delivered packets that take it, one from each adapter port to each LID
+    /// of another adapter port.
+    pub fn is_within(&self, bound: Option<u64>) -> bool
         ensures { result ≡ is_within bound (figures_of (loads_of (cells_of self.now.facts) self.now.held)) }
     {
         is_within(bound, &self.findings.ways.load)
     }
 
-    /// Returns whether the tables pass: they are whole for the facts, each packet arrives, and there is no credit loop.
-    pub fn passes(&self) -> bool
-        ensures { IsTrue result ↔ Passes (cells_of self.now.facts) self.now.held }
-    {
-        self.is_whole() && self.is_sound()
-    }
-
-    /// Returns whether the tables are whole for the facts. Each end port must hold a LID. Each usable switch must have
-    /// tables if there is an end port. The type of each node that the facts name must be known and, for a switch, the
-    /// table room too.
-    fn is_whole(&self) -> bool
-        ensures { IsTrue result ↔ IsWholeFor (cells_of self.now.facts) self.now.held }
-    {
-        self.has_lids() && self.has_tables() && self.has_nodes()
-    }
-
     /// Returns whether the type of each node that the facts name is known and, for a switch, the table room too.
-    fn has_nodes(&self) -> bool
+    pub fn has_nodes(&self) -> bool
         ensures { IsTrue result ↔ EachNodeIsKnown (cells_of self.now.facts) }
     {
         self.findings.unmatched.unusable.count() == 0
     }
 
     /// Returns whether each end port of the facts holds a LID.
-    fn has_lids(&self) -> bool
+    pub fn has_lids(&self) -> bool
         ensures { IsTrue result ↔ EachHoldsLid (cells_of self.now.facts) self.now.held }
     {
         self.findings.unmatched.lidless.count() == 0
@@ -139,17 +114,10 @@ impl<'a> Audit<'a> {
 
     /// Returns whether the audit finds that each usable switch of the facts has tables, or that the facts have no end
     /// port.
-    fn has_tables(&self) -> bool
+    pub fn has_tables(&self) -> bool
         ensures { IsTrue result ↔ EachHasTables (cells_of self.now.facts) self.now.held }
     {
         self.findings.unmatched.tableless.count() == 0 || self.network.sources().is_empty()
-    }
-
-    /// Returns whether each packet arrives and there is no credit loop.
-    fn is_sound(&self) -> bool
-        ensures { IsTrue result ↔ IsSound (cells_of self.now.facts) self.now.held }
-    {
-        self.all_arrive() && self.can_rise()
     }
 
     /// Returns whether channels can be numbered so that the numbers rise along the route of every packet. If so, there
@@ -160,17 +128,9 @@ impl<'a> Audit<'a> {
         self.findings.cycle.is_empty()
     }
 
-    /// Returns whether the tables are whole for the facts, each packet arrives and, if there is a `bound`, no channel
-    /// has a greater load. Credit loops do not matter.
-    pub fn delivers_within(&self, bound: Option<u64>) -> bool
-        ensures { IsTrue result ↔ DeliversWithin bound (cells_of self.now.facts) self.now.held }
-    {
-        self.is_whole() && self.all_arrive() && self.is_within(bound)
-    }
-
     /// Returns whether each packet for a held LID, sent by an end port in the component of the LID's owner, is
     /// delivered at that owner.
-    fn all_arrive(&self) -> bool
+    pub fn all_arrive(&self) -> bool
         ensures { IsTrue result ↔ EachArrives (cells_of self.now.facts) self.now.held }
     {
         self.findings.tally.all.arrived == self.findings.tally.all.sent

@@ -1,3 +1,4 @@
+pub mod Flawless
 pub mod Judged
 pub mod Leveled
 pub mod NoneMissing

@@ -18,7 +18,7 @@ use Rattle.audit_run.specs.declared.levels_missing.PacketPair.{PacketPair}
 use Rattle.audit_run.specs.LevelsMissing.{lacks_level, missing_at, missing_for, missing_levels, pair_of}
 
 -- none passes a test that each fails
-none_pass : {X : Type 0} (test : X → Bool) → ((x : X) → test x ≡ false) → (xs : List X) → filter test xs ≡ []
+pub none_pass : {X : Type 0} (test : X → Bool) → ((x : X) → test x ≡ false) → (xs : List X) → filter test xs ≡ []
 none_pass test fails [] = refl
 none_pass test fails (x ∷ xs) = ap (λ t. cond t (x ∷ filter test xs) (filter test xs)) (fails x) ∙ none_pass test fails xs
 

@@ -10,12 +10,16 @@ ghost use Rattle.audit_report.specs.AuditText.{findings_text};
 ghost use Rattle.audit_report.specs.Passing.{CanRise};
 ghost use Rattle.lanes_file.specs.Carried.{CarriesAll};
 ghost use Rattle.audit_run.specs.AuditRun.{AreFoundByLane, HasAudited, IsAuditFault, IsAudited, IsFoundByLane};
-ghost use Rattle.audit_run.specs.AuditRun.{IsFoundToPass, IsLaneOrder, loops_text, seen_of};
+ghost use Rattle.audit_run.specs.AuditRun.{IsLaneOrder, TellsFlaws, loops_text, seen_of};
+ghost use Rattle.audit_run.specs.VerdictText.{verdict_line};
 ghost use Rattle.sm_cli.specs.Asked.{texts_if};
 ghost use Rattle.sm_cli.specs.Fault.{IsOutputFault};
 
+use crate::flaw::Flaw;
+use crate::flaws::flaws_of;
 use crate::lane_findings::LaneFindings;
 use crate::levels_missing::pairs_without_level;
+use crate::verdict_text::write_verdict;
 use audit_report::{Appendix, Audit, most_lines, write_findings, write_loop};
 use byte_io::{Sink, Source, WriteFault};
 use fact_store::Refused;
@@ -50,10 +54,8 @@ pub fn run_audit<S: Source, W: Sink>(
         inputs.old inputs.new (W.has_failed sink.new)) }
     ensures nothing_written { OnErr result ((result ≡ Err Fault.Write) ⊎ (sink.new ≡ sink.old)) }
 {
-    match read_lanes_and_tables(alloc, asked.lanes, inputs) {
-        Ok(told) => answer(alloc, sink, &asked, &told),
-        Err(fault) => Err(fault),
-    }
+    let told = read_lanes_and_tables(alloc, asked.lanes, inputs)?;
+    answer(alloc, sink, &asked, &told)
 }
 
 /// Writes the audit of the tables of `told` in the subnet that its facts describe, by its lanes too if there are any,
@@ -73,19 +75,11 @@ fn answer<W: Sink>(
     ensures nothing_written { OnErr result ((result ≡ Err Fault.Write) ⊎ (sink.new ≡ sink.old)) }
 {
     let most = most_lines(asked.all);
-    let Ok(subnet) = Subnet::of(alloc, &told.read.store) else {
-        return Err(Fault::Memory);
-    };
-    let Ok(audit) = Audit::of(alloc, most, &subnet, &told.read.held) else {
-        return Err(Fault::Memory);
-    };
-    let Ok(found) = found_by_lane(alloc, most, &audit, &told.lanes) else {
-        return Err(Fault::Memory);
-    };
-    let Ok(appendix) = Appendix::of(alloc, asked, audit.network()) else {
-        return Err(Fault::Memory);
-    };
-    tell(sink, asked, &audit, &found, &appendix)
+    let subnet = Subnet::of(alloc, &told.read.store)?;
+    let audit = Audit::of(alloc, most, &subnet, &told.read.held)?;
+    let found = found_by_lane(alloc, most, &audit, &told.lanes)?;
+    let appendix = Appendix::of(alloc, asked, audit.network())?;
+    tell(alloc, sink, asked, &audit, &found, &appendix)
 }
 
 /// Finds what `lanes`, if there are any, do with the packets of `audit`. Keeps the first `most` packets without a
@@ -159,10 +153,11 @@ fn nothing_found(alloc: Global) -> LaneOrder
     }
 }
 
-/// Writes `audit`, what was `found` by lane and the lines of `appendix`, which must be those that `asked` asks for, and
-/// flushes. Returns whether this says that the tables pass and, if there is an `asked.max_load`, no channel has a
-/// greater load. If the fault is not `Write`, nothing was written.
+/// Finds the flaws by `audit` and what was `found` by lane. Writes both, the lines of `appendix`, which must be those that
+/// `asked` asks for, and the line of the flaws, and flushes. Returns whether there are no flaws. If the fault is not
+/// `Write`, nothing was written.
 fn tell<W: Sink>(
+    alloc: Global,
     sink: &mut W,
     asked: &AuditAsked,
     audit: &Audit,
@@ -171,49 +166,65 @@ fn tell<W: Sink>(
 ) -> Result<bool, Fault>
     requires { shown (cells_of audit.now.facts) audit.now.held appendix.now
         ≡ appendix_text asked.now (cells_of audit.now.facts) audit.now.held }
-    ensures told { IfOk result (λ passed.
-        Appends (W.written sink.old) (W.written sink.new)
+    ensures told { IfOk result (TellsFlaws asked.now.max_load audit.now.facts audit.now.held found.now
+        (Appends (W.written sink.old) (W.written sink.new))
         (findings_text audit.now.most (cells_of audit.now.facts) audit.now.held
         ++ loops_text (cells_of audit.now.facts) audit.now.cycle found.now
-        ++ appendix_text asked.now (cells_of audit.now.facts) audit.now.held)
-        × (IsTrue passed ↔ IsFoundToPass asked.now.max_load audit.now.facts audit.now.held found.now)) }
+        ++ appendix_text asked.now (cells_of audit.now.facts) audit.now.held)) }
     ensures flushed { OnOk result (IsTrue (W.is_flushed sink.new)) }
     ensures sink_works { OnOk result (W.has_failed sink.new ≡ false) }
     ensures refused { IfErr result (IsOutputFault (W.has_failed sink.new)) }
     ensures nothing_written { OnErr result ((result ≡ Err Fault.Write) ⊎ (sink.new ≡ sink.old)) }
 {
-    let passed = passes(asked.max_load, audit, found);
-    write_all(sink, audit, found, appendix)?;
-    Ok(passed)
+    let flaws = flaws_of(alloc, asked.max_load, audit, found)?;
+    tell_flaws(sink, asked, audit, found, appendix, &flaws)
 }
 
-/// Returns whether `audit` and what was `found` by lane say that the tables pass and, if there is a `bound`, no channel
-/// has a greater load.
-fn passes(bound: Option<u64>, audit: &Audit, found: &Option<LaneFindings>) -> bool
-    ensures { IsTrue result ↔ IsFoundToPass bound audit.now.facts audit.now.held found.now }
+/// Writes `audit`, what was `found` by lane, the lines of `appendix`, which must be those that `asked` asks for, and the
+/// line of `flaws`, and flushes. Returns whether there are no flaws. If the fault is not `Write`, nothing was written.
+fn tell_flaws<W: Sink>(
+    sink: &mut W,
+    asked: &AuditAsked,
+    audit: &Audit,
+    found: &Option<LaneFindings>,
+    appendix: &Appendix,
+    flaws: &[Flaw],
+) -> Result<bool, Fault>
+    requires { shown (cells_of audit.now.facts) audit.now.held appendix.now
+        ≡ appendix_text asked.now (cells_of audit.now.facts) audit.now.held }
+    ensures told { IfOk result (λ passed.
+        Appends (W.written sink.old) (W.written sink.new)
+        (findings_text audit.now.most (cells_of audit.now.facts) audit.now.held
+        ++ loops_text (cells_of audit.now.facts) audit.now.cycle found.now
+        ++ appendix_text asked.now (cells_of audit.now.facts) audit.now.held ++ verdict_line flaws.now)
+        × (IsTrue passed ↔ (flaws.now ≡ []))) }
+    ensures flushed { OnOk result (IsTrue (W.is_flushed sink.new)) }
+    ensures sink_works { OnOk result (W.has_failed sink.new ≡ false) }
+    ensures refused { IfErr result (IsOutputFault (W.has_failed sink.new)) }
+    ensures nothing_written { OnErr result ((result ≡ Err Fault.Write) ⊎ (sink.new ≡ sink.old)) }
 {
-    match found {
-        None => audit.passes_within(bound),
-        Some(found) => audit.delivers_within(bound) && found.is_sound(),
-    }
+    write_all(sink, audit, found, appendix, flaws)?;
+    Ok(flaws.is_empty())
 }
 
-/// Writes `audit`, what was `found` by lane and the lines of `appendix`, and flushes.
+/// Writes `audit`, what was `found` by lane, the lines of `appendix` and the line of `flaws`, and flushes.
 fn write_all<W: Sink>(
     sink: &mut W,
     audit: &Audit,
     found: &Option<LaneFindings>,
     appendix: &Appendix,
+    flaws: &[Flaw],
 ) -> Result<(), WriteFault>
     ensures writes { Writes W.written W.has_failed result sink.old sink.new
         (findings_text audit.now.most (cells_of audit.now.facts) audit.now.held
         ++ loops_text (cells_of audit.now.facts) audit.now.cycle found.now
-        ++ shown (cells_of audit.now.facts) audit.now.held appendix.now) }
+        ++ shown (cells_of audit.now.facts) audit.now.held appendix.now ++ verdict_line flaws.now) }
     ensures flushed { OnOk result (IsTrue (W.is_flushed sink.new)) }
 {
     write_findings(sink, audit)?;
     write_loops(sink, audit, found)?;
     appendix.write(sink, audit.network())?;
+    write_verdict(sink, flaws)?;
     sink.flush()
 }
 

@@ -1,9 +1,8 @@
 //! The findings by lane, and their text.
-ghost use Rattle.std.specs.Prelude.{◌↔◌, IsTrue};
+ghost use Rattle.std.specs.Prelude.{◌≡◌, ◌↔◌, [], IsTrue, None};
 ghost use Rattle.fact_store.specs.View.{cells_of};
 ghost use Rattle.byte_io.specs.WritesPart.{WritesPart};
 ghost use Rattle.audit_run.specs.LaneText.{lanes_text};
-ghost use Rattle.audit_run.specs.AuditRun.{IsSoundByLane};
 
 use crate::lane_text::{write_missing, write_order};
 use crate::levels_missing::PacketPair;
@@ -24,12 +23,25 @@ pub(crate) struct LaneFindings {
 }
 
 impl LaneFindings {
-    /// Returns whether nothing wrong was found without answers: no packet between adapter ports lacks a service level,
-    /// no packet is dropped for want of a lane, and there is no credit loop.
-    pub fn is_sound(&self) -> bool
-        ensures { IsTrue result ↔ IsSoundByLane self.now }
+    /// Returns whether each packet between adapter ports has a service level.
+    pub fn is_leveled(&self) -> bool
+        ensures { IsTrue result ↔ (self.now.missing.count ≡ 0) }
     {
-        self.missing.count() == 0 && self.order.dropped.is_none() && self.order.cycle.is_empty()
+        self.missing.count() == 0
+    }
+
+    /// Returns whether no packet is dropped for want of a lane, without answers.
+    pub fn is_carried(&self) -> bool
+        ensures { IsTrue result ↔ (self.now.order.dropped ≡ None) }
+    {
+        self.order.dropped.is_none()
+    }
+
+    /// Returns whether there is no credit loop by lane, without answers.
+    pub fn can_rise(&self) -> bool
+        ensures { IsTrue result ↔ (self.now.order.cycle.items ≡ []) }
+    {
+        self.order.cycle.is_empty()
     }
 
     /// Writes the first packets without a service level, and how many more there are. Then writes a dropped packet, if

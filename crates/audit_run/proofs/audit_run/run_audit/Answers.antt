@@ -3,12 +3,12 @@ use Rattle.std.proofs.Common.{inr}
 use Rattle.std.proofs.lemmas.Result.{IfErr-weaker, IfOk-weaker}
 use Rattle.audit_run.proofs.audit_run.run_audit.Goals as goal
 
-pub returns-in-Ok-clause-done : goal.returns-in-Ok-clause-done
-returns-in-Ok-clause-done g c =
-    IfOk-weaker c.answer.result _ _ (λ passed audited. record { told = c.in-Ok.told; read = c.in-Ok.ensures.read; audited = audited })
+pub returns-clause-done : goal.returns-clause-done
+returns-clause-done g c =
+    IfOk-weaker c.answer.result _ _ (λ passed audited. record { told = c.in_ok-told.told; read = c.in_ok-told.ensures.read; audited = audited })
     c.answer.ensures.audited
 
-pub returns-in-Ok-clause-refused : goal.returns-in-Ok-clause-refused
-returns-in-Ok-clause-refused g c =
-    IfErr-weaker c.answer.result _ _ (λ fault why. inr (record { told = c.in-Ok.told; read = c.in-Ok.ensures.read; why = why }))
+pub returns-clause-refused : goal.returns-clause-refused
+returns-clause-refused g c =
+    IfErr-weaker c.answer.result _ _ (λ fault why. inr (record { told = c.in_ok-told.told; read = c.in_ok-told.ensures.read; why = why }))
     c.answer.ensures.refused

@@ -1,16 +1,16 @@
--- What was written, with the lines that are asked for.
-use Rattle.std.proofs.Common.{◌++◌, ℕ, List, subst}
-use Rattle.std.specs.Io.KnownBytes.{Appends}
-use Rattle.fact_store.specs.View.{cells_of}
-use Rattle.audit_report.specs.AuditText.{findings_text}
-use Rattle.audit_run.specs.AuditRun.{loops_text}
+-- The flaws that were found are told.
+use Rattle.std.proofs.Common.{sym, subst}
+use Rattle.std.proofs.lemmas.Result.{IfOk-weaker}
+use Rattle.audit_run.specs.AuditRun.{AreFlaws, IsFoundFree}
 use Rattle.audit_run.proofs.audit_run.tell.Goals as goal
 
 pub returns-clause-told : goal.returns-clause-told
 returns-clause-told g c =
     let a = c.args in
-    let audit = a.audit.now in (
-      subst (λ (more : List ℕ). Appends (g.W.Sink.written a.sink.now) (g.W.Sink.written c.write_all.new.sink)
-          ((findings_text audit.most (cells_of audit.facts) audit.held ++ loops_text (cells_of audit.facts) audit.cycle a.found.now) ++ more)) c.requires c.in_ok-write_all.ensures.writes.ok,
-      c.passes-passed.ensures,
-    )
+    let audit = a.audit.now in
+    IfOk-weaker c.tell_flaws.result _ _ (λ passed says. record {
+      flaws = c.deref.result.now;
+      are = subst (AreFlaws (IsFoundFree a.asked.now.max_load audit.facts audit.held a.found.now)) (sym c.deref.ensures.value) c.in_ok-flaws.ensures;
+      printed = says.0;
+      flawless = says.1;
+    }) c.tell_flaws.ensures.told
