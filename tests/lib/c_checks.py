@@ -10,6 +10,7 @@ import shutil
 import subprocess
 
 import growth
+import key_checks
 import paths
 import scale
 from tool_room import Room
@@ -20,6 +21,12 @@ SANDBOX = (
     "DeviceAllow=char-infiniband_mad rw", "RestrictAddressFamilies=AF_UNIX", "MemoryDenyWriteExecute=yes",
     "SystemCallFilter=@system-service", "RestrictNamespaces=yes", "ProtectKernelTunables=yes",
 )
+
+
+UNITS = "ibsm-seat.service", "ibsm-seat@.service", "ibsm-round.service", "ibsm-round@.service"
+# What a unit for one of several ports has otherwise: its files, its port, and that it is not in OpenSM's place.
+OF_ONE = r"#|ConditionPathExists=|Description=|EnvironmentFile=|(Runtime|State)Directory=|ExecStart=|Conflicts=opensm"
+BEFORE = "Before=network.target network-online.target remote-fs-pre.target"
 
 
 def built(room: Room) -> None:
@@ -50,8 +57,13 @@ def built(room: Room) -> None:
 
 def units(room: Room) -> None:
     """Checks the sandbox of units, by systemd too if it is there."""
-    for name in "ibsm-seat.service", "ibsm-round.service":
+    for name in UNITS:
         text = (paths.TOOLS / name).read_text()
+        plain = (paths.TOOLS / name.replace("@", "")).read_text()
+        apart = set(text.splitlines()) ^ set(plain.splitlines())
+        room.check(all(re.match(OF_ONE, line) for line in apart), f"{name} differs from the plain one in {apart}")
+        told = [f"\n{line}\n" in text for line in ("Type=notify", "WatchdogSec=30", BEFORE)]
+        room.check(told == [name.startswith("ibsm-seat")] * 3, f"{name} is told of, and ordered: {told}")
         for line in SANDBOX:
             room.check(f"\n{line}\n" in text, f"{name} has {line}")
         bound = re.findall(r"^CapabilityBoundingSet=(.*)$", text, re.M)
@@ -95,5 +107,7 @@ def counters(room: Room) -> None:
 def of_c(room: Room) -> None:
     """Checks tools in C, their units, and what counts costs."""
     built(room)
+    if (room.path / "hard/seat").exists():
+        key_checks.files(room, room.path / "hard")
     units(room)
     counters(room)

@@ -27,8 +27,8 @@ def send(bench: Bench, *words: object, **how: Any) -> int:
 
 def one_round(bench: Bench, *words: object) -> tuple[int, dict[str, Any]]:
     """Runs a round in the folder that OpenSM reads. Returns its exit status and what status.json says."""
-    programs = ["--ibsm", bench.program, "--record", bench.room / "out/record", "--send", bench.room / "out/send"]
-    status = bench.run(sys.executable, paths.TOOLS / "round", "d", *RULE, *programs, *words, simulated=True)
+    words = [*RULE, *bench.programs(), *words]
+    status = bench.run(sys.executable, paths.TOOLS / "round", "d", *words, simulated=True)
     return status, json.loads((bench.path / "d/status.json").read_text())
 
 
@@ -85,7 +85,7 @@ def first_round(bench: Bench) -> None:
         status, told = one_round(bench, "--direct", "--settle", 0)
         bench.check(status == 0 and told["step"] == "audit", f"from nothing: {told['line']}, {told['steps']}")
     bench.check(bench.same("d/after.plan", "d/after.held") and told["steps"] == [], "the fabric holds the plan")
-    status, told = one_round(bench, "--direct", "--at-once", "--lmc", 1, "--move-lids")
+    status, told = one_round(bench, "--direct", "--at-once", "--lmc", 1, "--accept", "lids")
     bench.check(
         status == 0 and bench.same("d/after.plan", "d/after.held"), f"with two LIDs for each port: {told['line']}"
     )
@@ -172,10 +172,9 @@ def seen_on_a_terminal(bench: Bench) -> None:
 def healed(bench: Bench) -> None:
     """Checks that --watch heals the loss of a cable without help, and also its return."""
     send(bench, "-q", "min.plan")
-    programs = ["--ibsm", bench.program, "--record", bench.room / "out/record", "--send", bench.room / "out/send"]
     words = [
-        sys.executable, paths.TOOLS / "round", "d", *RULE, *programs, "--direct", "--busier", "--settle", "0.1",
-        "--watch", "0.2",
+        sys.executable, paths.TOOLS / "round", "d", *RULE, *bench.programs(), "--direct", "--accept", "busier",
+        "--settle", "0.1", "--watch", "0.2",
     ]
     process = subprocess.Popen(
         [str(word) for word in words],
@@ -247,7 +246,7 @@ def to_a_plan(bench: Bench) -> None:
         bench.texts("min")
         status, told = one_round(bench, "--direct", "--look")
         bench.check(status == 0 and told["counts"]["entries"] > 0, f"from minhop: {told['verdict']}")
-        status, told = one_round(bench, "--direct", "--at-once", "--busier")
+        status, told = one_round(bench, "--direct", "--at-once", "--accept", "busier")
         bench.check(status == 0 and told["step"] == "audit", f"round --direct: {told['verdict']}, {told['steps']}")
         bench.check(
             bench.same("d/after.held", "d/after.plan") and bench.same("d/after.held", "min.plan"),
@@ -270,19 +269,19 @@ def to_a_plan(bench: Bench) -> None:
         )
         send(bench, "-q", "min.held")
         bench.check(bench.sweep_again(opensm), "other tables are sent, and OpenSM sweeps")
-        status, told = one_round(bench, "--opensm", opensm.pid, "--log", "osm.log", "--at-once", "--busier")
+        status, told = one_round(bench, "--opensm", opensm.pid, "--log", "osm.log", "--at-once", "--accept", "busier")
         bench.check(
             status == 1 and told["step"] == "holds", f"by OpenSM a round does not mend it: {told['verdict'][:60]}"
         )
-        status, told = one_round(bench, "--direct", "--at-once", "--busier")
+        status, told = one_round(bench, "--direct", "--at-once", "--accept", "busier")
         bench.check(status == 0, f"by Sets one does: {told['verdict']}")
 
 
 def silent_cable(bench: Bench) -> None:
-    """Checks a cable that loses some or all packets, and a silent adapter: with --silent a round goes on without
-    them."""
+    """Checks a cable that loses some or all packets, and a silent adapter: with --accept silent a round goes on
+    without them."""
     send(bench, "-q", "min.plan")
-    words = ["--direct", "--busier", "--settle", 0]
+    words = ["--direct", "--accept", "busier", "--settle", 0]
     status, told = one_round(bench, *words)
     bench.check(status == 0, f"before: {told['verdict']}")
     (name, port), (far, back) = next(
@@ -297,9 +296,9 @@ def silent_cable(bench: Bench) -> None:
         bench.check(
             percent < 100 or status == 1 and told["step"] == "record", f"{percent} % are lost: {told['verdict'][:60]}"
         )
-        status, told = one_round(bench, *words, "--silent")
+        status, told = one_round(bench, *words, "--accept", "silent")
         silent = set(told["silent"]["ports"]) if told["silent"] else set()
-        bench.check(status == 0 and silent == (ends if percent == 100 else set()), f"--silent: {told['line']}")
+        bench.check(status == 0 and silent == (ends if percent == 100 else set()), f"--accept silent: {told['line']}")
     bench.run(bench.program, "audit", "d/after.held", "d/after.reports")
     bench.check(
         bench.printed.startswith("pairs ") and len(set(bench.printed.split()[1:4:2])) == 1, "and every packet arrives"
@@ -313,7 +312,7 @@ def silent_cable(bench: Bench) -> None:
     lid = re.search(rf"^lid (\d+) {named}$", (bench.path / "d/after.held").read_text(), re.M)[1]
     entries = (bench.path / "d/after.held").read_text()
     bench.tell(f'Error "{near[0]}"[{near[1]}] 100')
-    status, told = one_round(bench, *words, "--silent")
+    status, told = one_round(bench, *words, "--accept", "silent")
     kept = told["silent"]["kept"] if told["silent"] else None
     bench.check(status == 0 and kept == [{"end": named, "lid": int(lid)}], f"an adapter is silent: {told['line']}")
     bench.check((bench.path / "d/after.held").read_text() == entries, "its LID and entries stay")

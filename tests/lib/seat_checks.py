@@ -18,6 +18,7 @@ from typing import Any
 import live_checks
 import paths
 import sample_fabrics
+import status_checks
 from bench import RULE, Bench
 from sample_fabrics import Port
 
@@ -87,12 +88,13 @@ def seated(
     program: pathlib.Path | None = None,
     packets: str | None = None,
     bend: str | None = None,
+    variables: dict[str, str] | None = None,
 ) -> Iterator[Seat]:
     """Runs a seat at an adapter, and ends it by its id. `packets` names a file that keeps its packets. `bend` says how
-    to bend them."""
+    to bend them. `variables` are added to its environment."""
     bench.seats += 1
     log, status = (bench.path / f"seat{bench.seats}.{kind}" for kind in ("log", "json"))
-    environment = bench.environment() | {"SIM_HOST": host}
+    environment = bench.environment() | {"SIM_HOST": host} | (variables or {})
     if packets or bend:
         environment["LD_PRELOAD"] = f"{bench.room}/out/bent_replies.so:{bench.library}"
         environment |= {"PACKETS": str(bench.path / packets)} if packets else {"BEND": bend}
@@ -262,6 +264,7 @@ def brought_up(bench: Bench) -> None:
         bench.check(told["writing"]["count"] == before == 1, "whose plan is what was written, and nothing is written")
         ways(bench)
         seen_by_others(bench)
+        seen_by_prometheus(bench, seat)
         begun = seat.status()["sweep"]["count"]
         os.kill(seat.children()[0], signal.SIGKILL)
         bench.check(
@@ -333,6 +336,18 @@ def seen_by_others(bench: Bench) -> None:
     bench.check(
         found == {lid: end.split("/")[0] for lid, end in owners.items()},
         f"smpquery: {len(found)} LIDs with their owners",
+    )
+
+
+def seen_by_prometheus(bench: Bench, seat: Seat) -> None:
+    """Checks that the status is taken by tools/json, and what it prints of it."""
+    status = bench.run(sys.executable, paths.TOOLS / "json", "--prometheus", seat.status_file)
+    own = f'port="{seat.status()["port"]}",guid="{port_guid(bench, "H1"):016x}"'
+    wanted = [f'state{{{own},state="master"}} 1', f"lids{{{own}}} {len(bench.fabric.nodes)}", f"sweep_whole{{{own}}} 1"]
+    bench.check(
+        status == 0 and status_checks.is_exposition(bench.printed)
+        and all(f"\nibsm_seat_{line}\n" in bench.printed for line in wanted),
+        f"its status as Prometheus reads it: {bench.printed.count('TYPE')} series{bench.said}",
     )
 
 
@@ -470,6 +485,39 @@ def bent(bench: Bench) -> None:
             told["packets"]["refused"] > 0 and "Get 0x0015 modifier 2" in told["silent"][0],
             f"it is named: {told['silent'][:1]}",
         )
+
+
+def hosts_refused(bench: Bench) -> None:
+    """Checks that a host that asks the master for a subnet administration is refused at once, and that a standby is
+    silent, since the host tries again. Both seats live on."""
+    timing = ["-s", 0, "-m", 200, "-r", 1]
+    with seated(bench, "H1", "-p", 5, *timing) as seat, seated(bench, "H2", "-p", 3, *timing) as other:
+        is_up = seat.settles() and until(lambda: other.state() == "standby") is not None
+        bench.check(is_up, "a seat is master, and another one stands by")
+        text = held(bench, "asked", "H3")
+        asks = (["PR", "--src-to-dst", "1:2"], ["NR"], ["PIR"], ["-g"], ["-m"], ["-c"], ["SR"], ["-s"])
+        for words in asks:
+            began = time.monotonic()
+            status = bench.run("saquery", *words, simulated=True, seat="H3")
+            took = time.monotonic() - began
+            bench.check(
+                status == 5 and "Query result returned 0x000c" in bench.said and took < 1,
+                f"saquery {' '.join(words)} is refused after {took:.2f} s: {bench.said.strip()}",
+            )
+        status = bench.record("-g", 1, "-n", 1, "-L", "asked.lanes", "-S", "asked.reports", seat="H3")
+        bench.check(status == 1 and "gives no paths" in bench.said, f"record --levels asks once: {bench.said.strip()}")
+        lid_of = {guid: int(lid) for lid, guid in re.findall(r"^lid (\d+) (\w+)/1$", text, re.M)}
+        third, second = (lid_of[f"{bench.fabric.guid(host):016x}"] for host in ("H3", "H2"))
+        bench.run("ibportstate", third, 1, "smlid", second, simulated=True, seat="H4")
+        status = bench.run("saquery", "-t", 300, "NR", simulated=True, seat="H3")
+        bench.check(status != 0 and "0x000c" not in bench.said, f"a standby is silent: {bench.said.strip()}")
+        seat.process.send_signal(signal.SIGHUP)
+        bench.check(until(lambda: seat.status()["sweep"]["count"] > 2) is not None, "the master sweeps still")
+        until(lambda: seat.settles(), 10)
+        counts = [it.status()["packets"]["hosts_refused"] for it in (seat, other)]
+        bench.check(counts == [len(asks) + 1, 0], f"queries that were refused: {counts}")
+        bench.check(seat.count("is refused: LID") == counts[0], "each is in the log")
+        bench.check(seat.end() == 0 and other.end() == 0, "both end by SIGTERM: status 0")
 
 
 def images(bench: Bench) -> None:
@@ -962,6 +1010,7 @@ SEATED = (
     ("another triangle", sample_fabrics.triangle, (faithful, bent)),
     ("a third triangle", sample_fabrics.triangle, (images,)),
     ("a ring of 6 switches", lambda: sample_fabrics.ring(6), (by_options,)),
+    ("a torus of 9 switches with hosts that ask", lambda: sample_fabrics.torus(3, 3), (hosts_refused,)),
     (
         "a torus of 9 switches",
         lambda: sample_fabrics.torus(3, 3),

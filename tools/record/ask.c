@@ -91,7 +91,7 @@ static void send_again(struct slot *slot)
 	put(packet + 8, 8, slot->number);	/* the kernel keeps the low half */
 	put(packet + 16, 2, slot->request.attribute);
 	put(packet + 20, 4, slot->request.modifier);
-	put(packet + 24, 8, options.m_key);
+	put(packet + 24, 8, key_of_path(slot->request.path.port + 1, slot->request.path.hops));
 	memset(packet + 32, 0xff, 4);
 	if (slot->request.value)
 		memcpy(packet + ATTRIBUTE, slot->request.value, BLOCK);
@@ -183,7 +183,8 @@ void ask_all(void (*take)(const struct request *request, uint8_t *reply))
 			slot->tries = 0;
 			send_again(slot);
 		}
-		receive();
+		if (out)	/* nothing is, if asking was stopped meanwhile */
+			receive();
 		while (out && slots[first].state != WAITS) {
 			struct slot *slot = &slots[first];
 

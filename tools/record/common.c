@@ -4,6 +4,7 @@
 #include <stdarg.h>
 #include <stdlib.h>
 #include <string.h>
+#include <sys/stat.h>
 #include <time.h>
 #include <unistd.h>
 #include "record.h"
@@ -31,13 +32,36 @@ void clear_line(void)
 	is_shown = 0;
 }
 
+/* Returns whether standard error goes to the journal of systemd, which then takes the level of a line from its
+   beginning. */
+static int is_in_journal(void)
+{
+	static int known = -1;
+	const char *stream = getenv("JOURNAL_STREAM");
+	unsigned long long device, file;
+	struct stat own;
+
+	if (known < 0)
+		known = stream && sscanf(stream, "%llu:%llu", &device, &file) == 2 && !fstat(STDERR_FILENO, &own) &&
+			own.st_dev == device && own.st_ino == file;
+	return known;
+}
+
+/* Begins a line. */
+static void begin_line(enum level level)
+{
+	clear_line();
+	if (is_in_journal())
+		fprintf(stderr, "<%d>", level);
+	fprintf(stderr, "%s: ", tool);
+}
+
 /* Ends by _exit: in exit, a simulator's library in place of libibumad waits forever while a port is open. */
 void end(int status, const char *format, ...)
 {
 	va_list values;
 
-	clear_line();
-	fprintf(stderr, "%s: ", tool);
+	begin_line(ERROR);
 	va_start(values, format);
 	vfprintf(stderr, format, values);
 	va_end(values);
@@ -46,12 +70,22 @@ void end(int status, const char *format, ...)
 	_exit(status);
 }
 
+void say_at(enum level level, const char *format, ...)
+{
+	va_list values;
+
+	begin_line(level);
+	va_start(values, format);
+	vfprintf(stderr, format, values);
+	va_end(values);
+	fprintf(stderr, "\n");
+}
+
 void say(const char *format, ...)
 {
 	va_list values;
 
-	clear_line();
-	fprintf(stderr, "%s: ", tool);
+	begin_line(INFO);
 	va_start(values, format);
 	vfprintf(stderr, format, values);
 	va_end(values);
@@ -171,6 +205,7 @@ int take_shared_option(int letter, const char *text)
 	case 't': options.timeout_ms = number_in(text, "--timeout", 1, 600000); return 1;
 	case 'r': options.tries = 1 + number_in(text, "--retries", 0, 100); return 1;
 	case 'k': options.m_key = number_in(text, "--m-key", 0, UINT64_MAX); return 1;
+	case 'K': options.m_keys = (char *) text; return 1;
 	case 'q': options.quiet = 1; return 1;
 	case 'v': options.verbose = 1; return 1;
 	default: return 0;

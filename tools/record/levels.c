@@ -11,7 +11,7 @@
 
 enum { SA_CLASS = 3, SA_VERSION = 2, GET = 1, ANSWER = 0x81, PATH_RECORD = 0x35, GRACE_MS = 2000 };
 enum { MASK_AT = 48, RECORD_AT = 56, DLID_AT = 40, SLID_AT = 42, PATHS_AT = 49, LEVEL_AT = 53 };
-enum { OF_DLID = 1 << 4, OF_SLID = 1 << 5, OF_PATHS = 1 << 12, BUSY = 1 };
+enum { OF_DLID = 1 << 4, OF_SLID = 1 << 5, OF_PATHS = 1 << 12, BUSY = 1, NOT_SUPPORTED = 0x0c };
 enum { LEVELS = 16, NONE = 255, FEW_LINES = 20, MOST_SILENT = 8 };
 #define WELL_KNOWN_KEY 0x80010000u
 
@@ -31,6 +31,7 @@ static size_t greatest, next_source;
 static uint32_t next_lid, number = 1;
 static unsigned long without, answers;
 static int is_silent;	/* MOST_SILENT queries had no answer, and none had one: no more are sent */
+static int is_unsupported;	/* nor if such queries are not supported */
 
 static uint8_t *level_of(size_t source, size_t lid)
 {
@@ -141,6 +142,7 @@ static void take_answer(int place, const uint8_t *packet)
 	}
 	counts.replies++;
 	answers++;
+	is_unsupported |= status == NOT_SUPPORTED;
 	if (status || get(record + DLID_AT, 2) != query->lid || get(record + SLID_AT, 2) != lid_at(query->source)->lid) {
 		counts.left_out++;
 		say_of_pair(query, status ? "left out: status" : "left out: it is of another path", status);
@@ -195,7 +197,7 @@ int read_levels(void)
 		end(NO_FABRIC, "cannot register for the subnet administration: %s", strerror(-agent));
 	stage = "asks for levels";
 	for (;;) {
-		while (!is_silent && out < options.outstanding && next_pair(&queries[out]))
+		while (!is_silent && !is_unsupported && out < options.outstanding && next_pair(&queries[out]))
 			send_query(&queries[out++]);
 		if (!out)
 			break;
@@ -205,6 +207,9 @@ int read_levels(void)
 	umad_unregister(opened_port(), agent);
 	if (is_silent)
 		say("the subnet administration at LID %u does not answer, so no levels are read", lid_of_manager());
+	if (is_unsupported)
+		say("the subnet administration at LID %u gives no paths, so no levels are read; a seat gives none",
+		    lid_of_manager());
 	return !without;
 }
 

@@ -28,7 +28,8 @@ static const char usage_text[] =
 "  -n, --outstanding N    requests that are out at a time, 1 to 64 (4)\n"
 "  -t, --timeout MS       what a reply may take, in milliseconds (500)\n"
 "  -r, --retries N        how often a request is sent again, 0 to 100 (3)\n"
-"  -k, --m-key KEY        management key of the subnet (0)\n"
+"  -k, --m-key KEY        management key (M_Key) of the subnet (0)\n"
+"  -K, --m-keys FILE      keys of ports, in place of that of the subnet: lines 0xGUID 0xKEY, as in OpenSM's guid2mkey\n"
 "  -T, --tables FILE      also read the forwarding tables, and write them with the LIDs in the form of a plan\n"
 "  -p, --partial          write the tables also where replies are missing, without the switches and ports that lack them\n"
 "  -N, --names FILE       also ask for names, and write them as a node name map of infiniband-diags\n"
@@ -54,8 +55,8 @@ static void on_signal(int number)
 
 static const struct option words[] = {
 	{ "ca", 1, 0, 'C' }, { "port", 1, 0, 'P' }, { "generation", 1, 0, 'g' }, { "outstanding", 1, 0, 'n' },
-	{ "timeout", 1, 0, 't' }, { "retries", 1, 0, 'r' }, { "m-key", 1, 0, 'k' }, { "tables", 1, 0, 'T' },
-	{ "names", 1, 0, 'N' }, { "after", 1, 0, 'a' }, { "partial", 0, 0, 'p' }, { "lanes", 1, 0, 'L' },
+	{ "timeout", 1, 0, 't' }, { "retries", 1, 0, 'r' }, { "m-key", 1, 0, 'k' }, { "m-keys", 1, 0, 'K' },
+	{ "tables", 1, 0, 'T' }, { "names", 1, 0, 'N' }, { "after", 1, 0, 'a' }, { "partial", 0, 0, 'p' }, { "lanes", 1, 0, 'L' },
 	{ "levels", 0, 0, 'S' }, { "adapters", 0, 0, 'A' },
 	{ "quiet", 0, 0, 'q' }, { "verbose", 0, 0, 'v' }, { "help", 0, 0, 'h' }, { "version", 0, 0, 'V' }, { 0 }
 };
@@ -96,7 +97,7 @@ static void parse(int count, char **texts)
 	int letter;
 
 	called = texts[0];
-	while ((letter = getopt_long(count, texts, "C:P:g:n:t:r:k:T:N:L:SAa:pqvhV", words, NULL)) != -1)
+	while ((letter = getopt_long(count, texts, "C:P:g:n:t:r:k:K:T:N:L:SAa:pqvhV", words, NULL)) != -1)
 		take_option(letter);
 	if (optind + 1 != count)
 		take_option('?');
@@ -108,6 +109,8 @@ static void parse(int count, char **texts)
 		end(USAGE, "--adapters goes with --levels");
 	if (options.after && options.generation)
 		end(USAGE, "--after and --generation both number the sweep");
+	if (options.m_keys)
+		read_keys(options.m_keys);
 }
 
 /* Numbers the sweep: by the option, above a file's generation, or by the clock. */

@@ -31,7 +31,7 @@ struct request {
 };
 
 struct options {
-	char *adapter, *file, *tables, *names, *lanes, *after;
+	char *adapter, *file, *tables, *names, *lanes, *after, *m_keys;
 	int port, timeout_ms, tries, outstanding, quiet, verbose, partial, levels, adapters;
 	uint32_t generation;
 	uint64_t m_key;
@@ -47,9 +47,13 @@ extern const char *tool;	/* the name under which it speaks */
 extern const char *called;	/* the first word of its command line */
 extern const char *stage;	/* what it does now, to show as progress */
 
+/* Levels of lines on standard error, as syslog has them. */
+enum level { ERROR = 3, WARNING = 4, NOTICE = 5, INFO = 6 };
+
 /* common.c: says why, removes the files that were begun, and ends. */
 void end(int status, const char *format, ...) __attribute__((noreturn, format(printf, 2, 3)));
 void say(const char *format, ...) __attribute__((format(printf, 1, 2)));
+void say_at(enum level level, const char *format, ...) __attribute__((format(printf, 2, 3)));
 void clear_line(void);
 void *more(void *old, size_t count, size_t size);
 void say_of(const struct request *request, const char *what);
@@ -61,6 +65,17 @@ void print_usage(FILE *file, const char *text);
 int take_shared_option(int letter, const char *text);
 uint64_t get(const uint8_t *bytes, int count);
 void put(uint8_t *bytes, int count, uint64_t value);
+
+/* keys.c: management keys (M_Keys). A path's ports are those that it leaves by, the first one this machine's. */
+/* Reads the keys of ports by their GUIDs, or ends. */
+void read_keys(const char *path);
+/* Notes that a path reaches the port with a GUID. */
+void note_reached(const uint8_t *port, uint8_t hops, uint64_t guid);
+/* Notes that the port that a path reaches has 2^lmc LIDs, from `first` on, or none if that is 0. */
+void note_lids(const uint8_t *port, uint8_t hops, uint16_t first, unsigned lmc);
+/* Returns the key of the port that a path or a LID was last seen to reach, or that of all if it has none of its own. */
+uint64_t key_of_path(const uint8_t *port, uint8_t hops);
+uint64_t key_of_lid(uint16_t lid);
 
 /* port.c: the port of this machine that the options name, or the first that is up. */
 struct own_port {

@@ -28,7 +28,8 @@ static const char usage_text[] =
 "  -n, --outstanding N    requests that are out at a time, 1 to 64 (4)\n"
 "  -t, --timeout MS       what a reply may take, in milliseconds (500)\n"
 "  -r, --retries N        how often a request is sent again, 0 to 100 (3)\n"
-"  -k, --m-key KEY        management key of the subnet (0)\n"
+"  -k, --m-key KEY        management key (M_Key) of the subnet (0)\n"
+"  -K, --m-keys FILE      keys of ports, in place of that of the subnet: lines 0xGUID 0xKEY, as in OpenSM's guid2mkey\n"
 "  -q, --quiet            neither progress nor a summary\n"
 "  -v, --verbose          name every request without a reply, not only the first 20\n"
 "  -h, --help             this text\n"
@@ -66,7 +67,7 @@ static void on_signal(int number)
 static const struct option words[] = {
 	{ "dry-run", 0, 0, 'd' }, { "move-lids", 0, 0, 'm' }, { "holes", 0, 0, 'H' }, { "silent", 0, 0, 's' },
 	{ "ca", 1, 0, 'C' }, { "port", 1, 0, 'P' }, { "outstanding", 1, 0, 'n' }, { "timeout", 1, 0, 't' },
-	{ "retries", 1, 0, 'r' }, { "m-key", 1, 0, 'k' },
+	{ "retries", 1, 0, 'r' }, { "m-key", 1, 0, 'k' }, { "m-keys", 1, 0, 'K' },
 	{ "quiet", 0, 0, 'q' }, { "verbose", 0, 0, 'v' }, { "help", 0, 0, 'h' }, { "version", 0, 0, 'V' }, { 0 }
 };
 
@@ -90,10 +91,12 @@ static char *parse(int count, char **texts)
 	int letter;
 
 	called = texts[0];
-	while ((letter = getopt_long(count, texts, "dmHsC:P:n:t:r:k:qvhV", words, NULL)) != -1)
+	while ((letter = getopt_long(count, texts, "dmHsC:P:n:t:r:k:K:qvhV", words, NULL)) != -1)
 		take_option(letter);
 	if (optind + 1 != count)
 		take_option('?');
+	if (options.m_keys)
+		read_keys(options.m_keys);
 	return texts[optind];
 }
 

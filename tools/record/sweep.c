@@ -218,12 +218,14 @@ static void take(const struct request *request, uint8_t *reply)
 {
 	if (!is_good(request, reply))
 		return;
-	if (request->attribute == NODE_INFO)
+	if (request->attribute == NODE_INFO) {
+		note_reached(request->path.port + 1, request->path.hops, get(reply + ATTRIBUTE + 20, 8));
 		on_node_info(request, reply + ATTRIBUTE);
-	else if (request->attribute == PORT_INFO)
+	} else if (request->attribute == PORT_INFO) {
 		on_port_info(request, reply + ATTRIBUTE);
-	else
+	} else {
 		find(request->guid)->top = get(reply + ATTRIBUTE + 6, 2);
+	}
 	seen(request, reply);
 }
 

@@ -77,14 +77,16 @@ void announce_manager(void)
 void open_seat(void)
 {
 	long methods[16 / sizeof(long)] = { 1 << GET | 1 << SET | 1 << TRAP | 1 << TRAP_REPRESS };
+	int hosts;
 
 	umad = open_own_port(&own_port);
 	fcntl(umad_get_fd(umad), F_SETFD, FD_CLOEXEC);
 	directed = umad_register(umad, DIRECTED_CLASS, 1, 0, methods);
 	routed = umad_register(umad, LID_ROUTED_CLASS, 1, 0, methods);
-	if (directed < 0 || routed < 0)
+	hosts = open_administration(umad);
+	if (directed < 0 || routed < 0 || hosts < 0)
 		end(NO_FABRIC, "cannot register as a subnet manager at %s: %s", own_port.name,
-		    strerror(directed < 0 ? -directed : -routed));
+		    strerror(directed < 0 ? -directed : routed < 0 ? -routed : -hosts));
 	/* The numbers of an earlier process are not used again soon. */
 	next_number = (uint32_t) time(NULL) << CLOCK_SHIFT | 1;
 }
@@ -94,6 +96,7 @@ void close_seat(void)
 	be_no_manager();
 	umad_unregister(umad, directed);
 	umad_unregister(umad, routed);
+	close_administration(umad);
 	umad_close_port(umad);
 }
 
@@ -135,12 +138,23 @@ static void send_out(const struct packet *packet, int timeout_ms)
 	if (fault == -ENODEV || errno == ENODEV)
 		end(NO_FABRIC, "%s is gone", own_port.name);
 	if (fault < 0 && options.verbose)
-		note("cannot send: %s", strerror(errno ? errno : -fault));
+		note(WARNING, "cannot send: %s", strerror(errno ? errno : -fault));
 }
 
 static int digit(int letter)
 {
 	return letter <= '9' ? letter - '0' : letter - 'a' + 10;
+}
+
+/* Puts the management key of the port to which a packet goes into it, if keys were given: into a request, and into a
+   TrapRepress, which agents check too. */
+static void put_key(struct packet *packet)
+{
+	uint8_t *bytes = packet->bytes;
+
+	if ((!options.m_key && !options.m_keys) || bytes[3] & RESPONSE)
+		return;
+	put(bytes + 24, 8, is_directed(bytes) ? key_of_path(bytes + 128 + 1, bytes[7]) : key_of_lid(packet->lid));
 }
 
 static void add_to_queue(const struct packet *packet)
@@ -163,10 +177,12 @@ void queue_packet(const char *hex, unsigned lid)
 
 	for (i = 0; i < PACKET; i++)
 		packet.bytes[i] = digit(hex[2 * i]) << 4 | digit(hex[2 * i + 1]);
-	if (is_answer(packet.bytes))
+	if (is_answer(packet.bytes)) {
+		put_key(&packet);
 		send_out(&packet, 0);
-	else
+	} else {
 		add_to_queue(&packet);
+	}
 }
 
 int handover_is_taken(void)
@@ -209,6 +225,7 @@ static void fill_window(void)
 		out->number = next_number++;
 		memcpy(out->tid, out->packet.bytes + 8, sizeof out->tid);
 		put(out->packet.bytes + 8, 8, out->number);	/* the kernel keeps the low half */
+		put_key(&out->packet);
 		carried.sets += out->packet.bytes[3] == SET;
 		try_out(out);
 	}
@@ -334,7 +351,7 @@ static void keep_manager(const uint8_t *packet)
 	    get(packet + 4, 2) & 0x7fff || (modifier && modifier != (uint32_t) own_port.number) ||
 	    get(packet + ATTRIBUTE + 20, 4) & IS_SM)
 		return;
-	note("the port does not say that a manager is here: it is said again");
+	note(WARNING, "the port does not say that a manager is here: it is said again");
 	announce_manager();
 }
 
@@ -370,6 +387,19 @@ static void count_port(const uint8_t *packet)
 		own_lid = lid;
 	end_ports++;
 	managed_by[get(info + 18, 2)]++;
+}
+
+/* Notes which port a request by a directed route reached, and its LIDs, for its key. */
+static void note_port(const uint8_t *request, const uint8_t *packet)
+{
+	const uint8_t *info = packet + ATTRIBUTE, *path = request + 128 + 1;
+
+	if (!is_directed(request) || get(packet + 4, 2) & 0x7fff)
+		return;
+	if (get(packet + 16, 2) == NODE_INFO)
+		note_reached(path, request[7], get(info + 20, 8));
+	if (get(packet + 16, 2) == PORT_INFO)
+		note_lids(path, request[7], get(info + 16, 2), info[34] & 7);
 }
 
 /* Returns whether an answer is to a poll: sweeps number their requests from 2^32 on, and controls have a modifier. */
@@ -417,6 +447,7 @@ static void on_answer(uint8_t *packet, unsigned lid)
 	memcpy(packet + 8, out.tid, sizeof out.tid);
 	check_own_port(packet);
 	keep_manager(packet);
+	note_port(out.packet.bytes, packet);
 	if (out.packet.bytes[3] == GET)
 		count_port(packet);
 	if (is_poll(packet))
@@ -475,7 +506,10 @@ static int receive(int wait_ms)
 	errno = 0;
 	fault = umad_recv(umad, buffer, &length, wait_ms);
 	if (fault >= 0) {
-		sort_in(umad_get_mad(buffer), ntohs(umad_get_mad_addr(buffer)->lid), umad_status(buffer));
+		if (((uint8_t *) umad_get_mad(buffer))[1] == ADMINISTRATION_CLASS)
+			refuse(umad, buffer);
+		else
+			sort_in(umad_get_mad(buffer), ntohs(umad_get_mad_addr(buffer)->lid), umad_status(buffer));
 		return 1;
 	}
 	fault = errno ? errno : -fault;

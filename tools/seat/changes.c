@@ -58,15 +58,35 @@ void read_name_map(const char *path)
 	qsort(names, name_count, sizeof *names, by_guid);
 }
 
-void print_node(char *text, size_t room, uint64_t guid)
+/* Returns the name of a node, or NULL if the map does not have it. */
+static const char *name_of(uint64_t guid)
 {
 	struct named key = { .guid = guid };
 	const struct named *found = name_count ? bsearch(&key, names, name_count, sizeof key, by_guid) : NULL;
 
-	if (found)
-		snprintf(text, room, "%s", found->name);
+	return found ? found->name : NULL;
+}
+
+void print_node(char *text, size_t room, uint64_t guid)
+{
+	const char *name = name_of(guid);
+
+	if (name)
+		snprintf(text, room, "%s", name);
 	else
 		snprintf(text, room, "%016" PRIx64, guid);
+}
+
+const char *called_as(const struct other *other)
+{
+	static char text[LONGEST_NAME + 32];
+	const char *name = name_of(strtoull(other->place, NULL, 16));
+
+	if (name)
+		snprintf(text, sizeof text, "%s (%016" PRIx64 ")", name, other->guid);
+	else
+		snprintf(text, sizeof text, "%016" PRIx64, other->guid);
+	return text;
 }
 
 static const char *next_line(const char *line)
@@ -204,5 +224,5 @@ void note_changes(const char *why, const char *old, const char *new, const char 
 	length = strlen(text);
 	snprintf(text + length, sizeof text - length, "%s%lu entries on %lu switches", length ? "; " : "", entries,
 		 switches);
-	note("%s", text);
+	note(INFO, "%s", text);
 }

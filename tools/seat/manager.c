@@ -6,6 +6,7 @@
 #include <stdarg.h>
 #include <stdlib.h>
 #include <string.h>
+#include <sys/resource.h>
 #include <sys/wait.h>
 #include <unistd.h>
 #include "seat.h"
@@ -19,6 +20,7 @@ enum { LONGEST_LINE = 600, MOST_WORDS = 16, USAGE_STATUS = 2, REFUSED_STATUS = 3
 static pid_t process;
 static int to = -1, from = -1, is_gone = 1, has_answered;
 static char *answer, *input;
+static double used_before;	/* processor time of the process before it was told the last line */
 static size_t answer_length, answer_room, input_begin, input_end, input_room;
 
 int manager_is_gone(void)
@@ -33,7 +35,15 @@ int manager_is_gone(void)
 /* Runs the program in the child, without the library loaded before libumad. */
 static void become(char **words, const int *in, const int *out)
 {
+	struct rlimit most = { (rlim_t) seat.child_mbytes << 20, (rlim_t) seat.child_mbytes << 20 };
+
 	unsetenv("LD_PRELOAD");
+	unsetenv("NOTIFY_SOCKET");
+	unsetenv("WATCHDOG_USEC");
+	if (seat.child_mbytes && setrlimit(RLIMIT_AS, &most)) {
+		fprintf(stderr, "%s: cannot limit memory: %s\n", tool, strerror(errno));
+		_exit(NOT_FOUND);
+	}
 	dup2(in[0], STDIN_FILENO);
 	dup2(out[1], STDOUT_FILENO);
 	close(in[0]);
@@ -119,7 +129,7 @@ void stop_manager(void)
 	if (WIFEXITED(status) && WEXITSTATUS(status) == NOT_FOUND)
 		end(NO_FABRIC, "there is no program %s: build it by ./ibsm, or name one by --ibsm", seat.program);
 	if (!is_ended())
-		note("the process of %s serve has ended with %s %d", seat.program,
+		note(WARNING, "the process of %s serve has ended with %s %d", seat.program,
 		     WIFSIGNALED(status) ? "signal" : "status",
 		     WIFSIGNALED(status) ? WTERMSIG(status) : WEXITSTATUS(status));
 }
@@ -159,6 +169,12 @@ static int hangs(int looks, int idle)
 	return has_answered && (looks == ANSWER_LOOKS || idle == IDLE_LOOKS);
 }
 
+/* Returns whether the process, which has used so much since its start, took too long for an answer. */
+static int is_too_long(double used)
+{
+	return seat.child_seconds && used - used_before > seat.child_seconds;
+}
+
 /* Waits until the process has printed something or is gone. Returns 0 if it hangs, or does not answer soon after a signal
    has ended the program. */
 static int wait_for_output(void)
@@ -167,7 +183,7 @@ static int wait_for_output(void)
 	int looks, idle = 0, last = 0, ready;
 	double used = time_used(), before;
 
-	for (looks = 0; !hangs(looks, idle) && last < LAST_LOOKS; looks++) {
+	for (looks = 0; !hangs(looks, idle) && !is_too_long(used) && last < LAST_LOOKS; looks++) {
 		pause_seen();	/* the process may take long: that is no pause */
 		ready = poll(&file, 1, LOOK_MS);
 		if (ready > 0)
@@ -180,7 +196,8 @@ static int wait_for_output(void)
 		last += is_ended();
 	}
 	if (!is_ended())
-		note("the process of %s serve hangs, and is killed", seat.program);
+		note(WARNING, "the process of %s serve %s, and is killed", seat.program,
+		     is_too_long(used) ? "takes longer than --child-time for an answer" : "hangs");
 	kill(process, SIGKILL);
 	return 0;
 }
@@ -250,6 +267,7 @@ const char *tell(const char *format, ...)
 		end(NO_FABRIC, "a line to %s serve is longer than %d letters", seat.program, LONGEST_LINE);
 	line[length++] = '\n';
 	answer_length = 0;
+	used_before = seat.child_seconds ? time_used() : 0;
 	write_line(line, length);
 	while (!is_gone) {
 		told = read_line();

@@ -15,10 +15,12 @@ enum { LINK_STATE_CHANGED = 128, CAPABILITIES_CHANGED = 144, MOST_REPEATS = 3, M
 enum { LEAVING_MS = 20 };	/* for which a packet is waited meanwhile */
 enum { MOST_WAIT = 10, SHORT_WAIT = 2 };	/* seconds */
 enum { MOST_LOOKS = 3, MOST_HANDOVERS = 3 };	/* at another master, while nothing is written */
+enum { MOST_FAILURES = 4 };	/* in a row, with --once */
 #define SHORTEST 1.0	/* seconds from the beginning of one sweep to that of the next */
 #define ACKNOWLEDGED 1.0	/* seconds that a manager may take to acknowledge a handover, after its answer to it */
 #define LEAVING 3.0	/* seconds that a manager may take to take over from one that ends */
 #define TAKING 600.0	/* seconds in which ports that name another master are written MOST_REPEATS times */
+#define YIELDING 15.0	/* seconds that a master over which this manager wins may take to hand over, with --once */
 #define MEETING 60.0	/* seconds from the first sight of another master until it gets more handovers */
 
 static enum phase phase;
@@ -30,11 +32,27 @@ static int has_news, is_wanted, repeats, faults, gaps, masterless, is_announced,
 static unsigned left_not_active, left_of_others;
 static uint32_t newest;
 static double earliest, next_sweep, next_poll, sweep_begun, began, handed_over, resumed, met, took_ports;
-static int looks, handovers, takings;
+static int looks, handovers, takings, failures, end_status = -1;
+static double given_up;	/* with --once, when it is given up to wait for the master; 0 for not yet */
 
 void heard_news(void)
 {
 	has_news = 1;
+}
+
+int status_of_once(void)
+{
+	return seat.once ? end_status : -1;
+}
+
+/* With --once, has the program end with a status, and says why if that is not 0. */
+static void end_once(const char *why)
+{
+	if (!seat.once || end_status >= 0)
+		return;
+	end_status = why ? NOT_WHOLE : WHOLE;
+	if (why)
+		note(ERROR, "NOT UP: %s", why);
 }
 
 /* Asks for a sweep. What failed before may succeed now, so only the shortest time is waited. */
@@ -47,13 +65,18 @@ static void want_sweep(void)
 
 void heard_hangup(void)
 {
-	note("a sweep is asked for");
+	note(INFO, "a sweep is asked for");
 	want_sweep();
 }
 
 static int is_state(const char *word)
 {
 	return !strcmp(state, word);
+}
+
+int is_master(void)
+{
+	return is_state("master");
 }
 
 /* Returns the GUID of the node that holds a LID by what was written, or 0. */
@@ -109,12 +132,12 @@ static void take_heard(char *text, size_t room)
 int heard_trap(unsigned number, unsigned lid)
 {
 	if (options.verbose)
-		note("trap %u from LID %u", number, lid);
+		note(INFO, "trap %u from LID %u", number, lid);
 	if (number == LINK_STATE_CHANGED || number == CAPABILITIES_CHANGED) {
 		keep_trap(number, lid);
 		want_sweep();
 	}
-	return is_state("master");
+	return is_master();
 }
 
 static void keep_text(char **kept, const char *text)
@@ -132,6 +155,11 @@ static size_t lines_with(const char *text, const char *word)
 	for (; text && *text; text = strchr(text, '\n') + 1)
 		count += !strncmp(text, word, length);
 	return count;
+}
+
+static int length_of_line(const char *text)
+{
+	return strcspn(text, "\n");
 }
 
 /* Forgets what was written: others may have changed it while this manager was not the master. */
@@ -153,13 +181,16 @@ static void look_at_state(void)
 		return;
 	upper = !strcmp(word, "master") ? "MASTER" : !strcmp(word, "standby") ? "STANDBY" :
 		!strcmp(word, "discovering") ? "DISCOVERING" : "NOT ACTIVE";
-	note("%s", upper);
+	note(NOTICE, "%s", upper);
 	strcpy(state, word);
 	forget_written();
 	is_announced = 0;
 	looks = 0;
+	given_up = 0;
 	next_poll = now();
-	if (is_state("discovering") || (is_state("master") && phase == RESTS))
+	if (is_state("not-active"))
+		end_once("another manager has disabled this one");
+	if (is_state("discovering") || (is_master() && phase == RESTS))
 		want_sweep();
 	status.state_since = time(NULL);
 	write_status(&status);
@@ -186,12 +217,14 @@ static void begin_sweep(void)
 /* Waits before going on, the longer the more failures came in a row, but not for long while nobody may be master. */
 static void wait_longer(void)
 {
-	int most = is_state("master") ? MOST_WAIT : SHORT_WAIT;
+	int most = is_master() ? MOST_WAIT : SHORT_WAIT;
 	int wait = faults < 4 ? 1 << faults : MOST_WAIT;
 
 	if (wait > most)
 		wait = most;
 	faults++;
+	if (++failures >= MOST_FAILURES * (seat.partial ? 2 : 1))
+		end_once("it failed too often");
 	is_wanted = 1;
 	earliest = now() + wait;
 }
@@ -221,8 +254,10 @@ static void look_for_master(void)
 		return;
 	}
 	masterless = 0;
+	if (!given_up)
+		given_up = now() + (wins(master) ? 0 : YIELDING);
 	if (!is_announced && !wins(master)) {
-		note("the master %016" PRIx64 ", priority %u, is to hand over", master->guid, master->priority);
+		note(NOTICE, "the master %s, priority %u, is to hand over", called_as(master), master->priority);
 		announce_manager();
 		is_announced = 1;
 	}
@@ -235,7 +270,7 @@ void heard_poll(int is_master)
 
 void heard_handover(void)
 {
-	if (!is_state("master"))
+	if (!is_master())
 		return;
 	/* Who hands over to a master was one too, and wrote. */
 	forget_written();
@@ -249,7 +284,7 @@ static void leave_standby(void)
 {
 	int i;
 
-	note("nobody is master");
+	note(WARNING, "nobody is master");
 	for (i = 0; i < MOST_POLLS; i++) {
 		tell("poll %d", NO_LID);
 		give_up_queued();
@@ -287,7 +322,7 @@ static void yield_to(const struct other *lesser)
 {
 	unsigned lid = lid_of(lesser->place);
 
-	note("YIELDS to %016" PRIx64 " at LID %u", lesser->guid, lid);
+	note(NOTICE, "YIELDS to %s at LID %u", called_as(lesser), lid);
 	if (lid)
 		queue_handover(lid);
 }
@@ -307,7 +342,7 @@ static int meets_master(void)
 		met = now();
 		looks = handovers = 0;
 	}
-	note("ANOTHER MASTER: %016" PRIx64 ", priority %u", master->guid, master->priority);
+	note(WARNING, "ANOTHER MASTER: %s, priority %u", called_as(master), master->priority);
 	if (handovers == MOST_HANDOVERS)
 		return 0;
 	forget_written();
@@ -329,10 +364,10 @@ static void say_silent(void)
 {
 	size_t i;
 
-	note("NOT WHOLE: %lu requests without an answer (%lu of other managers), %lu ports over %d hops away",
+	note(WARNING, "NOT WHOLE: %lu requests without an answer (%lu of other managers), %lu ports over %d hops away",
 	     status.unanswered, status.silent, status.too_far, MOST_HOPS);
 	for (i = 0; i < silent_requests() && (i < 5 || options.verbose); i++)
-		note("no answer: %s", silent_request(i));
+		note(WARNING, "no answer: %s", silent_request(i));
 }
 
 /* Keeps the plan to be written, and notes what it changes if another one was written before. */
@@ -362,7 +397,7 @@ static void write_plan(const char *plan)
 	began = now();
 	answer = tell("write");
 	if (!strncmp(answer, "refused ", 8)) {
-		note("NOT WRITTEN: the manager refuses: %.40s", answer + 8);
+		note(WARNING, "NOT WRITTEN: the manager refuses: %.*s", length_of_line(answer + 8), answer + 8);
 		forget_written();
 		wait_longer();
 		phase = RESTS;
@@ -375,7 +410,7 @@ static void write_plan(const char *plan)
 /* Returns whether the acknowledgement may still come: the answer to a handover comes first. */
 static int may_be_acknowledged(void)
 {
-	if (!is_state("master"))
+	if (!is_master())
 		return 0;
 	if (!handed_over)
 		handed_over = now();
@@ -400,7 +435,7 @@ static int may_take_ports(void)
 static void note_left(unsigned count, unsigned *left, const char *what)
 {
 	if (count > *left)
-		note("%u ports %s", count, what);
+		note(WARNING, "%u ports %s", count, what);
 	*left = count;
 }
 
@@ -413,13 +448,17 @@ static void settle(void)
 		char why[300];
 
 		take_heard(why, sizeof why);
-		note("%s; nothing is to be written", why);
+		note(INFO, "%s; nothing is to be written", why);
 	}
 	repeats = 0;
-	faults = 0;
+	faults = failures = 0;
 	status.is_settled = 1;
 	phase = RESTS;
-	hand_over();
+	if (seat.once)	/* and then it leaves */
+		end_once(!status.is_whole ? "requests have no answer" : ports_not_active() ? "ports are not Active" :
+			 ports_of_others() ? "ports name another master" : NULL);
+	else
+		hand_over();
 }
 
 /* Writes the plan, unless this process wrote it last and all ports have it. */
@@ -429,7 +468,7 @@ static void judge_plan(void)
 	int is_same = kept_plan && !strcmp(plan, kept_plan);
 
 	if (!strncmp(plan, "refused ", 8)) {
-		note("NOT WRITTEN: there is no plan: %.40s", plan + 8);
+		note(WARNING, "NOT WRITTEN: there is no plan: %.*s", length_of_line(plan + 8), plan + 8);
 		wait_longer();
 	} else if (is_same && !may_bring_up() && !may_take_ports()) {
 		settle();
@@ -437,7 +476,7 @@ static void judge_plan(void)
 		if (is_same && ports_of_others()) {
 			if (!takings++)
 				took_ports = now();
-			note("%u ports name another master", ports_of_others());
+			note(WARNING, "%u ports name another master", ports_of_others());
 		}
 		repeats = is_same ? repeats + 1 : 0;
 		write_plan(plan);
@@ -468,7 +507,7 @@ static void after_sweep(void)
 	if (manager_is_gone())	/* a new process begins anew */
 		return;
 	if (options.verbose)
-		note("swept in %.3f s, %s", now() - began, status.is_whole ? "all is answered" : "not whole");
+		note(INFO, "swept in %.3f s, %s", now() - began, status.is_whole ? "all is answered" : "not whole");
 	if (seat.dry_run) {
 		end_dry_run();
 		return;
@@ -484,16 +523,16 @@ static void after_sweep(void)
 		look_for_master();
 	if (is_state("standby") && masterless > MOST_REPEATS)
 		leave_standby();
-	if (is_state("master") && meets_master())
+	if (is_master() && meets_master())
 		return;
 	if (gaps && (!seat.partial || gaps <= MOST_REPEATS)) {
-		if (is_state("master"))
+		if (is_master())
 			hand_over();
 		return;
 	}
 	if (gaps)
-		note("what is known is planned all the same, since --partial says so");
-	if (is_state("master"))
+		note(WARNING, "what is known is planned all the same, since --partial says so");
+	if (is_master())
 		judge_plan();
 	else
 		faults = 0;
@@ -508,12 +547,12 @@ static void after_writing(void)
 		return;
 	status.written_at = time(NULL);
 	if (!status.is_written) {
-		note("NOT WRITTEN: some of it was not answered");
+		note(WARNING, "NOT WRITTEN: some of it was not answered");
 		forget_written();
 		wait_longer();
 		return;
 	}
-	note("SUBNET UP: %zu LIDs, %zu switches, written in %.3f s", status.lids, status.switches, now() - began);
+	note(NOTICE, "SUBNET UP: %zu LIDs, %zu switches, written in %.3f s", status.lids, status.switches, now() - began);
 	is_wanted = 1;
 	hand_over();
 }
@@ -525,8 +564,8 @@ static void after_handover(void)
 
 	phase = RESTS;
 	if (heir)
-		note("HANDOVER to %016" PRIx64 ", priority %u%s", heir->guid, heir->priority,
-		     is_state("master") ? ", which does not take over" : "");
+		note(NOTICE, "HANDOVER to %s, priority %u%s", called_as(heir), heir->priority,
+		     is_master() ? ", which does not take over" : "");
 }
 
 static void rest(void)
@@ -542,7 +581,7 @@ static void rest(void)
 		return;
 	}
 	is_wanted |= is_state("discovering") || (is_state("standby") && !has_master);
-	is_wanted |= is_state("master") && seat.sweep_seconds && time >= next_sweep;
+	is_wanted |= is_master() && seat.sweep_seconds && time >= next_sweep;
 	if (is_wanted && time >= earliest)
 		begin_sweep();
 }
@@ -564,7 +603,7 @@ void begin_policy(void)
 /* Looks at the subnet anew after a pause: another manager may be master now. No Set from before it goes out. */
 static void after_pause(void)
 {
-	note("nothing was done for %.1f s", pause_seen());
+	note(WARNING, "nothing was done for %.1f s", pause_seen());
 	end_pause();
 	resumed = now();
 	forget_written();
@@ -594,6 +633,8 @@ void policy(void)
 		after_handover();
 	else
 		rest();
+	if (given_up && now() >= given_up && is_state("standby"))
+		end_once("another manager is master");
 	if (was != RESTS)
 		write_status(&status);
 }
@@ -603,12 +644,12 @@ void leave(void)
 	const struct other *heir = greatest_heard("standby", NULL);
 	double until = now() + LEAVING;
 
-	if (!is_state("master") || !heir || manager_is_gone() || pause_seen())
+	if (!is_master() || !heir || manager_is_gone() || pause_seen())
 		return;
 	drop_all();	/* the heir writes anew */
 	be_no_manager();	/* or else its first sweep would find a master here, and it would stand by again */
 	yield_to(heir);
-	while (is_state("master") && now() < until && !manager_is_gone()) {
+	while (is_master() && now() < until && !manager_is_gone()) {
 		carry(LEAVING_MS);
 		if (handover_is_taken() && until > now() + ACKNOWLEDGED)
 			until = now() + ACKNOWLEDGED;
@@ -616,6 +657,6 @@ void leave(void)
 			look_at_state();
 		has_news = 0;
 	}
-	note("HANDOVER to %016" PRIx64 ", priority %u%s", heir->guid, heir->priority,
-	     is_state("master") && !handover_is_taken() ? ", which does not take over" : "");
+	note(NOTICE, "HANDOVER to %s, priority %u%s", called_as(heir), heir->priority,
+	     is_master() && !handover_is_taken() ? ", which does not take over" : "");
 }

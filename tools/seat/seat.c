@@ -1,9 +1,9 @@
 /*
  * seat: the port, the clock and the policy of a subnet manager whose decisions are those of `ibsm serve`.
  *
- * It carries packets between the two, byte for byte, and says when to sweep, to write and to poll. It makes one packet
- * itself: a HANDOVER to a lesser manager. It is not a subnet administration, and while it is master no host has one. The
- * manual page, seat.1, has the options and exit statuses.
+ * It carries packets between the two, byte for byte, and says when to sweep, to write and to poll. It makes packets
+ * itself: a HANDOVER to a lesser manager, and refusals of requests for subnet administration. It is none, and while it
+ * is master no host has one. The manual page, seat.1, has the options and exit statuses.
  */
 #include <errno.h>
 #include <getopt.h>
@@ -44,14 +44,19 @@ static const char usage_text[] =
 "  -m, --poll MS          as standby, the master is polled each MS milliseconds (1000)\n"
 "  -a, --after FILE       number sweeps above the newest of this recording or store, and by the clock\n"
 "  -d, --dry-run          sweep once, print the plan, and write nothing\n"
+"      --once             bring the subnet up, and end: with 0 if it is up, and else with 1\n"
 "  -S, --status FILE      what it is at, as JSON\n"
 "  -N, --names FILE       a node name map: the log calls nodes by it\n"
 "      --partial          write also where requests have no answer, after the fourth such sweep in a row\n"
+"      --child-memory MB  what memory the program may take, in megabytes; else it is not limited\n"
+"      --child-time S     what processor time an answer of the program may take, in seconds; else it is not limited\n"
 "  -C, --ca NAME          the adapter, as mlx5_0; else the first with a port that is up\n"
 "  -P, --port N           its port\n"
 "  -n, --outstanding N    requests that are out at a time, 1 to 64 (16)\n"
 "  -t, --timeout MS       what an answer may take, in milliseconds (200); three times that of another manager\n"
 "  -r, --retries N        how often a request is sent again, 0 to 100 (3)\n"
+"  -k, --m-key KEY        management key (M_Key) of the subnet, which is put into requests (0)\n"
+"  -K, --m-keys FILE      keys of ports, in place of that of the subnet: lines 0xGUID 0xKEY, as in OpenSM's guid2mkey\n"
 "  -v, --verbose          also say each sweep and trap\n"
 "  -h, --help             this text\n"
 "  -V, --version          the version\n"
@@ -59,9 +64,9 @@ static const char usage_text[] =
 "It goes on until SIGTERM or SIGINT. As master it then hands over to a standby, if there is one. SIGHUP makes it\n"
 "sweep.\n"
 "\n"
-"The exit status is 0 where a signal ended it, or a dry run had every answer; 1 where a dry run had not; 2 where\n"
-"the command line is wrong; 3 where the program refuses a file; 4 without a subnet, the program, or the right to be\n"
-"its manager; 5 without memory.\n";
+"The exit status is 0 where a signal ended it, a dry run had every answer, or --once brought the subnet up; 1 where a\n"
+"dry run or --once did not; 2 where the command line is wrong; 3 where the program refuses a file; 4 without a subnet,\n"
+"the program, or the right to be its manager; 5 without memory.\n";
 
 int is_ended(void)
 {
@@ -78,6 +83,7 @@ double pause_seen(void)
 	if (step > longest)
 		pause_length += step;
 	seen_running = time;
+	notify_alive();
 	return pause_length;
 }
 
@@ -87,7 +93,7 @@ void end_pause(void)
 	seen_running = now();
 }
 
-void note(const char *format, ...)
+void note(enum level level, const char *format, ...)
 {
 	struct timespec time;
 	char text[400], stamp[16];
@@ -101,7 +107,7 @@ void note(const char *format, ...)
 	va_end(values);
 	clock_gettime(CLOCK_REALTIME, &time);
 	strftime(stamp, sizeof stamp, "%H:%M:%S", localtime_r(&time.tv_sec, &parts));
-	say("%s.%03ld %s", stamp, time.tv_nsec / 1000000, text);
+	say_at(level, "%s.%03ld %s", stamp, time.tv_nsec / 1000000, text);
 }
 
 static void on_signal(int number)
@@ -123,15 +129,17 @@ static void catch_signals(void)
 	signal(SIGXFSZ, SIG_IGN);
 }
 
-enum { PARTIAL = 256, SM_KEY };
+enum { PARTIAL = 256, SM_KEY, ONCE, CHILD_MEMORY, CHILD_TIME };
 
 static const struct option words[] = {
 	{ "priority", 1, 0, 'p' }, { "sm-key", 1, 0, SM_KEY }, { "lmc", 1, 0, 'l' }, { "routing", 1, 0, 'R' },
 	{ "roots", 1, 0, 'f' },
 	{ "order", 1, 0, 'o' }, { "ibsm", 1, 0, 'i' }, { "sweep", 1, 0, 's' }, { "poll", 1, 0, 'm' },
 	{ "after", 1, 0, 'a' }, { "dry-run", 0, 0, 'd' }, { "status", 1, 0, 'S' }, { "names", 1, 0, 'N' },
-	{ "partial", 0, 0, PARTIAL }, { "ca", 1, 0, 'C' },
+	{ "partial", 0, 0, PARTIAL }, { "once", 0, 0, ONCE },
+	{ "child-memory", 1, 0, CHILD_MEMORY }, { "child-time", 1, 0, CHILD_TIME }, { "ca", 1, 0, 'C' },
 	{ "port", 1, 0, 'P' }, { "outstanding", 1, 0, 'n' }, { "timeout", 1, 0, 't' }, { "retries", 1, 0, 'r' },
+	{ "m-key", 1, 0, 'k' }, { "m-keys", 1, 0, 'K' },
 	{ "quiet", 0, 0, 'q' }, { "verbose", 0, 0, 'v' }, { "help", 0, 0, 'h' }, { "version", 0, 0, 'V' }, { 0 }
 };
 
@@ -166,6 +174,9 @@ static void take_option(int letter)
 	case 'S': seat.status_file = optarg; break;
 	case 'N': seat.names_file = optarg; break;
 	case PARTIAL: seat.partial = 1; break;
+	case ONCE: seat.once = 1; break;
+	case CHILD_MEMORY: seat.child_mbytes = number_in(optarg, "--child-memory", 1, 1 << 30); break;
+	case CHILD_TIME: seat.child_seconds = number_in(optarg, "--child-time", 1, 86400); break;
 	case 'h': print_usage(stdout, usage_text); exit(WHOLE);
 	case 'V': puts("ibsm-seat " VERSION); exit(WHOLE);
 	default: print_usage(stderr, usage_text); exit(USAGE);
@@ -180,12 +191,16 @@ static void parse(int count, char **texts)
 	options.timeout_ms = 200;
 	options.outstanding = 16;
 	seat.routing = "spread";
-	while ((letter = getopt_long(count, texts, "p:l:R:f:o:i:s:m:a:dS:N:C:P:n:t:r:qvhV", words, NULL)) != -1)
+	while ((letter = getopt_long(count, texts, "p:l:R:f:o:i:s:m:a:dS:N:C:P:n:t:r:k:K:qvhV", words, NULL)) != -1)
 		take_option(letter);
 	if (optind != count)
 		take_option('?');
+	if (seat.once && seat.dry_run)
+		end(USAGE, "--once writes, and --dry-run does not");
 	if (!seat.program)
 		seat.program = the_program();
+	if (options.m_keys)
+		read_keys(options.m_keys);
 	if (seat.names_file)
 		read_name_map(seat.names_file);
 }
@@ -206,8 +221,10 @@ static void start(void)
 	begin_policy();
 	tell("state");	/* waits until the process answers */
 	end_pause();
-	if (!seat.dry_run && !manager_is_gone())
-		be_manager();
+	if (seat.dry_run || manager_is_gone())
+		return;
+	be_manager();
+	notify("READY=1");
 }
 
 int main(int count, char **texts)
@@ -215,9 +232,9 @@ int main(int count, char **texts)
 	parse(count, texts);
 	catch_signals();
 	open_seat();
-	note("%s, GUID %016llx, priority %d", own_port.name, (unsigned long long) own_port.guid, seat.priority);
+	note(INFO, "%s, GUID %016llx, priority %d", own_port.name, (unsigned long long) own_port.guid, seat.priority);
 	start();
-	while (!is_ended()) {
+	while (!is_ended() && status_of_once() < 0) {
 		carry(WAIT_MS);
 		if (hung_up) {
 			hung_up = 0;
@@ -229,9 +246,13 @@ int main(int count, char **texts)
 			start();
 		}
 	}
+	notify("STOPPING=1");
 	leave();
 	stop_manager();
 	close_seat();
-	note("ended by signal %d", ended_by);
-	return WHOLE;
+	if (is_ended())
+		note(NOTICE, "ended by signal %d", ended_by);
+	else
+		note(NOTICE, "ended, since --once says so");
+	return !seat.once ? WHOLE : status_of_once() < 0 ? NOT_WHOLE : status_of_once();
 }

@@ -6,18 +6,21 @@
 #include <time.h>
 #include "../record/record.h"
 
-enum { SM_INFO = 0x20, MASTER = 3, HANDOVER = 1, LID_ROUTED_CLASS = 0x01, DIRECTED_CLASS = 0x81, NO_LID = 0xffff };
+enum { SM_INFO = 0x20, MASTER = 3, HANDOVER = 1, NO_LID = 0xffff };
+enum class { LID_ROUTED_CLASS = 0x01, ADMINISTRATION_CLASS = 0x03, DIRECTED_CLASS = 0x81 };
 enum method { GET = 1, SET = 2, TRAP = 5, TRAP_REPRESS = 7, RESPONSE = 0x80 };
+enum administration_method { GET_TABLE = 0x12, GET_TRACE_TABLE = 0x13, GET_MULTI = 0x14, DELETE = 0x15 };
 
 struct seat_options {
 	char *program, *status_file, *names_file, *sm_key, *lmc, *routing, *roots, *order;
-	int priority, sweep_seconds, poll_ms, dry_run, partial;
+	int priority, sweep_seconds, poll_ms, dry_run, partial, once;
+	int child_mbytes, child_seconds;	/* what the process may take, 0 for as much as it likes */
 };
 
 /* Counts of what was carried since the start. */
 struct carried {
 	unsigned long sent, again, answered, given_up, late, refused, requests, traps, repressed, pointers;
-	unsigned long sets;
+	unsigned long sets, hosts_refused;
 };
 
 extern struct seat_options seat;
@@ -25,13 +28,18 @@ extern struct own_port own_port;
 extern struct carried carried;
 
 /* seat.c: says a line with the time of day. */
-void note(const char *format, ...) __attribute__((format(printf, 1, 2)));
+void note(enum level level, const char *format, ...) __attribute__((format(printf, 2, 3)));
 /* Returns whether a signal has ended the program. */
 int is_ended(void);
 /* Notes that the program runs, and returns the seconds that it stood still for, stopped or starved, since end_pause, or
    0. Whoever waits for long calls it all the while. */
 double pause_seen(void);
 void end_pause(void);
+
+/* notify.c: tells systemd a line, if it runs this program as a service that tells. */
+void notify(const char *format, ...) __attribute__((format(printf, 1, 2)));
+/* Tells systemd in time that the program runs, if it asks for that. */
+void notify_alive(void);
 
 /* program.c: returns the path of the program that stands beside seat or at the top of its checkout, or its mere name, to
    be looked for on the path. */
@@ -77,6 +85,13 @@ void begin_silent(void);
 size_t silent_requests(void);
 const char *silent_request(size_t place);
 
+/* administration.c: requests of hosts. */
+/* Takes requests for subnet administration at a port. Returns a number less than 0 if another process has them. */
+int open_administration(int umad);
+void close_administration(int umad);
+/* As master, refuses a received request. */
+void refuse(int umad, uint8_t *buffer);
+
 /* Begins the counts of ports anew. */
 void begin_ports(void);
 /* Returns how many ports a sweep has read as Initialize or Armed since the counts began. */
@@ -88,6 +103,10 @@ unsigned ports_of_others(void);
 /* policy.c: when the process is told what. */
 void begin_policy(void);
 void policy(void);
+/* Returns whether the process is master, as far as it has told. */
+int is_master(void);
+/* With --once, returns the exit status once the subnet is up or cannot be brought up, and before that -1. */
+int status_of_once(void);
 /* As master, hands over to the greatest standby that the last sweep saw, and waits until it takes over, but not for
    long. */
 void leave(void);
@@ -122,6 +141,8 @@ const struct other *greatest_heard(const char *state, const char *or_state);
 void read_name_map(const char *path);
 /* Writes a node's name, or its GUID if the map does not have it. */
 void print_node(char *text, size_t room, uint64_t guid);
+/* Returns a manager's GUID, behind the name of its node if the map has that. The next call's text takes its place. */
+const char *called_as(const struct other *other);
 /* Keeps the cables of a text of facts. */
 void note_cables(const char *facts);
 /* Notes why a plan is written, how many cables are otherwise than those that are kept, and how many entries differ. */

@@ -45,9 +45,10 @@ static void print_counts(FILE *file)
 {
 	fprintf(file, " \"packets\": {\"sent\": %lu, \"sent_again\": %lu, \"answered\": %lu, \"given_up\": %lu, "
 		"\"refused\": %lu, \"late\": %lu, \"asked_by_others\": %lu, \"traps\": %lu, \"repressed\": %lu, "
-		"\"pointers_set\": %lu, \"sets\": %lu}\n",
+		"\"pointers_set\": %lu, \"sets\": %lu, \"hosts_refused\": %lu}\n",
 		carried.sent, carried.again, carried.answered, carried.given_up, carried.refused, carried.late,
-		carried.requests, carried.traps, carried.repressed, carried.pointers, carried.sets);
+		carried.requests, carried.traps, carried.repressed, carried.pointers, carried.sets,
+		carried.hosts_refused);
 }
 
 static void print_status(FILE *file, const struct standing *status)
@@ -67,6 +68,23 @@ static void print_status(FILE *file, const struct standing *status)
 	fprintf(file, "}\n");
 }
 
+/* Tells systemd what the manager is at, if that has changed. */
+static void notify_status(const struct standing *status)
+{
+	static char told[160];
+	char text[sizeof told];
+
+	char written[64] = "nothing is written";
+
+	if (status->is_written)
+		snprintf(written, sizeof written, "%zu LIDs and %zu switches are written", status->lids, status->switches);
+	snprintf(text, sizeof text, "%s; %s; the last sweep %s", status->state, written,
+		 status->is_whole ? "had every answer" : "lacked answers, or is under way");
+	if (strcmp(text, told))
+		notify("STATUS=%s", text);
+	strcpy(told, text);
+}
+
 /* Writes the status file. A failure is reported once, and the manager goes on. */
 void write_status(const struct standing *status)
 {
@@ -76,6 +94,7 @@ void write_status(const struct standing *status)
 	FILE *file;
 	int fault;
 
+	notify_status(status);
 	if (!seat.status_file)
 		return;
 	if (!temporary) {
@@ -95,7 +114,7 @@ void write_status(const struct standing *status)
 		return;
 	}
 	if (!is_said)
-		note("cannot write %s: %s", seat.status_file, strerror(errno));
+		note(WARNING, "cannot write %s: %s", seat.status_file, strerror(errno));
 	is_said = 1;
 	unlink(temporary);
 }
