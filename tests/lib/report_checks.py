@@ -18,8 +18,14 @@ TWO = f"{0x20:016x}"
 # Stands in for `ibsm`: takes audits, whatever of, and plans from files beside it.
 FAKE = """#!/bin/sh
 case $1 in
-audit) cat audit.text; grep -q passes audit.ends ;;
-plan) cat fake.plan ;;
+audit)
+    case $2 in
+    */balance.plan) [ ! -f balance.text ] || { cat balance.text; echo passes yes; exit 0; } ;;
+    esac
+    cat audit.text
+    if grep -q passes audit.ends; then echo passes yes; else echo passes no: pairs; exit 1; fi
+    ;;
+plan) echo "$*" >>fake.planned; cat fake.plan ;;
 --version) echo 'ibsm 0.1.0'; cat version.text ;;
 esac
 """
@@ -122,6 +128,7 @@ def pages(room: Room) -> None:
     room.put(fake_plan=room.text("t.plan"))
     words = "report t.facts t.plan -o t.html --names all.names --ibsm ./fake"
     sound(room, words)
+    beside_balance(room, words)
     not_sound(room, words)
     with_a_credit_loop(room, words)
     names_as_text(room, words)
@@ -156,9 +163,47 @@ def sound(room: Room, words: str) -> None:
     room.check("channel 0000" not in text, "the audit's lines of channels are not listed")
     room.check("Changes since" not in text, "no changes are asked")
     in_a_browser(room, room.path / "t.html")
-    room.check(room.out == "t.html: the tables pass the audit\n", "the verdict is printed")
+    busy = "t.html: the busiest channel carries 1 pair of adapters, 3.0 times the mean; by a plan by balance 1 pair of "
+    busy += "adapters, 3.0 times the mean\n"
+    room.check(room.out == f"t.html: the tables pass the audit\n{busy}", "the verdict and the load are printed")
     room.check(room.run(words.replace("-o t.html", "-o -"), 0) == text, "on standard output")
-    room.check(room.said == "report: the tables pass the audit\n", "and the verdict is said")
+    said = f"report: the tables pass the audit\n{busy.replace('t.html', 'report')}"
+    room.check(room.said == said, "and the verdict and the load are said")
+
+
+def beside_balance(room: Room, words: str) -> None:
+    """Checks what is told of the busiest channel by the held tables and by a plan by `balance`."""
+    busier = SOUND.replace("load max 1 mean 0.33", "load max 1234 mean 500.00")
+    room.put(audit_text=busier + LOADS, balance_text=busier.replace("1234", "750"))
+    told = "the busiest channel carries 1,234 pairs of adapters, 2.5 times the mean"
+    by_balance = "; by a plan by balance 750 pairs of adapters, 1.5 times the mean"
+    other = changed_entry(room.text("t.plan"))
+    room.put(other_plan=other)
+    for plan, options, by in (
+        # The first rule that is tried is updown. A plan by balance is not made again if it is what is held.
+        ("t.plan", "", by_balance),
+        ("t.plan", "--routing balance", ""),
+        ("other.plan", "--routing balance", by_balance),
+        ("t.plan", "--routing balance --order x.order", by_balance),
+    ):
+        room.put(fake_planned="", x_order="0x10\n")
+        room.run(f"{words.replace('t.plan', plan)} {options}", 0)
+        room.check(room.out == f"t.html: the tables pass the audit\nt.html: {told}{by}\n", f"{options}: {room.out}")
+        text = checked(room, "t.html")
+        room.check(f"<p>T{told[1:]}{by}.</p>" in text, f"{plan} {options}: the load is on the page")
+        planned = [line.split(" /")[0] for line in room.text("fake.planned").splitlines()]
+        room.check("plan --routing balance --lmc 0" in planned, f"a plan by balance goes by no order: {planned}")
+    none = SOUND.replace("load max 1 mean 0.33", "load none")
+    room.put(audit_text=none)
+    room.run(words, 0)
+    room.check(room.out == "t.html: the tables pass the audit\n", f"nothing is told where no channel is: {room.out}")
+    (room.path / "balance.text").unlink()
+
+
+def changed_entry(plan: str) -> str:
+    """Returns the plan of the triangle with another entry for LID 5 in its first switch."""
+    at = plan.index("block 0 ") + len("block 0 ") + 2 * 5
+    return plan[:at] + "01" + plan[at + 2 :]
 
 
 def not_sound(room: Room, words: str) -> None:
@@ -174,8 +219,8 @@ def not_sound(room: Room, words: str) -> None:
     room.run(f"{words} --was cut.facts", 1)
     text = checked(room, "t.html")
     room.check(
-        room.out == "t.html: the tables do not pass the audit; 1 of 25 packets do not arrive: 1 no entry, 1,200 go "
-        "round for ever; 1 switch without tables; 1 port without a LID\n",
+        room.out.splitlines()[0] == "t.html: the tables do not pass the audit; 1 of 25 packets do not arrive: "
+        "1 no entry, 1,200 go round for ever; 1 switch without tables; 1 port without a LID",
         f"why they do not pass is printed: {room.out}",
     )
     for word in (
@@ -207,7 +252,8 @@ def with_a_credit_loop(room: Room, words: str) -> None:
     room.put(audit_text=loop + LOADS, audit_ends="no\n", version_text="")
     room.run(words, 1)
     told = "a credit loop of 3 channels: S1 \u2192 S2 \u2192 S3 \u2192 S1"
-    room.check(room.out == f"t.html: the tables do not pass the audit; {told}\n", f"a loop is printed: {room.out}")
+    said = room.out.splitlines()[0]
+    room.check(said == f"t.html: the tables do not pass the audit; {told}", f"a loop is printed: {room.out}")
     text = checked(room, "t.html")
     room.check(
         "wait for each other in a circle" in text and "does not tell whether it is proved" in text,

@@ -20,6 +20,8 @@ from typing import Any
 
 import paths
 import record_files
+import round_parts
+import round_words
 import sample_fabrics
 import tool_checks
 from tool_room import Room
@@ -72,6 +74,7 @@ audit)
     text=fab/audit
     case $2 in
     */now.held) [ -f fab/audit.held ] && text=fab/audit.held ;;
+    */balance.plan) [ -f fab/audit.balance ] && text=fab/audit.balance ;;
     */trial.plan)
         case $(tail -n 1 fab/planned) in
         *own.order*) text=fab/audit.own ;;
@@ -102,6 +105,8 @@ while :; do sleep 0.02; done
 ALL_ARRIVE = "pairs 25 arrive 25\n"
 # The order that a rule chooses, and the options by which rounds plan if they keep an order.
 OWN, IN_ORDER = "0x1\n0x3\n", "--order rd/kept.order"
+# How the command of a round of `check_round` begins.
+ROUND = f"{paths.TOOLS / 'round'} rd --programs . --log fab/log"
 # The types of `put_in_fab` and `check_round`, each bound to a room.
 Fab, Ends = Callable[..., None], Callable[..., dict[str, Any]]
 
@@ -132,6 +137,7 @@ def rounds(room: Room, program: pathlib.Path) -> None:
     """Checks rounds of a subnet that scripts stand in for: how each ends, and what it has written by then."""
     for name, script in (("record", FAKE_RECORD), ("ibsm", FAKE_IBSM), ("opensm", FAKE_OPENSM), ("send", FAKE_SEND)):
         room.scripts(**{name: script})
+    room.put(x_order="0x1\n")
     (room.path / "fab").mkdir()
     fab, ends = functools.partial(put_in_fab, room), functools.partial(check_round, room)
     fab(
@@ -158,11 +164,17 @@ def rounds(room: Room, program: pathlib.Path) -> None:
     by_no_kept_order(room, fab)
     changes_told(room, fab, ends)
     loads_told(room, fab, ends)
+    beside_balance(room, fab, ends)
     silence(room, fab, ends)
     silent_switches(room, fab, ends)
     lids_of_the_silent(room, fab, ends)
     other_files(room, fab, ends)
+    log_of_opensm(room, fab, ends)
+    told_how_to_go_on(room, fab, ends)
+    programs_fail(room, fab, ends)
+    recordings_of_a_round(room, fab, ends)
     by_a_file(room, fab)
+    files_of_options(room)
     watched(room)
     healed(room, fab)
     watched_by_log(room, fab)
@@ -182,7 +194,7 @@ def put_in_fab(room: Room, **texts: str) -> None:
 def check_round(room: Room, words: str, status: int, step: str, verdict: str, settle: float = 0) -> dict[str, Any]:
     """Checks how a round ends, by its output and in status.json, and returns the latter."""
     printed = room.run(
-        f"round rd --ibsm ./ibsm --record ./record --send ./send --log fab/log --settle {settle} {words}", status
+        f"round rd --programs . --log fab/log --settle {settle} {words}", status
     )
     told = json.loads(room.text("rd/status.json"))
     orders = [
@@ -282,7 +294,7 @@ def by_opensm(room: Room, fab: Fab, ends: Ends) -> None:
         ends(f"--opensm {process}", 0, "audit", "the subnet holds the plan")
         room.check(room.text("fab/log").count("UP") == 1, "and not where nothing differs")
         fab(facts=room.text("moved.facts"), held=room.text("round.plan"))
-        told = ends(f"--opensm {process} --move-lids", 0, "audit", "the subnet holds the plan")
+        told = ends(f"--opensm {process} --accept lids", 0, "audit", "the subnet holds the plan")
         room.check(told["counts"]["moved_lids"] == 1 and told["counts"]["changes"] == 0, "a LID may move")
         fab(facts=facts, held=room.text("round.plan"), written=room.text("hole.plan"))
         ends(
@@ -300,18 +312,154 @@ def by_opensm(room: Room, fab: Fab, ends: Ends) -> None:
         fab(next=plan)
         by_steps(room, fab, ends, process)
         fab(held=room.text("round.plan"), deaf="")
-        ends(f"--opensm {process} --wait 0.3", 1, "opensm", "fab/log does not say SUBNET UP within 0.3 seconds")
+        deaf(room, process)
         fab(held=room.text("round.plan"))
-        ends(f"--opensm {process} --log fab/nothing", 4, "opensm", "fab/nothing")
-    ends(f"--opensm {os.getpid()}", 3, "manager", "not opensm")
-    ends("--opensm 99999999", 3, "manager", "there is no process 99999999: has OpenSM ended?")
+        told = ends(f"--opensm {process} --log fab/nothing", 4, "opensm", "fab/nothing")
+        room.check(told["go_on"] is None, "nothing goes on without a log")
+        room.check("round: --log: there is no log fab/nothing yet\n" in room.said, f"it is said first: {room.said}")
+    for process, why in (os.getpid(), "not opensm"), (99999999, "there is no process 99999999: has OpenSM ended?"):
+        told = ends(f"--opensm {process} --accept holes", 3, "manager", why)
+        words = "--settle 0 --accept holes --opensm $(pidof opensm)"
+        room.check(told["go_on"] == f"{ROUND} {words}", f"the OpenSM that runs goes on: {told['go_on']}")
+
+
+def deaf(room: Room, process: int) -> None:
+    """Checks how a round ends if OpenSM does not say that the subnet is up. A whole round would wait for a minute."""
+    try:
+        round_parts.ask_for_sweep(process, str(room.path / "fab/log"), 0.3)
+        ended = round_parts.Ended(0, "not at all")
+    except round_parts.Ended as end:
+        ended = end
+    why = "fab/log does not say SUBNET UP within 0.3 seconds"
+    room.check((ended.status, ended.add) == (1, []) and why in ended.verdict, f"a deaf OpenSM: {ended.verdict}")
+
+
+def log_of_opensm(room: Room, fab: Fab, ends: Ends) -> None:
+    """Checks that a round reads the log that OpenSM's command line names, unless the round's own names one."""
+    (room.path / "fab/deaf").unlink()
+    for words in (("-f", "fab/own.log"), ("--log_file=fab/own.log",), ("-ffab/own.log", "-U", "rd/plan.lfts")):
+        with fake_opensm(room, *words) as process:
+            fab(held=room.text("round.plan"), log="ready\n")
+            (room.path / "fab/own.log").unlink(missing_ok=True)
+            (room.path / "fab/own.log").symlink_to("log")
+            words = f"round rd --programs . --settle 0 --opensm {process}"
+            room.prints(words, 0, "audit: the subnet holds the plan")
+            room.check(room.text("fab/own.log").count("UP") == 1, "OpenSM was asked, and its log read")
+            room.check(round_parts.log_of(process, "fab/log") == "fab/log", "a log that is named is that one")
+        room.check(round_parts.log_of(process, None) == "/var/log/opensm.log", "without a process, OpenSM's own")
+        fab(log="")
+    with fake_opensm(room) as process:
+        room.check(round_parts.log_of(process, None) == "/var/log/opensm.log", "and if its command line names none")
+    fab(log="")
+    (room.path / "fab/own.log").unlink()
+
+
+def told_how_to_go_on(room: Room, fab: Fab, ends: Ends) -> None:
+    """Checks which command a round that stops tells, by which it would go on: the words that were typed, but no rounds
+    that are repeated, and no key."""
+    facts, plan, held = (room.text(name) for name in ("t.facts", "t.plan", "round.plan"))
+    loaded = "pairs 25 arrive 25\nbetween adapters pairs 2 arrive 2\nload max {} mean 2.00\n"
+    good = {"facts": facts, "plan": plan, "held": held, "status": "0"}
+    good |= {"loop": "credit loop none\n", "audit": ALL_ARRIVE}
+    loop = {"loop": "credit loop on one lane 0000000000000010/1\nlids 5\n"}
+    fails = {"fails": "send: NOT HELD: 1 of 2 that were set\n", "ends": "1"}
+    busier = {"audit": loaded.format(9), "audit.held": loaded.format(5)}
+    for step, status, files, add in (
+        ("record", 1, {"status": "1"}, "--accept silent"),
+        ("record", 4, {"status": "4"}, None),
+        ("facts", 1, {"facts": room.text("disputed.facts")}, ""),
+        ("audit-plan", 1, {"audit": "pairs 25 arrive 24\n"}, None),
+        ("lids", 1, {"facts": room.text("moved.facts")}, "--accept lids"),
+        ("compare", 1, busier, "--accept busier"),
+        ("next", 1, loop, "--at-once"),
+        ("next", 3, {"moves": "ibsm: rd/now.held: lid 4 moves\n"}, "--at-once"),
+        ("write", 3, {"plan": room.text("hole.plan")}, "--accept holes"),
+        ("send", 1, fails, ""),
+    ):
+        fab(**(good | files))
+        told = ends("--direct --m-key=7 --lmc 0", status, step, "")
+        wanted = None if add is None else f"{ROUND} --settle 0 --direct --m-key KEY --lmc 0 {add}".rstrip()
+        room.check(told["go_on"] == wanted, f"what goes on after {step}: {told['go_on']}, not {wanted}")
+        last = f"; to go on: {wanted}" if wanted else told["verdict"]
+        room.check(told["line"].endswith(last), f"the line of {step}: {told['line']}")
+        for name in files.keys() - good.keys():
+            (room.path / "fab" / name).unlink()
+    fab(**good)
+    with fake_opensm(room) as process:
+        fab(written=room.text("hole.plan"), next=room.text("hole.plan"))
+        told = ends(f"--m-key 7 --opensm {process} --routing spread", 1, "holds", "the subnet does not hold the plan")
+        wanted = f"{ROUND} --settle 0 --m-key KEY --routing spread --direct"
+        room.check(told["go_on"] == wanted, f"what OpenSM does not write, `send` does: {told['go_on']}")
+    fab(written=plan, next=plan, log="", status="1")
+    process = started(room, "--watch", "0.05", "--look", "--lmc=0")
+    line = process.stdout.readline()
+    process.terminate()
+    process.communicate()
+    wanted = f"to go on: {paths.TOOLS / 'round'} rd --programs . --look --lmc=0 --accept silent\n"
+    room.check(line.endswith(wanted), f"one round, and not all again: {line}")
+    fab(status="0")
+
+
+def programs_fail(room: Room, fab: Fab, ends: Ends) -> None:
+    """Checks rounds one of whose programs ends with 5, for want of memory, or as no program ought to."""
+    held = room.text("round.plan")
+    (room.path / "fail.programs").mkdir()
+    for name, words, step in (
+        ("record", "", "record"),
+        ("ibsm facts", "", "facts"),
+        ("ibsm order", "", "order"),
+        ("ibsm plan", "--routing updown", "plan"),
+        ("ibsm audit", "", "audit-plan"),
+        ("ibsm next", "--direct", "next"),
+        ("send", "--direct", "send"),
+    ):
+        program, _, command = name.partition(" ")
+        for status, wanted in (5, 5), (7, 4):
+            for its in "record", "ibsm", "send":
+                script = f'#!/bin/sh\nexec "{room.path}/{its}" "$@"\n'
+                if its == program:
+                    asked = f'case $1 in {command}) ;; *) exec "{room.path}/{its}" "$@" ;; esac\n' if command else ""
+                    script = f"#!/bin/sh\n{asked}echo '{its}: out of memory' >&2\nexit {status}\n"
+                (room.path / "fail.programs" / its).write_text(script)
+                (room.path / "fail.programs" / its).chmod(0o755)
+            fab(held=held)
+            told = ends(f"--programs fail.programs {words}", wanted, step, f"{program}: {program}: out of memory")
+            room.check(told["go_on"] is None and room.text("fab/held") == held, f"{name} with {status}: {told}")
+
+
+def recordings_of_a_round(room: Room, fab: Fab, ends: Ends) -> None:
+    """Checks which of the two recordings of an earlier round is compared with: the later one, whatever their names."""
+    facts = room.text("t.facts")
+    fewer = facts.replace("link 0000000000000020/2 0000000000000030/2 @1\n", "").replace(
+        "link 0000000000000030/2 0000000000000020/2 @1\n", ""
+    )
+    cable = "come cable 0000000000000020/2 0000000000000030/2"
+    for now, after, later, wanted in (
+        (fewer, facts, "after", []),
+        (facts, fewer, "after", [cable]),
+        (facts, fewer, "now", []),
+        (fewer, facts, "now", [cable]),
+        (fewer, None, "now", [cable]),
+        (None, None, "now", []),
+    ):
+        for name, text in ("now", now), ("after", after):
+            path = room.path / f"rd/{name}.facts"
+            path.unlink(missing_ok=True)
+            if text is not None:
+                path.write_text(text)
+                os.utime(path, (2000, 2000) if name == later else (1000, 1000))
+        (room.path / "rd/before.facts").unlink(missing_ok=True)
+        told = ends("--look", 0, "compare", "looked only")
+        room.check(told["changes"] == wanted, f"compared with {later}: {told['changes']}")
 
 
 def waited_for(room: Room) -> None:
     """Checks that a terminal shows which step a round waits for."""
-    room.put(slow=FAKE_RECORD.replace("cp fab/facts", "sleep 3; cp fab/facts"))
-    (room.path / "slow").chmod(0o755)
-    said = tool_checks.on_a_terminal(room, "round", "rd", "--ibsm", "./ibsm", "--record", "./slow", "--look")
+    (room.path / "slow.programs").mkdir()
+    (room.path / "slow.programs/ibsm").symlink_to(room.path / "ibsm")
+    (room.path / "slow.programs/ibsm-record").write_text(FAKE_RECORD.replace("cp fab/facts", "sleep 3; cp fab/facts"))
+    (room.path / "slow.programs/ibsm-record").chmod(0o755)
+    said = tool_checks.on_a_terminal(room, "round", "rd", "--programs", "slow.programs", "--look")
     room.check(re.fullmatch(r"(\r\x1b\[Kround: record, \d+ s)+\r\x1b\[K", said), f"which step is waited for: {said!r}")
 
 
@@ -319,23 +467,18 @@ def not_begun(room: Room) -> None:
     """Checks rounds that do not begin: the folder is in use, a program is missing, or the command line is wrong."""
     with open(room.path / "rd/lock", "w") as lock:
         fcntl.flock(lock, fcntl.LOCK_EX)
-        room.refused("round rd --ibsm ./ibsm --record ./record", "in use")
-    room.refused("round rd --ibsm ./nothing --record ./record", "no program ./nothing", 4)
-    room.refused("round rd --ibsm ./ibsm --record ./nothing", "no program record", 4)
-    room.refused("round rd --ibsm ./ibsm --record ./record --direct --send ./nothing", "no program send", 4)
+        room.refused("round rd --programs .", "in use")
+    room.refused("round rd --programs nothing", "--programs: there is no folder nothing", 4)
+    (room.path / "few.programs").mkdir()
+    (room.path / "few.programs/ibsm").symlink_to(room.path / "ibsm")
+    # Programs that were made or installed here would be found instead.
+    if not (paths.TOOLS / "record/out").exists() and not shutil.which("ibsm-record"):
+        room.refused("round rd --programs few.programs", "no program record", 4)
+        (room.path / "few.programs/record").symlink_to(room.path / "record")
+        room.refused("round rd --programs few.programs --direct", "no program send", 4)
     for words in ("", *(f"rd {options}" for options in ("--lmc 8", "--opensm x", "--routing other"))):
         room.run(f"round {words}", 2)
     room.refused("round rd --direct --opensm 1", "--opensm and --direct exclude each other", 2)
-    for by in "--order x.order", "--routing updown":
-        room.refused(f"round rd --new-order {by}", "--new-order goes with neither --order nor --routing updown", 2)
-    for word, instead in (
-        ("keep-order", "the order is kept without it; --new-order chooses one anew"),
-        ("told-order", "steps go by the best order that there is without it"),
-        ("loops", "--at-once writes the plan all the same, without steps"),
-    ):
-        room.put(gone_conf=f"dir rd\n{word}\n")
-        for words in f"rd --{word}", "--config gone.conf":
-            room.refused(f"round {words}", f"round: error: --{word} is gone: {instead}\n", 2)
 
 
 def by_orders_handed_on(room: Room, fab: Fab, ends: Ends, process: int) -> None:
@@ -388,7 +531,7 @@ def by_steps(room: Room, fab: Fab, ends: Ends, process: int) -> None:
     by_orders_handed_on(room, fab, ends, process)
     fab(held=held, loop="credit loop on one lane 0000000000000010/1 0000000000000020/1\nlids 5 4\n", log="ready\n")
     written = room.text("rd/plan.lfts")
-    loop = "credit loop on one lane 0000000000000010/1 0000000000000020/1; lids 5 4 (--at-once)"
+    loop = "credit loop on one lane 0000000000000010/1 0000000000000020/1; lids 5 4"
     told = ends(
         f"--opensm {process}", 1, "next", f"step 1 is not written, since packets can wait in a loop meanwhile: {loop}"
     )
@@ -419,8 +562,9 @@ def directly(room: Room, fab: Fab, ends: Ends) -> None:
     plan, held = room.text("t.plan"), room.text("round.plan")
     fab(held=held, sent="", log="ready\n", **{"step.1": room.text("hole.plan")})
     (room.path / "rd/plan.lfts").unlink()
-    told = ends("--direct --ca mlx5_0 --m-key 7", 0, "audit", "the subnet holds the plan", settle=0.1)
-    sent = "--ca mlx5_0 --m-key 7 --holes --quiet rd/step.tables\n"
+    given = "--ca mlx5_0 --m-key 7 --m-keys guid2mkey"
+    told = ends(f"--direct {given}", 0, "audit", "the subnet holds the plan", settle=0.1)
+    sent = f"{given} --holes --quiet rd/step.tables\n"
     room.check(
         len(told["steps"]) == 2 and room.text("fab/sent") == 2 * sent, f"each step is sent: {room.text('fab/sent')}"
     )
@@ -432,7 +576,7 @@ def directly(room: Room, fab: Fab, ends: Ends) -> None:
     room.check(room.text("fab/log") == "ready\n", "OpenSM is not asked")
     (room.path / "fab/step.1").unlink()
     fab(held=held, sent="")
-    told = ends("--direct --at-once --holes --move-lids", 0, "audit", "the subnet holds the plan")
+    told = ends("--direct --at-once --accept holes --accept lids", 0, "audit", "the subnet holds the plan")
     room.check(
         room.text("fab/sent") == "--move-lids --holes --quiet rd/now.plan\n" and not told["steps"],
         "at once the plan is",
@@ -466,11 +610,8 @@ KEPT_ORDERS = (
     ("and more only if packets are lost", KEPT, IMPLIED, 25, (7, 5), "", OWN),
     ("and then stays", KEPT, IMPLIED, 24, None, "", KEPT),
     ("no plans are compared if the kept order is the rule's own", OWN, IMPLIED, 25, None, "", OWN),
-    ("an order is chosen anew", KEPT, IMPLIED, 25, None, "--new-order", OWN),
-    ("also if packets are lost", KEPT, IMPLIED, 20, None, "--new-order", OWN),
-    ("also if there was none", None, IMPLIED, 25, None, "--new-order", OWN),
     ("an order is kept of the other rule", KEPT, IMPLIED, 25, (5, 5), "--routing spread", KEPT),
-    ("also with roots", KEPT, IMPLIED, 25, (7, 5), "--roots x.roots --lmc 1", OWN),
+    ("or not, with an LMC", KEPT, IMPLIED, 25, (7, 5), "--routing spread --lmc 1", OWN),
 )
 
 
@@ -489,14 +630,13 @@ def by_a_kept_order(room: Room, fab: Fab) -> None:
         if loads:
             audits |= {"audit.best": loaded.format(loads[0]), "audit.own": loaded.format(loads[1])}
         fab(ordered="", planned="", held=held, **audits)
-        room.prints(f"round rd --ibsm ./ibsm --record ./record --look {words}", 0, "compare: looked only")
-        rule = "spread" if "spread" in words or "roots" in words else "balance"
-        roots, lmc = (" --roots x.roots", " --lmc 1") if "roots" in words else ("", "")
-        asks = before is None and arrive and "new" not in words
+        room.prints(f"round rd --programs . --look {words}", 0, "compare: looked only")
+        rule, lmc = "spread" if "spread" in words else "balance", " --lmc 1" if "lmc" in words else ""
+        asks = before is None and arrive > 0
         tried = "kept" if before is not None else "implied"
         room.check(
             room.text("fab/ordered").splitlines()
-            == [f"order --routing {rule}{roots} rd/now.reports"] + ["order --held rd/now.held rd/now.reports"] * asks,
+            == [f"order --routing {rule} rd/now.reports"] + ["order --held rd/now.held rd/now.reports"] * asks,
             f"{what}: {room.text('fab/ordered')}",
         )
         room.check(
@@ -574,17 +714,18 @@ def over_cuts(room: Room, program: pathlib.Path, name: str) -> None:
     planned = subprocess.run(words, cwd=room.path, capture_output=True, check=True).stdout
     (room.path / "fab/held").write_bytes(planned)
     shutil.rmtree(room.path / "rc", ignore_errors=True)
+    shutil.rmtree(room.path / "real.programs", ignore_errors=True)
+    (room.path / "real.programs").mkdir()
+    for file, its in (("ibsm", program), ("record", room.path / "record"), ("send", room.path / "send")):
+        (room.path / "real.programs" / file).symlink_to(its)
     for number in range(9):
         if number % 4 == 3:
             down.remove(chance.choice(sorted(down)))
         elif number:
             down.add(chance.choice([cable for cable in cables if cable not in down]))
         (room.path / "fab/facts").write_bytes(facts())
-        room.run(
-            f"round rc --ibsm {program} --record ./record --send ./send --settle 0 --direct "
-            "--routing balance --busier --holes",
-            0,
-        )
+        words = "--settle 0 --direct --routing balance --accept busier,holes"
+        room.run(f"round rc --programs real.programs {words}", 0)
         told = json.loads(room.text("rc/status.json"))
         room.check(
             told["verdict"].startswith("the subnet holds the plan")
@@ -623,10 +764,12 @@ def changes_told(room: Room, fab: Fab, ends: Ends) -> None:
         f"; 5 pairs were lost, for {lost['seconds']:.1f} s at most; " in told["line"], f"for how long: {told['line']}"
     )
     room.check(
-        told["line"].endswith("; busiest channel 3 > 10, mean 1.25 > 2.00"), f"how busy channels are: {told['line']}"
+        told["line"].endswith("; busiest channel 3 > 10, 2.4 > 5.0 times the mean"),
+        f"how busy channels are: {told['line']}",
     )
+    load = {"max": 10, "mean": 2.0}
     room.check(
-        told["load"] == {"plan": {"max": 10, "mean": 2.0}, "held": {"max": 3, "mean": 1.25}}, f"load: {told['load']}"
+        told["load"] == {"plan": load, "held": {"max": 3, "mean": 1.25}, "balance": load}, f"load: {told['load']}"
     )
     fab(held=held, loop="credit loop on one lane 0000000000000010/1\nlids 5\n")
     told = ends("--direct", 1, "next", "step 1 is not written")
@@ -645,14 +788,14 @@ def loads_told(room: Room, fab: Fab, ends: Ends) -> None:
     """Checks which loads of channels a round accepts."""
     facts, held = room.text("t.facts"), room.text("round.plan")
     for most, pairs, words, status in (
-        (6, 2, "", 0), (7, 2, "", 1), (7, 2, "--busier", 0), (7, 2, "--look", 0), (12, 4, "", 0)
+        (6, 2, "", 0), (7, 2, "", 1), (7, 2, "--accept busier", 0), (7, 2, "--look", 0), (12, 4, "", 0)
     ):
         audits = {"audit": pairs, "audit.held": 2}
         for name, count in audits.items():
             load = f"load max {most if name == 'audit' else 5} mean 2.00\n"
             audits[name] = f"pairs 25 arrive 25\nbetween adapters pairs {count} arrive {count}\n{load}"
         fab(held=held, facts=facts, loop="credit loop none\n", **audits)
-        verdict = "carries 7 routes, and what is held 5 (--busier)" if status else "the subnet holds the plan"
+        verdict = "carries 7 routes, and what is held 5" if status else "the subnet holds the plan"
         ends(
             f"--direct {words}",
             status,
@@ -665,6 +808,52 @@ def loads_told(room: Room, fab: Fab, ends: Ends) -> None:
     fab(audit="pairs 25 arrive 25\n")
 
 
+def beside_balance(room: Room, fab: Fab, ends: Ends) -> None:
+    """Checks what is told of how busy channels are by a plan by `balance`, and when one is made for it."""
+    facts, plan, held = (room.text(name) for name in ("t.facts", "t.plan", "round.plan"))
+    texts = {
+        name: f"pairs 25 arrive 25\nbetween adapters pairs 2 arrive 2\nload max {most} mean 2.00\n"
+        for name, most in (("audit", 6), ("audit.held", 6), ("audit.balance", 5), ("audit.best", 6), ("audit.own", 6))
+    }
+    kept, made = room.path / "rd/kept.order", "plan --routing balance --lmc 0 rd/now.reports"
+    fab(facts=facts, loop="credit loop none\n", **texts)
+    for words, order, told, most, is_made in (
+        ("--routing spread", OWN, "busiest channel 6 > 6, 3.0 > 3.0 times the mean, by balance 5, 2.5 times", 5, True),
+        ("--routing updown", OWN, "busiest channel 6 > 6, 3.0 > 3.0 times the mean, by balance 5, 2.5 times", 5, True),
+        ("--order x.order", OWN, "busiest channel 6 > 6, 3.0 > 3.0 times the mean, by balance 5, 2.5 times", 5, True),
+        # The rule's own order, and a kept one that is not.
+        ("", OWN, "busiest channel 6 > 6, 3.0 > 3.0 times the mean", 6, False),
+        ("", KEPT, "busiest channel 6 > 6, 3.0 > 3.0 times the mean, by balance 6, 3.0 times", 6, False),
+    ):
+        for look in "--look", "--direct":
+            kept.write_text(order)
+            fab(held=held, planned="")
+            status = ends(f"{look} --lmc 0 {words}", 0, "compare" if look == "--look" else "audit", "")
+            planned = room.text("fab/planned").splitlines()
+            room.check(status["line"].endswith(f"; {told}"), f"{words}: {status['line']}")
+            room.check(status["load"]["balance"] == {"max": most, "mean": 2.0}, f"{words}: {status['load']}")
+            room.check(planned.count(made) == is_made and (not is_made or planned[-1] == made), f"{words}: {planned}")
+    fab(held=plan, **{"audit.held": texts["audit"]})
+    status = ends("--direct --lmc 0 --routing spread", 0, "audit", "the subnet holds the plan")
+    wanted = "the subnet holds the plan; busiest channel 6, 3.0 times the mean, by balance 5, 2.5 times"
+    room.check(status["line"] == wanted, f"where nothing differs: {status['line']}")
+    # A plan for comparison that fails does not change how a round ends; none is made for a kept order while packets are
+    # lost, and none if no channel is known.
+    fab(**{"audit.balance": "no audit\n"})
+    status = ends("--direct --lmc 0 --routing spread", 0, "audit", "the subnet holds the plan")
+    room.check("balance" not in status["load"], f"without an audit of it: {status['load']}")
+    kept.write_text(KEPT)
+    fab(held=held, planned="", **{"audit.held": texts["audit.held"].replace("arrive 25", "arrive 24")})
+    status = ends("--look --lmc 0", 0, "compare", "")
+    room.check("balance" not in status["load"] and made not in room.text("fab/planned"), "while packets are lost")
+    kept.write_text(OWN)
+    for name in texts:
+        (room.path / "fab" / name).unlink()
+    fab(audit=ALL_ARRIVE, planned="")
+    status = ends("--look --lmc 0 --routing spread", 0, "compare", "")
+    room.check(status["load"] == {} and made not in room.text("fab/planned"), f"without channels: {status['load']}")
+
+
 def silence(room: Room, fab: Fab, ends: Ends) -> None:
     """Checks that silent nodes are left out, and that a known adapter stays."""
     facts, plan = room.text("t.facts"), room.text("t.plan")
@@ -675,8 +864,7 @@ def silence(room: Room, fab: Fab, ends: Ends) -> None:
     held = plan.replace("lid 5 0000000000000200/1\n", "")
     fab(facts=quiet, stored=claimed, held=held, status="1", sent="", asked="", **{"step.1": plan})
     told = ends("--direct", 1, "record", "the record has gaps")
-    room.check("(--silent goes on without)" in told["verdict"], "it says which option goes on")
-    told = ends("--direct --silent", 0, "audit", "the subnet holds the plan")
+    told = ends("--direct --accept silent", 0, "audit", "the subnet holds the plan")
     room.check(
         (room.path / "rd/now.store").read_bytes() == record_files.store_of(claimed), "planned is what was known before"
     )
@@ -701,7 +889,7 @@ def silent_switches(room: Room, fab: Fab, ends: Ends) -> None:
         "link 0000000000000030/2 0000000000000020/2 @1\n", ""
     )
     fab(facts=cut, held=plan)
-    told = ends("--silent --look", 0, "compare", "looked only")
+    told = ends("--accept silent --look", 0, "compare", "looked only")
     room.check(
         told["silent"]["ports"] == ["0000000000000020/2", "0000000000000030/2"] and not told["silent"]["kept"],
         f"{told['silent']}",
@@ -711,7 +899,7 @@ def silent_switches(room: Room, fab: Fab, ends: Ends) -> None:
         line for line in facts.splitlines(True) if "0000000000000030" not in line and "0000000000000200" not in line
     )
     fab(facts=facts.replace("cap 0000000000000030 1024 @1\n", ""), stored=left, held=plan)
-    told = ends("--silent --look", 0, "compare", "looked only")
+    told = ends("--accept silent --look", 0, "compare", "looked only")
     room.check(
         (room.path / "rd/now.store").read_bytes() == record_files.store_of(left),
         "a switch without its size is left out",
@@ -725,7 +913,7 @@ def lids_of_the_silent(room: Room, fab: Fab, ends: Ends) -> None:
     """Checks that no port gets the LID of a silent one."""
     facts, plan = room.text("t.facts"), room.text("t.plan")
     fab(facts=facts.replace("claim 0000000000000030/0 0", "claim 0000000000000030/0 5"), held=plan, status="0")
-    ends("--look --move-lids", 0, "compare", "looked only")
+    ends("--look --accept lids", 0, "compare", "looked only")
     fab(
         facts=facts.replace("cap 0000000000000030 1024 @1\n", ""),
         plan=plan.replace("lid 3 0000000000000030/0\n", ""),
@@ -737,7 +925,7 @@ def lids_of_the_silent(room: Room, fab: Fab, ends: Ends) -> None:
         )
     )
     ends(
-        "--silent --look",
+        "--accept silent --look",
         1,
         "lids",
         "0000000000000100/1 would get LID 5 of 0000000000000030/0, which may be silent alone",
@@ -768,10 +956,10 @@ def by_a_file(room: Room, fab: Fab) -> None:
     """Checks options in a file, and the rule if none is named. Options of the command line take precedence."""
     room.put(round_conf="# where\ndir rd\nrouting spread  # a rule\nlmc=0\nlook\n\n", bad_conf="dir rd\nsing\n")
     fab(planned="")
-    words = "--ibsm ./ibsm --record ./record"
+    words = "--programs ."
     room.prints(f"round --config round.conf {words}", 0, "compare: looked only")
     room.prints(f"round --config round.conf {words} --routing updown", 0, "compare: looked only")
-    for more in "", "--order x.order", "--roots x.roots":
+    for more in "", "--order x.order":
         room.prints(f"round rd --look {words} {more}", 0, "compare: looked only")
     wanted = [
         f"plan --routing {rule} rd/now.reports"
@@ -780,7 +968,6 @@ def by_a_file(room: Room, fab: Fab) -> None:
             "updown --lmc 0",
             f"balance {IN_ORDER}",
             "balance --order x.order",
-            f"spread {IN_ORDER}",
         )
     ]
     room.check(room.text("fab/planned").splitlines() == wanted, f"options of a file: {room.text('fab/planned')}")
@@ -789,12 +976,49 @@ def by_a_file(room: Room, fab: Fab) -> None:
     room.refused(f"round --config nothing {words}", "nothing", 4)
 
 
+def files_of_options(room: Room) -> None:
+    """Checks that what is wrong in a file of options is told with its line, and on the command line with its option."""
+    good = "dir rd\n\n# a comment\nlook\n"
+    for line, why, status in (
+        ("sing", "unrecognized arguments: --sing", 2),
+        ("lmc 8", "argument --lmc: invalid choice: 8", 2),
+        ("lmc", "argument --lmc: expected one argument", 2),
+        ("opensm x", "argument --opensm: invalid int value", 2),
+        ("direct 5", "--direct takes no value: 5", 2),
+        ("accept silent,loud", "argument --accept: 'loud' is none of silent, lids, busier, holes", 2),
+        *((word.removeprefix("--"), f"{word} is gone: {instead}", 2) for word, instead in round_words.GONE.items()),
+        ("order nothing", "there is no file nothing", 4),
+        ("programs=nothing", "there is no folder nothing", 4),
+        ("programs fab", "fab has none of ibsm, record and send", 4),
+    ):
+        room.put(bad_conf=f"{good}{line}\nrouting spread\n")
+        # The command line comes first, so what it names must not be in the way of what is tried.
+        programs = "" if "programs" in line else "--programs ."
+        room.run(f"round --config bad.conf {programs}", status)
+        room.check(f"bad.conf:5: {why}" in room.said, f"`{line}` in a file: {room.said[-300:]}")
+        if line == "direct 5":
+            continue
+        words = f"--{line}"
+        room.run(f"round rd --look {programs} {words}", status)
+        where = f"{words.partition('=')[0].partition(' ')[0]}: {why}" if status == 4 else why
+        room.check(where in room.said and "bad.conf" not in room.said, f"{words}: {room.said[-300:]}")
+    first = "bad.conf:1: "
+    for line, words, where in (("t.facts", "", first), ("rd", "t.facts", ""), ("t.facts/x", "", first)):
+        room.put(bad_conf=f"dir {line}\nlook\n")
+        room.run(f"round --config bad.conf --programs . {words}", 4)
+        room.check(re.match(rf"round: {where}t\.facts(/x)?: ", room.said), f"`dir {line}`: {room.said}")
+    room.put(log_conf=f"{good}log nothing.log\n", more_conf=f"{good}accept holes\naccept silent,lids  # two\n")
+    room.prints("round --config log.conf --programs .", 0, "compare: looked only")
+    room.check(room.said == "round: log.conf:5: there is no log nothing.log yet\n", f"a log to come: {room.said}")
+    options = round_words.read_words(["--config", str(room.path / "more.conf"), "--accept", "busier"], "")
+    room.check(options.accept == ["holes", "silent", "lids", "busier"], f"what a file accepts: {options.accept}")
+    room.check(options.silent and options.holes and options.busier and options.move_lids, "is accepted")
+    room.run("round --config nothing --programs .", 4)
+
+
 def started(room: Room, *words: str) -> subprocess.Popen[str]:
     """Starts repeated rounds, and returns the process, whose lines can be read."""
-    words = [
-        sys.executable, paths.TOOLS / "round", "rd", "--ibsm", "./ibsm", "--record", "./record", "--send", "./send",
-        *words,
-    ]
+    words = [sys.executable, paths.TOOLS / "round", "rd", "--programs", ".", *words]
     return subprocess.Popen(words, cwd=room.path, stdout=subprocess.PIPE, text=True, stdin=subprocess.DEVNULL)
 
 
@@ -836,19 +1060,7 @@ def watched_by_log(room: Room, fab: Fab) -> None:
 
 def watched(room: Room) -> None:
     """Checks that rounds go on until a signal, with one line each."""
-    words = [
-        sys.executable,
-        paths.TOOLS / "round",
-        "rd",
-        "--ibsm",
-        "./ibsm",
-        "--record",
-        "./record",
-        "--look",
-        "--watch",
-        "0.05",
-    ]
-    process = subprocess.Popen(words, cwd=room.path, stdout=subprocess.PIPE, text=True, stdin=subprocess.DEVNULL)
+    process = started(room, "--look", "--watch", "0.05")
     lines = [process.stdout.readline() for _ in range(3)]
     process.terminate()
     process.communicate()

@@ -14,7 +14,7 @@ from itertools import compress
 from typing import Any
 
 import progress
-from audits import Auditor, stored
+from audits import Auditor, audit_in, stored
 from differences import apart
 from ibsm_texts import End, Facts, Plan, end_in, name_of
 from json_forms import AuditRead
@@ -162,6 +162,13 @@ class Losses:
         plan = pathlib.Path(f"{store}.plan")
         plan.write_text(printed_by(self.auditor.program, "plan", *self.rule, store))
         return changed(self.held, Plan(plan))
+
+    def load_by(self, rule: str) -> dict[str, float] | None:
+        """Returns how busy channels are by a plan by a rule if nothing is cut: the most on one, and the mean."""
+        store = self.auditor.put(self.store.without())
+        plan = self.auditor.room / f"{rule}.plan"
+        plan.write_text(printed_by(self.auditor.program, "plan", "--routing", rule, *lmc_of(self.held), store))
+        return audit_in(printed_by(self.auditor.program, "audit", plan, store, statuses=(0, 1))).spreads["load"]
 
     def row(self, cut: Cut) -> tuple[int, ...]:
         """Returns what is lost by a cut, and what a plan without it changes."""

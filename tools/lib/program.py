@@ -15,13 +15,13 @@ BUILT = TOOLS.parent / "crates/ibsm/out"
 BESIDE = BUILT / "ibsm", BUILT / "unproved/ibsm", TOOLS / "ibsm"
 
 
-def the_program(named: str | None = None) -> str:
+def the_program(named: str | None = None, by: str = "--ibsm") -> str:
     """Returns the program that is named or, if none is, the one built or installed beside these tools, or else the one
-    on the path."""
+    on the path. `by` is the option that names one."""
     beside = [os.fspath(path) for path in BESIDE if os.access(path, os.X_OK)]
     found = shutil.which(named) if named else beside[0] if beside else shutil.which("ibsm")
     if not found:
-        raise OSError(f"there is no program {named or 'ibsm'}: build it by ./ibsm, or name one by --ibsm")
+        raise OSError(f"there is no program {named or 'ibsm'}: build it by ./ibsm, or name one by {by}")
     return found
 
 
@@ -37,13 +37,13 @@ def printed_by(program: str, *words: object, statuses: Container[int] = (0,)) ->
     return run.stdout
 
 
-def made_in_c(name: str, named: str | None = None) -> str:
+def made_in_c(name: str, named: str | None = None, by: str | None = None) -> str:
     """Returns the program `record` or `send`: the one that is named or, if none is, the one made or installed beside
-    these tools, or else the one on the path."""
+    these tools, or else the one on the path. `by` is the option that names one."""
     beside = [TOOLS / "record/out" / name, TOOLS.parent.parent / f"bin/ibsm-{name}"]
     found = shutil.which(named or next((path for path in beside if os.access(path, os.X_OK)), f"ibsm-{name}"))
     if not found:
-        raise OSError(f"there is no program {name}: make -C tools/record makes it, or name one by --{name}")
+        raise OSError(f"there is no program {name}: make -C tools/record makes it, or name one by {by or f'--{name}'}")
     return found
 
 

@@ -106,15 +106,17 @@ def what_if(parts: dict[str, Any]) -> str:
         return section(
             "What if a cable goes", paragraph("Facts are disputed, or nothing has a LID: no cable is cut in thought.")
         )
-    rows, count, harmless, uncut = parts["cuts"]
+    cuts = parts["cuts"]
+    uncut = cuts.uncut
     head = ("cable", "pairs of adapters lost", "all pairs lost", "cut off", "entries", "on switches")
-    told = f"{count:,} cables between switches; without {harmless:,} of them no packet between adapters is lost."
+    told = f"{cuts.count:,} cables between switches; without {cuts.harmless:,} of them no packet between adapters is "
+    told += "lost."
     entries = f"Entries are those that a new plan by {uncut.rule} changes."
     if uncut.entries:
         which = "The held tables are of another rule" if uncut.is_asked else "The held tables follow no rule of plans"
         base = f"changes {uncut.entries:,} entries on {uncut.switches:,} switches even if nothing is cut"
         entries += f" {which}: a plan by {uncut.rule} {base}, and these count in each line."
-    rows = [(Raw(cable), *figures) for cable, *figures in rows]
+    rows = [(Raw(cable), *figures) for cable, *figures in cuts.rows]
     return section("What if a cable goes", paragraph(f"{told} {entries}"), table(head, rows, range(1, 6)))
 
 
@@ -164,6 +166,7 @@ def picture_section(parts: dict[str, Any]) -> str:
         "Where packets go",
         paragraph(told),
         legend(picture),
+        paragraph(f"{parts['busy'][0].upper()}{parts['busy'][1:]}.") if parts["busy"] else "",
         loop,
         f"<p class=tools>{buttons}</p><div class=picture>{picture.drawing.svg()}</div>",
         f"<p id=told aria-live=polite>{escaped(chosen_first(picture))}</p>",

@@ -1,6 +1,7 @@
 """Parts of `tools/round`: how a round ends, what an audit says of tables, and a running OpenSM."""
 from __future__ import annotations
 
+import contextlib
 import datetime
 import hashlib
 import os
@@ -9,13 +10,22 @@ import re
 import signal
 import time
 
+from loads import times_mean
+
 
 class Ended(Exception):
-    """A round ends here, with this exit status and verdict."""
+    """A round ends here, with this exit status and verdict. What goes on is its command with the words `add`, and
+    without the options `leave_out`; nothing does if `add` is None."""
 
-    def __init__(self, status: int, verdict: str) -> None:
+    def __init__(
+        self, status: int, verdict: str, add: list[str] | None = None, leave_out: tuple[str, ...] = ()
+    ) -> None:
         super().__init__(verdict)
-        self.status, self.verdict = status, verdict
+        self.status, self.verdict, self.add, self.leave_out = status, verdict, add, leave_out
+
+
+# Names the OpenSM that runs instead of another process.
+ANOTHER = ["--opensm", "$(pidof opensm)"], ("--opensm",)
 
 
 def now() -> str:
@@ -63,34 +73,52 @@ class Audit:
         here, there = self.of_adapters or 1, other.of_adapters or 1
         return 5 * self.busiest * there > 6 * other.busiest * here
 
+    def times(self) -> str:
+        """Returns how many times the mean the busiest channel carries."""
+        return times_mean(self.busiest, float(self.mean))
+
+    def load(self) -> dict[str, float]:
+        """Returns how busy channels are, as the status of a round has it."""
+        return {"max": self.busiest, "mean": float(self.mean)}
+
 
 def name_of_process(process: int) -> str:
     """Returns the name of a process. Ends the round if there is none."""
     try:
         return pathlib.Path(f"/proc/{process}/comm").read_text().strip()
     except OSError:
-        raise Ended(3, f"there is no process {process}: has OpenSM ended?") from None
+        raise Ended(3, f"there is no process {process}: has OpenSM ended?", *ANOTHER) from None
 
 
-def file_of_tables(process: int) -> str | None:
-    """Returns the file of tables in the command line of an OpenSM, or None."""
+def file_of(process: int, short: str, long: str) -> str | None:
+    """Returns the file that an option in the command line of an OpenSM names, or None."""
     words = pathlib.Path(f"/proc/{process}/cmdline").read_bytes().decode(errors="surrogateescape").split("\0")
     for i, word in enumerate(words[:-1]):
-        name = words[i + 1] if word in ("-U", "--lfts_file") else None
-        for begin in ("--lfts_file=", "-U"):
+        name = words[i + 1] if word in (short, long) else None
+        for begin in (f"{long}=", short):
             if name is None and word.startswith(begin) and len(word) > len(begin):
                 name = word[len(begin) :]
         if name:
-            return os.path.join(os.readlink(f"/proc/{process}/cwd"), name)
+            return name if os.path.isabs(name) else os.path.join(os.readlink(f"/proc/{process}/cwd"), name)
     return None
+
+
+def log_of(process: int | None, named: str | None) -> str:
+    """Returns OpenSM's log: the one that is named, or else the one in the command line of the process, or else the one
+    that OpenSM writes if nothing is said."""
+    found = named
+    if process is not None and not found:
+        with contextlib.suppress(OSError):
+            found = file_of(process, "-f", "--log_file")
+    return found or "/var/log/opensm.log"
 
 
 def judge_opensm(process: int, plan: str | pathlib.Path) -> None:
     """Ends the round if a process is not an OpenSM, or is one that routes by a file other than `plan`."""
     if (name := name_of_process(process)) != "opensm":
-        raise Ended(3, f"process {process} is {name}, not opensm")
+        raise Ended(3, f"process {process} is {name}, not opensm", *ANOTHER)
     try:
-        named = file_of_tables(process)
+        named = file_of(process, "-U", "--lfts_file")
     except OSError:
         return
     if named and os.path.realpath(named) != os.path.realpath(plan):
@@ -113,7 +141,7 @@ def ask_for_sweep(process: int, log: str, seconds: float) -> None:
                 raise Ended(3, f"OpenSM {process} has ended meanwhile")
             time.sleep(0.05)
     raise Ended(
-        1, f"{log} does not say SUBNET UP within {seconds:g} seconds; without -d 2 OpenSM keeps its log in memory"
+        1, f"{log} does not say SUBNET UP within {seconds:g} seconds; without -d 2 OpenSM keeps its log in memory", []
     )
 
 
@@ -140,15 +168,3 @@ class Log:
                 return b"SUBNET UP" in file.read()
         except OSError:
             return True
-
-
-def words_of(path: str | pathlib.Path) -> list[str]:
-    """Returns the words of a file of options: each line has an option as on the command line, without its --, and its
-    value."""
-    words = []
-    with open(path, encoding="utf-8") as file:
-        for line in file:
-            word, *value = line.partition("#")[0].replace("=", " ", 1).split(None, 1) or [""]
-            if word:
-                words += ([] if word == "dir" else [f"--{word}"]) + [part.strip() for part in value]
-    return words
