@@ -23,6 +23,7 @@ echo '  -q, --quiet            neither'
 """
 
 TOOLS_IN_C = "ibsm-record", "ibsm-send", "ibsm-seat"
+UNITS = [f"ibsm-{name}{many}.service" for name in ("round", "seat") for many in ("", "@")]
 
 
 def run(words: Iterable[object], **how: Any) -> subprocess.CompletedProcess[str]:
@@ -43,6 +44,8 @@ def installed(room: Room, program: pathlib.Path) -> None:
     laid = run([paths.TOOLS / "stage", room.path / "stage", made / "ibsm", made])
     room.check(laid.returncode == 0 and laid.stdout.endswith("proved\n"), f"it is laid out: {laid.stdout}{laid.stderr}")
     to = room.path / "to"
+    # A folder that is there before, and stays.
+    (to / "share/man").mkdir(parents=True)
     done = run([room.path / "stage/install.sh", to])
     room.check(done.returncode == 0, f"it is installed: {done.stdout}{done.stderr}")
     tools = sorted(path.name for path in (to / "bin").iterdir())
@@ -60,6 +63,13 @@ def installed(room: Room, program: pathlib.Path) -> None:
     unit = (units / "ibsm-seat.service").read_text()
     room.check(seat in unit, "the paths of the seat's unit")
     room.check("\nKillMode=mixed\n" in unit, "the seat alone gets SIGTERM: its child answers until it has handed over")
+    for name, lines in (
+        ("ibsm-seat@.service", (seat, "--status /run/ibsm-seat/%i/seat.json $OPTIONS", "=/etc/ibsm/seat-%i.conf\n")),
+        ("ibsm-round@.service", (f"ExecStart={to}/bin/ibsm-round /var/lib/ibsm/%i ", "=/etc/ibsm/round-%i.conf\n")),
+    ):
+        there = (units / name).read_text()
+        room.check(all(line in there for line in lines), f"{name}: one of several ports: {there}")
+    room.check(sorted(path.name for path in units.iterdir()) == sorted(UNITS), "and no other units")
     completed(room, to, program)
     taken_off(room, to, told)
 
@@ -149,6 +159,7 @@ def completed(room: Room, to: pathlib.Path, program: pathlib.Path) -> None:
         ("ibsm-draw --le", "--levels"),
         ("ibsm-record --q", "--quiet"),
         ("/x/ibsm-round --d", "--direct"),
+        ("ibsm-round --accept l", "lids"),
     ):
         code = (
             f'. {script}; COMP_WORDS=({words}); COMP_CWORD=$((${{#COMP_WORDS[@]}}-1)); _ibsm; echo "${{COMPREPLY[*]}}"'
@@ -164,6 +175,25 @@ def completed(room: Room, to: pathlib.Path, program: pathlib.Path) -> None:
             room.check(there == set(options.split()), f"options of {command}: {sorted(there)}")
 
 
+def without_a_trace(room: Room) -> None:
+    """Checks that nothing is left of an installation that was made twice, in a folder that was not there, and of one by
+    a version that lists no folders."""
+    for prefix, there, lists_none, times in (("new/usr", "new", False, 2), ("/usr", "root", True, 1)):
+        words = [room.path / prefix] if there == "new" else [prefix, room.path / "root"]
+        (room.path / there).mkdir()
+        for _ in range(times):
+            done = run([room.path / "stage/install.sh", *words])
+            room.check(done.returncode == 0, f"it is installed: {done.stderr}")
+        lib = room.path / there / "usr/lib/ibsm"
+        (lib / "lib/__pycache__").mkdir()
+        if lists_none:
+            (lib / "made").unlink()
+        done = run([paths.TOOLS / "install.sh", "--uninstall", *words])
+        left = [path for path in (room.path / there).rglob("*") if not (lists_none and path.is_dir())]
+        room.check(done.returncode == 0 and not left, f"nothing is left of {words}: {left} {done.stderr}")
+        room.check(not lib.exists(), f"nor is {lib}")
+
+
 def taken_off(room: Room, to: pathlib.Path, told: list[str]) -> None:
     """Checks that uninstalling removes what was installed and nothing else, and that changed files are not
     installed."""
@@ -173,7 +203,10 @@ def taken_off(room: Room, to: pathlib.Path, told: list[str]) -> None:
     room.check(
         done.returncode == 0 and left == ["bin/other"] and len(told) > 40, f"it is taken off: {left} {done.stderr}"
     )
+    folders = sorted(str(path.relative_to(to)) for path in to.rglob("*") if path.is_dir())
+    room.check(folders == ["bin", "share", "share/man"], f"and no folder that was made for it: {folders}")
     room.check(run([paths.TOOLS / "install.sh", "--uninstall", to]).returncode == 1, "once alone")
+    without_a_trace(room)
     with open(room.path / "stage/tree/lib/ibsm/lib/version.py", "a") as file:
         file.write("#\n")
     done = run([room.path / "stage/install.sh", to])
