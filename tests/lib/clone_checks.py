@@ -43,7 +43,7 @@ def run_command(line: str, clone: pathlib.Path, environment: dict[str, str]) -> 
     """Runs a command in the clone, and ends the test if it fails."""
     began = time.monotonic()
     run = subprocess.run(line, shell=True, cwd=clone, env=environment, capture_output=True, stdin=subprocess.DEVNULL)
-    wanted = 1 if line.endswith("# ends with 1") else 0
+    wanted = 1 if line.endswith("# exit status 1") else 0
     print(f"{'ok   ' if run.returncode == wanted else 'WRONG'} {line}: {time.monotonic() - began:.0f} s", flush=True)
     if run.returncode != wanted:
         said = run.stderr.decode(errors="replace")
