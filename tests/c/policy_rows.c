@@ -24,7 +24,7 @@ struct own_port own_port = { .guid = 0x101, .number = 1, .name = "port 1" };
 struct carried carried;
 static struct answer answers[MOST_ANSWERS];
 static double clock_now = BEGIN;
-static int busy, gone, silent, taken, is_hushed;
+static int busy, gone, silent, answered, acknowledged, is_hushed;
 static unsigned not_active, of_others;
 static double paused;
 
@@ -135,25 +135,15 @@ void drop_all(void)
 	act("drop");
 }
 
-void give_up_queued(void)
-{
-	act("give up queued");
-}
-
 void give_up_all(void)
 {
 	act("give up");
 	busy = 0;
 }
 
-void queue_handover(unsigned lid)
+int handover_is_acknowledged(void)
 {
-	act("handover packet to %u", lid);
-}
-
-int handover_is_taken(void)
-{
-	return taken;
+	return acknowledged;
 }
 
 void announce_manager(void)
@@ -175,6 +165,8 @@ void carry(int wait_ms)
 {
 	(void) wait_ms;
 	clock_now += WAIT;
+	if (answered)
+		heard_news();
 }
 
 void begin_silent(void)
@@ -259,8 +251,10 @@ static void set_number(const char *name, double value)
 		busy = value;
 	else if (!strcmp(name, "gone"))
 		gone = value;
-	else if (!strcmp(name, "taken"))
-		taken = value;
+	else if (!strcmp(name, "answered"))
+		answered = value;
+	else if (!strcmp(name, "acknowledged"))
+		acknowledged = value;
 	else if (!strcmp(name, "unanswered"))
 		silent = value;
 	else if (!strcmp(name, "not-active"))

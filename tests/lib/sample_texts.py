@@ -63,12 +63,14 @@ SCHEDULE_FAULTS = (
         'cut "S 1"[256]', 'cut "S 1" [1]', "cut S[1]",
         'cut ""[1]', 'plug "S 1"[1]', 'ping "S 1"[1]', 'ping "S 1"[1] 65536', 'ping "S 1"[1] 0x1',
         'manager c "H1"[2] 16', 'manager c "H1"[2]', 'manager c "H1"[2] 1 1', "write", "handover", "handover A b2",
+        "yield", "yield A b2", "rediscover", "rediscover A b2", "Yield A",
         "poll", "poll 1 A 1", "poll A 65536", "floor A", "floor A 0", "floor A 4294967296", "state", "silent",
         "Silent A", "silent A b2", "written", "write A b2", "writte A", "written A b2", "State A",
         'manager A "S 1"[0] 16',
     )),
     *((line, "line 3: name") for line in (
-        "sweep a", "merge A c\nx", "merge c A", "handover c", "poll c", "poll c 1", "floor c 1", "state c", "silent c",
+        "sweep a", "merge A c\nx", "merge c A", "handover c", "yield c", "rediscover c", "poll c", "poll c 1",
+        "floor c 1", "state c", "silent c",
         "written c", 'cut "S"[1]', 'plug "H1"[1] "S"[1]', 'plug "S"[1] "H1"[1]', 'ping "S"[1] 1', 'manager A "H1"[2] 0',
         'manager A "S 1"[0] 0', 'manager c "S"[0] 0',
     )),
@@ -81,6 +83,7 @@ SCHEDULE_FAULTS = (
 # Lines that are accepted, and what they print.
 LINES = (
     ("sweep A", ""), ("merge b2 A", ""), ("merge A A", ""), ("handover b2", "refused NotMaster\n"),
+    ("yield b2", "refused NotMaster\n"), ("rediscover A", "refused NotStandby\n"),
     ("poll A", "refused NotStandby\n"), ("poll b2 065535", "refused NotStandby\n"), ("floor b2 4294967295", ""),
     ("timeout b2", ""), ("facts A", ""), ("plan b2", ""),
     ("progress b2", "progress b2 never\n"), ("silent b2", "silent b2 never\n"), ("silent\tA #", "silent A never\n"),

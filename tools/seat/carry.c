@@ -20,7 +20,6 @@ enum { INITIALIZE = 2, ARMED = 3 };
 
 struct packet {
 	uint16_t lid;
-	uint8_t is_own;		/* made here: the process neither printed it nor hears of it */
 	uint8_t bytes[PACKET];
 };
 
@@ -37,7 +36,7 @@ static int umad = -1, directed, routed, issm = -1;
 static struct packet *queue;
 static size_t head, tail, room;
 static struct out outs[MOST_OUT];
-static int out_count, is_taken;
+static int out_count, is_acknowledged;
 static uint32_t next_number;
 static char silent[MOST_SILENT][SILENT_TEXT];
 static size_t silent_count;
@@ -185,23 +184,9 @@ void queue_packet(const char *hex, unsigned lid)
 	}
 }
 
-int handover_is_taken(void)
+int handover_is_acknowledged(void)
 {
-	return is_taken;
-}
-
-void queue_handover(unsigned lid)
-{
-	struct packet packet = { .lid = lid, .is_own = 1, .bytes = { 1, LID_ROUTED_CLASS, 1, SET } };
-	uint8_t *info = packet.bytes + ATTRIBUTE;
-
-	put(packet.bytes + 16, 2, SM_INFO);
-	put(packet.bytes + 20, 4, HANDOVER);
-	put(info, 8, own_port.guid);
-	put(info + 8, 8, own_key());
-	info[20] = seat.priority << 4 | MASTER;
-	add_to_queue(&packet);
-	is_taken = 0;
+	return is_acknowledged;
 }
 
 static void try_out(struct out *out)
@@ -242,16 +227,17 @@ void drop_all(void)
 {
 	head = tail = 0;
 	out_count = 0;
+	is_acknowledged = 0;
 }
 
-void give_up_queued(void)
+/* Gives up the queued requests, none of which has gone out, and those that are queued because of that. */
+static void give_up_queued(void)
 {
 	struct packet packet;
 
 	while (head < tail) {
 		packet = queue[head++];
-		if (!packet.is_own)
-			tell("timeout %016llx", (unsigned long long) get(packet.bytes + 8, 8));
+		tell("timeout %016llx", (unsigned long long) get(packet.bytes + 8, 8));
 	}
 }
 
@@ -293,8 +279,6 @@ static void give_up(int place)
 
 	outs[place] = outs[--out_count];
 	carried.given_up++;
-	if (out.packet.is_own)
-		return;
 	note_silent(out.packet.bytes);
 	heard_news();
 	tell("timeout %016llx", (unsigned long long) get(out.tid, 8));
@@ -453,9 +437,7 @@ static void on_answer(uint8_t *packet, unsigned lid)
 	if (is_poll(packet))
 		heard_poll((packet[ATTRIBUTE + 20] & 15) == MASTER);
 	outs[place] = outs[--out_count];
-	if (out.packet.is_own)
-		is_taken = !(get(packet + 4, 2) & 0x7fff);
-	if (out.packet.is_own || strncmp(give(packet, lid), "refused ", 8))
+	if (strncmp(give(packet, lid), "refused ", 8))
 		return;
 	carried.refused++;
 	note_silent(out.packet.bytes);
@@ -475,7 +457,10 @@ static void on_request(const uint8_t *packet, unsigned lid)
 {
 	carried.requests++;
 	give(packet, lid);
-	if (packet[3] == SET && get(packet + 16, 2) == SM_INFO && get(packet + 20, 4) == HANDOVER)
+	if (packet[3] != SET || get(packet + 16, 2) != SM_INFO)
+		return;
+	is_acknowledged |= get(packet + 20, 4) == ACKNOWLEDGE;
+	if (get(packet + 20, 4) == HANDOVER)
 		heard_handover();
 }
 

@@ -11,7 +11,7 @@
 #include "seat.h"
 
 enum phase { RESTS, SWEEPS, WRITES, HANDS_OVER };
-enum { LINK_STATE_CHANGED = 128, CAPABILITIES_CHANGED = 144, MOST_REPEATS = 3, MOST_POLLS = 3 };
+enum { LINK_STATE_CHANGED = 128, CAPABILITIES_CHANGED = 144, MOST_REPEATS = 3 };
 enum { LEAVING_MS = 20 };	/* for which a packet is waited meanwhile */
 enum { MOST_WAIT = 10, SHORT_WAIT = 2 };	/* seconds */
 enum { MOST_LOOKS = 3, MOST_HANDOVERS = 3 };	/* at another master, while nothing is written */
@@ -278,53 +278,35 @@ void heard_handover(void)
 }
 
 /* Makes a standby discover anew, since nobody is master: all managers left may be standbys, and each of them answers
-   polls. The process discovers anew if three polls in a row have no answer, so it is made to poll, and these polls
-   are given up without going out. */
+   polls. */
 static void leave_standby(void)
 {
-	int i;
-
 	note(WARNING, "nobody is master");
-	for (i = 0; i < MOST_POLLS; i++) {
-		tell("poll %d", NO_LID);
-		give_up_queued();
-	}
+	tell("rediscover");
 	masterless = 0;
 	heard_news();
+}
+
+/* Has the process send a HANDOVER, unless there is nobody to send it to. */
+static void hand_over_by(const char *line)
+{
+	if (strncmp(tell("%s", line), "refused ", 8))
+		phase = HANDS_OVER;
+	handed_over = 0;
 }
 
 /* Hands the subnet over to a manager that wins over this one, if the sweep saw one. */
 static void hand_over(void)
 {
-	if (strncmp(tell("handover"), "refused ", 8))
-		phase = HANDS_OVER;
-	handed_over = 0;
+	hand_over_by("handover");
 }
 
-/* Returns the LID of a port: that which was written or, if nothing was, that which the port reported. It is 0 if neither
-   is known. */
-static unsigned lid_of(const char *place)
-{
-	const char *line = kept_plan ? kept_plan : tell("facts");
-	char port[sizeof ((struct other *) 0)->place];
-	unsigned lid;
-
-	for (; *line; line = strchr(line, '\n') + 1)
-		if ((sscanf(line, "lid %u %27s", &lid, port) == 2 || sscanf(line, "claim %27s %u", port, &lid) == 2) &&
-		    !strcmp(port, place))
-			return lid;
-	return 0;
-}
-
-/* Sends a HANDOVER to a manager over which this one wins. If that is a master, it looks at the subnet then, and hands
-   over to this one. If it is a standby, it takes over. */
+/* Hands the subnet over to a manager over which this one wins: the greatest master that the sweep saw, or the greatest
+   standby. A master looks at the subnet then, and hands over to this one. A standby takes over. */
 static void yield_to(const struct other *lesser)
 {
-	unsigned lid = lid_of(lesser->place);
-
-	note(NOTICE, "YIELDS to %s at LID %u", called_as(lesser), lid);
-	if (lid)
-		queue_handover(lid);
+	note(NOTICE, "YIELDS to %s", called_as(lesser));
+	hand_over_by("yield");
 }
 
 /* Deals with another master that the sweep saw, and returns whether nothing is to be written now. A greater one gets a
@@ -641,22 +623,24 @@ void policy(void)
 
 void leave(void)
 {
-	const struct other *heir = greatest_heard("standby", NULL);
+	const struct other *heir = greatest_heard("master", NULL);
 	double until = now() + LEAVING;
 
+	if (!heir)
+		heir = greatest_heard("standby", NULL);
 	if (!is_master() || !heir || manager_is_gone() || pause_seen())
 		return;
 	drop_all();	/* the heir writes anew */
 	be_no_manager();	/* or else its first sweep would find a master here, and it would stand by again */
 	yield_to(heir);
-	while (is_master() && now() < until && !manager_is_gone()) {
+	while (!handover_is_acknowledged() && now() < until && !manager_is_gone()) {
 		carry(LEAVING_MS);
-		if (handover_is_taken() && until > now() + ACKNOWLEDGED)
-			until = now() + ACKNOWLEDGED;
 		if (has_news)
 			look_at_state();
 		has_news = 0;
+		if (!is_master() && until > now() + ACKNOWLEDGED)	/* not every manager acknowledges it */
+			until = now() + ACKNOWLEDGED;
 	}
 	note(NOTICE, "HANDOVER to %s, priority %u%s", called_as(heir), heir->priority,
-	     is_master() && !handover_is_taken() ? ", which does not take over" : "");
+	     is_master() && !handover_is_acknowledged() ? ", which does not take over" : "");
 }

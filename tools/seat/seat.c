@@ -1,9 +1,9 @@
 /*
  * seat: the port, the clock and the policy of a subnet manager whose decisions are those of `ibsm serve`.
  *
- * It carries packets between the two, byte for byte, and says when to sweep, to write and to poll. It makes packets
- * itself: a HANDOVER to a lesser manager, and refusals of requests for subnet administration. It is none, and while it
- * is master no host has one. The manual page, seat.1, has the options and exit statuses.
+ * It carries packets between the two, byte for byte, and says when to sweep, to write and to poll. The only packets that
+ * it makes itself are refusals of requests for subnet administration: it is none, and while it is master no host has one.
+ * The manual page, seat.1, has the options and exit statuses.
  */
 #include <errno.h>
 #include <getopt.h>

@@ -6,7 +6,7 @@
 #include <time.h>
 #include "../record/record.h"
 
-enum { SM_INFO = 0x20, MASTER = 3, HANDOVER = 1, NO_LID = 0xffff };
+enum { SM_INFO = 0x20, MASTER = 3, HANDOVER = 1, ACKNOWLEDGE = 2, NO_LID = 0xffff };
 enum class { LID_ROUTED_CLASS = 0x01, ADMINISTRATION_CLASS = 0x03, DIRECTED_CLASS = 0x81 };
 enum method { GET = 1, SET = 2, TRAP = 5, TRAP_REPRESS = 7, RESPONSE = 0x80 };
 enum administration_method { GET_TABLE = 0x12, GET_TRACE_TABLE = 0x13, GET_MULTI = 0x14, DELETE = 0x15 };
@@ -71,14 +71,10 @@ void carry(int wait_ms);
 /* Returns whether nothing is queued or out. */
 int is_at_rest(void);
 void drop_all(void);
-/* Gives up the queued requests, none of which has gone out, and those that are queued because of that. */
-void give_up_queued(void);
-/* Gives up the requests that are out, too. */
+/* Gives up all requests, those that are queued, which have not gone out, and those that are out. */
 void give_up_all(void);
-/* Queues a HANDOVER of this manager to the manager at a LID. The process neither printed it nor gets its answer. */
-void queue_handover(unsigned lid);
-/* Returns whether the last one was answered with status 0. */
-int handover_is_taken(void);
+/* Returns whether another manager has acknowledged a HANDOVER since drop_all. */
+int handover_is_acknowledged(void);
 /* Unanswered requests since a sweep began, as texts; at most MOST_SILENT are kept. */
 enum { MOST_SILENT = 20, SILENT_TEXT = 120 };
 void begin_silent(void);

@@ -37,13 +37,13 @@ use Rattle.manager_laws.specs.Scene.{Handed, Scene, Sending, ByLid, ByPath, Answ
 use Rattle.manager_laws.specs.Scene.{answer_to, answered_from, asks_manager, emitted, emitted_from, sent, sent_from}
 use Rattle.manager_laws.proofs.Answers.{was_there}
 use Rattle.manager_laws.proofs.TracedScenes.{traced_there}
-use Rattle.manager_laws.specs.Managing.{Managing, ManagerEvent, Around, Begin, Write, Take, Send, Hear, TimeOut, Raise, Merge, Poll, HandOver}
+use Rattle.manager_laws.specs.Managing.{Managing, ManagerEvent, Around, Begin, Write, Take, Send, Hear, TimeOut, Raise, Merge, Poll, HandOver, Yield, Rediscover}
 use Rattle.manager_laws.specs.Managing.{CanBe, packet_of, sending, hearing}
 use Rattle.manager_laws.specs.Managing.{after_manager_event, after_manager_events}
 use Rattle.manager_laws.specs.Sets.{Carries, KeepsPlan, OwnSets}
 use Rattle.manager_laws.specs.Written.{Keeps, AllKeep}
 use Rattle.manager_laws.proofs.Before.{is_none-none, takes_first}
-use Rattle.manager_laws.proofs.Calls.{HeardBy, beside_swept, hands_over, packet_comes, polls_beside, time_passes}
+use Rattle.manager_laws.proofs.Calls.{HeardBy, beside_swept, hands_over, packet_comes, polls_beside, rediscovers, time_passes, yields}
 use Rattle.manager_laws.proofs.Fair.{BesideCall, CanGo, IsFair, IsOwnPacket, own_steps, step_is_own, fair_beside, fair_later, fair_taken}
 use Rattle.manager_laws.proofs.Fair.{fair_sent, fair_around}
 use Rattle.manager_laws.proofs.Generations.{all_small, generation_small}
@@ -565,6 +565,10 @@ module _ (start : Simulation) (seat : NodePort) (plan : PlanValue) (c : ℕ) (ph
           beside_writes w _ g (polls_beside start seat plan ground ⊥ w.scene.handed w.manager g.fair.side g.fair.once lid)
       event_writes w HandOver keeps g can_be =
           beside_writes w _ g (hands_over start seat plan ground ⊥ w.scene.handed w.manager g.fair.side g.fair.once)
+      event_writes w Yield keeps g can_be =
+          beside_writes w _ g (yields start seat plan ground ⊥ w.scene.handed w.manager g.fair.side g.fair.once)
+      event_writes w Rediscover keeps g can_be =
+          beside_writes w _ g (rediscovers start seat plan ground ⊥ w.scene.handed w.manager g.fair.side g.fair.once)
 
       pub after_writes : (events : List ManagerEvent) (w : Managing) → AllKeep plan own events w → Writes w → All (CanBe seat) events
           → Writes (after_manager_events events w)

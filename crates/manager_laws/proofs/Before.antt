@@ -19,10 +19,10 @@ use Rattle.sm_manager.specs.ManagerRequests.{is_for_step}
 use Rattle.sm_manager.specs.Writing.{begun_with, without_empty_phases, phases_by, after_write_steps}
 use Rattle.manager_laws.specs.Scene.{Handed}
 use Rattle.manager_laws.proofs.Answers.{was_there}
-use Rattle.manager_laws.specs.Managing.{Managing, ManagerEvent, Around, Begin, Write, Take, Send, Hear, TimeOut, Raise, Merge, Poll, HandOver}
+use Rattle.manager_laws.specs.Managing.{Managing, ManagerEvent, Around, Begin, Write, Take, Send, Hear, TimeOut, Raise, Merge, Poll, HandOver, Yield, Rediscover}
 use Rattle.manager_laws.specs.Managing.{CanBe, taking, sending, hearing, after_manager_event, after_manager_events}
 use Rattle.manager_laws.specs.Written.{BeginsNoWriting, BeginsSweep, SweepsFirst}
-use Rattle.manager_laws.proofs.Calls.{beside_swept, hands_over, packet_comes, polls_beside, time_passes}
+use Rattle.manager_laws.proofs.Calls.{beside_swept, hands_over, packet_comes, polls_beside, rediscovers, time_passes, yields}
 use Rattle.manager_laws.proofs.Fair.{IsFair, fair_taken, fair_sent, fair_around}
 use Rattle.manager_laws.proofs.Generations.{all_small, generation_small}
 use Rattle.manager_laws.proofs.Goes.{Goes, CanGoOn, passed_goes, heard_at_seat, phase_goes, step_goes, beside_goes}
@@ -177,6 +177,10 @@ module _ (start : Simulation) (seat : NodePort) (plan : PlanValue) (ground : Gro
       beside_goes start seat plan old old w _ g (polls_beside start seat plan ground old w.scene.handed w.manager g.fair.side g.fair.once lid)
   event_goes old w HandOver quiet g can_be =
       beside_goes start seat plan old old w _ g (hands_over start seat plan ground old w.scene.handed w.manager g.fair.side g.fair.once)
+  event_goes old w Yield quiet g can_be =
+      beside_goes start seat plan old old w _ g (yields start seat plan ground old w.scene.handed w.manager g.fair.side g.fair.once)
+  event_goes old w Rediscover quiet g can_be =
+      beside_goes start seat plan old old w _ g (rediscovers start seat plan ground old w.scene.handed w.manager g.fair.side g.fair.once)
 
   -- once a sweep began in the run, nothing of an old one is left
   pub between_goes : (events : List ManagerEvent) (w : Managing) → Goes start seat plan ⊥ w → All (CanBe seat) events

@@ -37,6 +37,7 @@ use Rattle.sm_manager.specs.declared.pending.Purpose.TheVariants as purpose
 use Rattle.sm_state.specs.declared.standing.Standing.{Standing}
 use Rattle.sm_manager.specs.Election.{asked, control_sent, after_handover, handed_to, handover_fault, handover_move}
 use Rattle.sm_manager.specs.Election.{successor_lid, poll_fault, after_poll, after_message, if_way_out, is_way_out}
+use Rattle.sm_manager.specs.Election.{after_rediscover, after_yield, heir_lid, rediscover_fault, yield_fault}
 use Rattle.sm_manager.specs.Election.{path_seen, poll_out, poll_path, polled, polled_path, unless_way}
 use Rattle.sm_manager.specs.PlanFaults.{number_fault, or_else}
 use Rattle.sm_manager.specs.declared.fault.ManagerFault.{ManagerFault}
@@ -47,7 +48,7 @@ use Rattle.sm_manager.specs.Packets.{request_gave_up, after_request, after_packe
 use Rattle.sm_manager.specs.ManagerRequests.{is_for_step, is_step, with_number}
 use Rattle.sm_manager.specs.SmInfoAnswers.{acknowledged_at, answer_data, answer_out, answering, controlled, is_control, moved_on, replying, request_counted, served, status_for}
 use Rattle.sm_manager.specs.Traps.{represses, repress_out, repressing, trap_repress}
-use Rattle.sm_state.specs.Standing.{after_request_heard, info_of, info_with, is_in, moved_to}
+use Rattle.sm_state.specs.Standing.{after_request_heard, info_of, info_with, is_in, moved_by, moved_to}
 use Rattle.sm_state.specs.declared.state.SmState.TheVariants.{Standby}
 use Rattle.sm_manager.specs.Writing.{is_done_by, is_spent, after_step, without}
 use Rattle.manager_laws.specs.Scene.{Handed, asks_manager}
@@ -469,14 +470,23 @@ module _ (start : Simulation) (seat : NodePort) (plan : PlanValue) (g : Ground s
         cond_both (is_none (poll_fault m lid)) _ _ (λ (x : Manager). BesideCall start seat plan old handed m x)
         (λ e. polls m side once lid (no_fault (poll_fault m lid) e)) (λ _. stays m side once)
 
-    pub hands_over : BesideCall start seat plan old handed m (if is_none (handover_fault m) then after_handover m else m)
+    hands : (fault : Option ManagerFault) (lid : Option ℕ) → BesideCall start seat plan old handed m (if is_none fault then handed_to m lid else m)
     unfolding Beside
-    hands_over =
-        cond_both (is_none (handover_fault m)) _ _ (λ (x : Manager). BesideCall start seat plan old handed m x) (λ _. to_heir (successor_lid m))
+    hands fault lid =
+        let standing = moved_to (handover_move m).state m.standing in
+        let one = moves m side once standing in
+        cond_both (is_none fault) (handed_to m lid) m (λ (x : Manager). BesideCall start seat plan old handed m x)
+        (λ _. both m (record m { standing = standing }) _ one (tells (record m { standing = standing }) one.side one.once lid (handover_move m).message))
         (λ _. stays m side once)
-      where
-        to_heir : (lid : Option ℕ) → BesideCall start seat plan old handed m (handed_to m lid)
-        to_heir lid =
-            let standing = moved_to (handover_move m).state m.standing in
-            let one = moves m side once standing in
-            both m (record m { standing = standing }) _ one (tells (record m { standing = standing }) one.side one.once lid (handover_move m).message)
+
+    pub hands_over : BesideCall start seat plan old handed m (if is_none (handover_fault m) then after_handover m else m)
+    hands_over = hands (handover_fault m) (successor_lid m)
+
+    pub yields : BesideCall start seat plan old handed m (if is_none (yield_fault m) then after_yield m else m)
+    yields = hands (yield_fault m) (heir_lid m)
+
+    pub rediscovers : BesideCall start seat plan old handed m (if is_none (rediscover_fault m) then after_rediscover m else m)
+    unfolding Beside
+    rediscovers =
+        cond_both (is_none (rediscover_fault m)) (after_rediscover m) m (λ (x : Manager). BesideCall start seat plan old handed m x)
+        (λ _. moves m side once (moved_by event.PollsUnanswered m.standing)) (λ _. stays m side once)

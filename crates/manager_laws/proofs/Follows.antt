@@ -29,7 +29,7 @@ use Rattle.sm_manager.specs.declared.outgoing.Outgoing.{Outgoing}
 use Rattle.sm_manager.specs.declared.pending.Pending.{Pending}
 use Rattle.sm_manager.specs.declared.pending.Purpose.{Purpose}
 use Rattle.sm_manager.specs.declared.pending.Purpose.TheVariants as purpose
-use Rattle.sm_manager.specs.Election.{handed_to, handover_fault, handover_move, successor_lid, poll_fault, after_message}
+use Rattle.sm_manager.specs.Election.{after_rediscover, handed_to, handover_fault, handover_move, heir_lid, rediscover_fault, successor_lid, poll_fault, after_message, yield_fault}
 use Rattle.sm_manager.specs.Manager.{Manager, Writing, begin_fault}
 use Rattle.sm_manager.specs.Packets.{Called, answered_by, after_timeout, is_for_sweep, is_info_request, packet_taken, pending_for}
 use Rattle.sm_manager.specs.Packets.{request_answered, request_gave_up, after_request}
@@ -45,7 +45,7 @@ use Rattle.manager_laws.specs.Sweeping as sweeping
 use Rattle.manager_laws.specs.Sweeping.{AlwaysSo, Sweeping, SweepEvent, reports_of, after_sweep_event, after_sweep_events}
 use Rattle.manager_laws.specs.Complete.{facts_of}
 use Rattle.manager_laws.proofs.Sweeps.{told_in, told_more}
-use Rattle.manager_laws.specs.Managing.{Managing, ManagerEvent, Around, Begin, Write, Take, Send, Hear, TimeOut, Raise, Merge, Poll, HandOver, CanBe}
+use Rattle.manager_laws.specs.Managing.{Managing, ManagerEvent, Around, Begin, Write, Take, Send, Hear, TimeOut, Raise, Merge, Poll, HandOver, Yield, Rediscover, CanBe}
 use Rattle.manager_laws.specs.Managing.{hearing, sending, after_manager_event}
 use Rattle.manager_laws.specs.WritingPings.{BeginsNoSweep}
 use Rattle.manager_laws.proofs.Before.{is_none-none, takes_first}
@@ -330,3 +330,10 @@ module _ (is_so : Scene → Type 0) (start : Simulation) (seat : NodePort) (plan
       quiet_followed is_so w (after_manager_event w HandOver) u (nothing_seen is_so w.scene) refl
       (cond_both (is_none (handover_fault w.manager)) _ _ (KeepsSweep w.manager) (λ _. handed_keeps w.manager (successor_lid w.manager)) (λ _. kept w.manager))
       f
+  event_followed w Yield u g quiet can_be f now stays =
+      quiet_followed is_so w (after_manager_event w Yield) u (nothing_seen is_so w.scene) refl
+      (cond_both (is_none (yield_fault w.manager)) _ _ (KeepsSweep w.manager) (λ _. handed_keeps w.manager (heir_lid w.manager)) (λ _. kept w.manager)) f
+  event_followed w Rediscover u g quiet can_be f now stays =
+      quiet_followed is_so w (after_manager_event w Rediscover) u (nothing_seen is_so w.scene) refl
+      (cond_both (is_none (rediscover_fault w.manager)) (after_rediscover w.manager) w.manager (KeepsSweep w.manager)
+      (λ _. record { sweep = refl; store = refl }) (λ _. kept w.manager)) f

@@ -8,7 +8,7 @@ use Rattle.smp_bytes.specs.Packet.{fault_of, status}
 use Rattle.sm_manager.specs.declared.fault.ManagerFault.{ManagerFault}
 use Rattle.sm_manager.specs.declared.outgoing.Outgoing.{Outgoing}
 use Rattle.sm_manager.specs.declared.pending.Pending.{Pending}
-use Rattle.sm_manager.specs.Election.{handover_fault, successor_lid, poll_fault}
+use Rattle.sm_manager.specs.Election.{after_rediscover, handover_fault, heir_lid, rediscover_fault, successor_lid, poll_fault, yield_fault}
 use Rattle.sm_manager.specs.Manager.{Manager, begin_fault, after_begin_sweep}
 use Rattle.sm_manager.specs.Packets.{Called, after_timeout, is_for_sweep, is_info_request, packet_taken, pending_for, request_answered, request_gave_up}
 use Rattle.sm_manager.specs.Packets.{sweep_answered, sweep_gave_up, after_packet}
@@ -18,7 +18,7 @@ use Rattle.fact_store.specs.View.{cells_of}
 use Rattle.sm_manager.specs.ManagerRequests.{with_number}
 use Rattle.sm_manager.specs.Writing.{write_fault_with}
 use Rattle.manager_laws.specs.Scene.{Handed}
-use Rattle.manager_laws.specs.Managing.{Managing, ManagerEvent, Begin, Write, Take, Send, Hear, TimeOut, Poll, HandOver}
+use Rattle.manager_laws.specs.Managing.{Managing, ManagerEvent, Begin, Write, Take, Send, Hear, TimeOut, Poll, HandOver, Yield, Rediscover}
 use Rattle.manager_laws.specs.Managing.{NewManagersRest, hearing, sending, after_manager_event}
 use Rattle.manager_laws.specs.Written.{BeginsNoWriting, BeginsSweep, NewManagersSweepFirst, SweepsFirst}
 use Rattle.manager_laws.proofs.Before.{takes_first}
@@ -91,6 +91,11 @@ goes_on w (Poll lid) never = inr (cond_both (is_none (poll_fault w.manager lid))
 goes_on w HandOver never =
     inr (cond_both (is_none (handover_fault w.manager)) _ _ (λ (x : Manager). x.sweep ≡ None)
     (λ _. still w.manager _ never (handed_keeps w.manager (successor_lid w.manager))) (λ _. never))
+goes_on w Yield never =
+    inr (cond_both (is_none (yield_fault w.manager)) _ _ (λ (x : Manager). x.sweep ≡ None)
+    (λ _. still w.manager _ never (handed_keeps w.manager (heir_lid w.manager))) (λ _. never))
+goes_on w Rediscover never =
+    inr (cond_both (is_none (rediscover_fault w.manager)) (after_rediscover w.manager) w.manager (λ (x : Manager). x.sweep ≡ None) (λ _. never) (λ _. never))
 goes_on w event never = inr never
 
 -- and writes nothing

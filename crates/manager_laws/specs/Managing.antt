@@ -30,8 +30,8 @@ pub record Managing : Type 0 where
 -- its plan (`Write`); it gives out its first queued packet (`Take`). A packet that it gave out is sent from its seat,
 -- perhaps again (`Send`, by index); a packet that was handed up at its seat is given to it, perhaps again (`Hear`, by
 -- index); one of its requests times out (`TimeOut`). Its floor is raised (`Raise`), or facts of others at a floor are
--- merged with its own (`Merge`). It is called to poll a LID or, with None, a manager that its last sweep saw (`Poll`),
--- or to hand over (`HandOver`)
+-- merged with its own (`Merge`). It is called to poll a LID or, with None, a manager that its last sweep saw (`Poll`), to
+-- hand over to its successor (`HandOver`) or its heir (`Yield`), or to discover anew (`Rediscover`)
 pub data ManagerEvent : Type 0 where
   Around : (event : Event) → ManagerEvent
   Begin : ManagerEvent
@@ -44,6 +44,8 @@ pub data ManagerEvent : Type 0 where
   Merge : (floor : ℕ) → (sightings : Sightings) → ManagerEvent
   Poll : (lid : Option ℕ) → ManagerEvent
   HandOver : ManagerEvent
+  Yield : ManagerEvent
+  Rediscover : ManagerEvent
 
 -- which events there are --------------------------------------------------------------------------
 
@@ -106,6 +108,8 @@ after_manager_event w (Raise floor) = calling w (calls.Raise floor)
 after_manager_event w (Merge floor sightings) = calling w (calls.Merge floor sightings)
 after_manager_event w (Poll lid) = calling w (calls.Poll lid)
 after_manager_event w HandOver = calling w calls.Handover
+after_manager_event w Yield = calling w calls.Yield
+after_manager_event w Rediscover = calling w calls.Rediscover
 
 -- the `Managing` after `events`, in turn
 abbrev pub after_manager_events : List ManagerEvent → Managing → Managing

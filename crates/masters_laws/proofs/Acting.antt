@@ -21,13 +21,13 @@ use Rattle.sm_manager.specs.Packets.{Called, after_packet, after_timeout, unless
 use Rattle.sm_manager.specs.PlanFaults.{writing_fault}
 use Rattle.sm_manager.specs.Writing.{after_step, after_write_steps, is_spent, next_phase, noted, phase_sent, phases_by, steps_out, went_on_with, without_empty_phases}
 use Rattle.manager_laws.specs.Scene.{Handed, after_event}
-use Rattle.manager_laws.specs.Managing.{Managing, ManagerEvent, Around, Begin, Write, Take, Send, Hear, TimeOut, Raise, Merge, Poll, HandOver}
+use Rattle.manager_laws.specs.Managing.{Managing, ManagerEvent, Around, Begin, Write, Take, Send, Hear, TimeOut, Raise, Merge, Poll, HandOver, Yield, Rediscover}
 use Rattle.manager_laws.specs.Managing.{CanBe, after_manager_event, hearing, sending, taking}
 use Rattle.manager_laws.specs.Sets.{Carries}
 use Rattle.manager_laws.proofs.AgentSets.{AsksFor}
 use Rattle.manager_laws.proofs.Answers.{was_there}
 use Rattle.manager_laws.proofs.Before.{is_none-none}
-use Rattle.manager_laws.proofs.Calls.{beside_swept, hands_over, packet_comes, polls_beside, time_passes}
+use Rattle.manager_laws.proofs.Calls.{beside_swept, hands_over, packet_comes, polls_beside, rediscovers, time_passes, yields}
 use Rattle.manager_laws.proofs.Fair.{AreOwnPackets, BesideCall, CanGo, IsOwnPacket, own_more, own_steps, own_still, packets_of, stays_handed, step_is_own}
 use Rattle.manager_laws.proofs.Generations.{all_small, generation_small}
 use Rattle.manager_laws.proofs.Goes.{Goes, NoStepWaits, heard_at_seat}
@@ -229,3 +229,7 @@ module _ (start : Simulation) (seat : NodePort) (plan : PlanValue) where
         beside_plans old w _ p (polls_beside start seat plan ground old w.scene.handed w.manager g.fair.side g.fair.once lid)
     event_plans old w HandOver carried g can_be p =
         beside_plans old w _ p (hands_over start seat plan ground old w.scene.handed w.manager g.fair.side g.fair.once)
+    event_plans old w Yield carried g can_be p =
+        beside_plans old w _ p (yields start seat plan ground old w.scene.handed w.manager g.fair.side g.fair.once)
+    event_plans old w Rediscover carried g can_be p =
+        beside_plans old w _ p (rediscovers start seat plan ground old w.scene.handed w.manager g.fair.side g.fair.once)

@@ -25,7 +25,7 @@ use Rattle.sm_manager.specs.Writing.{phases_by}
 use Rattle.sm_manager.proofs.Lives.{planning_stays}
 use Rattle.manager_laws.specs.Complete.{facts_of}
 use Rattle.manager_laws.specs.Scene.{Handed, Scene, Sending, ByLid, ByPath, Answer, Event, CanSend, Send as SendFrom, after_event, sent_from}
-use Rattle.manager_laws.specs.Managing.{Managing, ManagerEvent, Around, Begin, Write, Take, Send, Hear, TimeOut, Raise, Merge, Poll, HandOver}
+use Rattle.manager_laws.specs.Managing.{Managing, ManagerEvent, Around, Begin, Write, Take, Send, Hear, TimeOut, Raise, Merge, Poll, HandOver, Yield, Rediscover}
 use Rattle.manager_laws.specs.Managing.{CanBe, after_manager_event, hearing, packet_of, sending}
 use Rattle.manager_laws.specs.Sets.{Carries}
 use Rattle.manager_laws.specs.Sweeping.{Begins, after_sweep_events}
@@ -129,6 +129,8 @@ planning_kept w (Raise floor) = planning_stays w.manager (calls.Raise floor)
 planning_kept w (Merge floor sightings) = planning_stays w.manager (calls.Merge floor sightings)
 planning_kept w (Poll lid) = planning_stays w.manager (calls.Poll lid)
 planning_kept w HandOver = planning_stays w.manager calls.Handover
+planning_kept w Yield = planning_stays w.manager calls.Yield
+planning_kept w Rediscover = planning_stays w.manager calls.Rediscover
 
 -- what is known of the seats and the plan
 pub record Known (from : Scene) (held : Facts) (planning : Planning) (seat : NodePort) : Type 0 where

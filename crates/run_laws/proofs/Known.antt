@@ -29,7 +29,7 @@ use Rattle.lft_blocks.specs.Planning.{Planning}
 use Rattle.sm_manager.specs.declared.fault.ManagerFault.{ManagerFault}
 use Rattle.sm_manager.specs.CallLists as calls
 use Rattle.sm_manager.specs.CallLists.{sightings_of_call}
-use Rattle.sm_manager.specs.Election.{after_handover, handover_fault, successor_lid, poll_fault, after_poll}
+use Rattle.sm_manager.specs.Election.{after_handover, after_rediscover, after_yield, handover_fault, heir_lid, rediscover_fault, successor_lid, poll_fault, after_poll, yield_fault}
 use Rattle.sm_manager.specs.Manager.{Manager, begin_fault, after_raise_floor, after_merge, outstanding, after_begin_sweep}
 use Rattle.sm_manager.specs.Packets as manager
 use Rattle.sm_manager.specs.Packets.{after_packet, done}
@@ -262,6 +262,10 @@ module _ (count : ℕ) (planning : Planning) where
       sending_known w accounts seat writing_fault after_write_steps (λ m. record { store = refl; planning = refl }) known
   command_known nodes w accounts (command.Ask seat ask.Handover) known =
       sending_known w accounts seat handover_fault after_handover (λ m. handing_keeps m (successor_lid m)) known
+  command_known nodes w accounts (command.Ask seat ask.Yield) known =
+      sending_known w accounts seat yield_fault after_yield (λ m. handing_keeps m (heir_lid m)) known
+  command_known nodes w accounts (command.Ask seat ask.Rediscover) known =
+      sending_known w accounts seat rediscover_fault after_rediscover (λ m. record { store = refl; planning = refl }) known
   command_known nodes w accounts (command.Ask seat (ask.Poll lid)) known =
       sending_known w accounts seat (λ m. poll_fault m lid) (λ m. after_poll m lid) (λ m. record { store = refl; planning = refl }) known
   command_known nodes w accounts (command.Timeout seat) known = timeout_known w accounts seat known

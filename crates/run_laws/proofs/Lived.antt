@@ -22,7 +22,7 @@ use Rattle.fabric_sim.specs.declared.fabric_fault.FabricFault.{FabricFault}
 use Rattle.fabric_sim.specs.declared.fabric_fault.FabricFault.TheVariants.{NoSuchPacket}
 use Rattle.fabric_sim.specs.declared.flight.Flight.{Flight}
 use Rattle.lft_blocks.specs.Plan.{PlanValue}
-use Rattle.sm_manager.specs.Election.{after_handover, handover_fault, poll_fault, after_poll}
+use Rattle.sm_manager.specs.Election.{after_handover, after_rediscover, after_yield, handover_fault, poll_fault, after_poll, rediscover_fault, yield_fault}
 use Rattle.sm_manager.specs.Manager.{Manager, outstanding}
 use Rattle.sm_manager.specs.Packets.{after_timeout, after_packet}
 use Rattle.sm_manager.specs.declared.fault.ManagerFault.{ManagerFault}
@@ -30,7 +30,7 @@ use Rattle.sm_manager.specs.declared.outgoing.Outgoing.{Outgoing}
 use Rattle.manager_laws.specs.Scene as around
 use Rattle.manager_laws.specs.Scene.{Handed, Scene, handed_by}
 use Rattle.sm_manager.specs.CallLists as calls
-use Rattle.manager_laws.specs.Managing.{Around, calling, hearing, sending, CanBe, HandOver, Hear, Managing, ManagerEvent, Poll, Send, Take, TimeOut}
+use Rattle.manager_laws.specs.Managing.{Around, calling, hearing, sending, CanBe, HandOver, Hear, Managing, ManagerEvent, Poll, Rediscover, Send, Take, TimeOut, Yield}
 use Rattle.manager_laws.specs.Managing.{after_manager_event, after_manager_events, packet_of}
 use Rattle.manager_laws.specs.WritingPings.{AreNoSweeps, BeginsNoSweep}
 use Rattle.manager_laws.specs.Sets.{OwnSets}
@@ -323,6 +323,10 @@ module _ (plan : PlanValue) (own : OwnSets) (name : List ℕ) where
   unfolding after_ask_line after_packet_line
   command_lives nodes m (command.Ask zero ask.Handover) is = asked_lives m _ HandOver handover_fault after_handover refl tt tt tt
   command_lives nodes m (command.Ask (suc seat) ask.Handover) is = rests m _
+  command_lives nodes m (command.Ask zero ask.Yield) is = asked_lives m _ Yield yield_fault after_yield refl tt tt tt
+  command_lives nodes m (command.Ask (suc seat) ask.Yield) is = rests m _
+  command_lives nodes m (command.Ask zero ask.Rediscover) is = asked_lives m _ Rediscover rediscover_fault after_rediscover refl tt tt tt
+  command_lives nodes m (command.Ask (suc seat) ask.Rediscover) is = rests m _
   command_lives nodes m (command.Ask zero (ask.Poll lid)) is = asked_lives m _ (Poll lid) (λ x. poll_fault x lid) (λ x. after_poll x lid) refl tt tt tt
   command_lives nodes m (command.Ask (suc seat) (ask.Poll lid)) is = rests m _
   command_lives nodes m (command.Timeout seat) is = timeout_lives m _ seat

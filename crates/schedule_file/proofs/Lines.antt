@@ -11,7 +11,7 @@ use Rattle.text_words.specs.Quoted.{alone, enclosed}
 use Rattle.text_words.specs.Text.{words}
 use Rattle.text_words.proofs.Ranges.{always, mapped, name_range, tested, then_some}
 use Rattle.schedule_file.specs.declared.command.Ask.{Ask}
-use Rattle.schedule_file.specs.declared.command.Ask.TheVariants.{Sweep, Write, Handover, Poll}
+use Rattle.schedule_file.specs.declared.command.Ask.TheVariants.{Sweep, Write, Handover, Yield, Rediscover, Poll}
 use Rattle.schedule_file.specs.declared.command.Command.TheVariants as command
 use Rattle.schedule_file.specs.declared.command.Fate.{Fate}
 use Rattle.schedule_file.specs.declared.command.Fate.TheVariants.{Deliver, Lose, Repeat}
@@ -145,7 +145,9 @@ asked_range : (word : List ℕ) → IfSome (asked_by word) IsAsk
 asked_range word =
     either IsAsk (bytes_eq word (codes "sweep")) _ _ tt
     (either IsAsk (bytes_eq word (codes "write")) _ _ tt
-    (either IsAsk (bytes_eq word (codes "handover")) _ _ tt (either IsAsk (bytes_eq word (codes "poll")) _ None tt tt)))
+    (either IsAsk (bytes_eq word (codes "handover")) _ _ tt
+    (either IsAsk (bytes_eq word (codes "yield")) _ _ tt
+    (either IsAsk (bytes_eq word (codes "rediscover")) _ _ tt (either IsAsk (bytes_eq word (codes "poll")) _ None tt tt)))))
 
 by_asked : (name : List ℕ) (asked : Option Ask) (other : Option NamedCommand) → IfSome asked IsAsk → IfSome other IsNamed
     → IfSome (option_map_or (λ what. ask what name) asked other) IsNamed
@@ -290,6 +292,8 @@ named_are_words (command.Manager name) is = absurd is
 named_are_words (command.Ask name Sweep) is = (keyword (codes "sweep") (omega arith) refl refl, (manager_word name is.0, tt))
 named_are_words (command.Ask name Write) is = (keyword (codes "write") (omega arith) refl refl, (manager_word name is.0, tt))
 named_are_words (command.Ask name Handover) is = (keyword (codes "handover") (omega arith) refl refl, (manager_word name is.0, tt))
+named_are_words (command.Ask name Yield) is = (keyword (codes "yield") (omega arith) refl refl, (manager_word name is.0, tt))
+named_are_words (command.Ask name Rediscover) is = (keyword (codes "rediscover") (omega arith) refl refl, (manager_word name is.0, tt))
 named_are_words (command.Ask name (Poll None)) is = (keyword (codes "poll") (omega arith) refl refl, (manager_word name is.0, tt))
 named_are_words (command.Ask name (Poll (Some lid))) is =
     let h = is.1 in (keyword (codes "poll") (omega arith) refl refl, (manager_word name is.0, (decimal_word lid (omega arith), tt)))
@@ -363,6 +367,8 @@ named_in (command.Manager name) is = absurd is
 named_in (command.Ask name Sweep) is = rw (manager_read name is.0) refl
 named_in (command.Ask name Write) is = rw (manager_read name is.0) refl
 named_in (command.Ask name Handover) is = rw (manager_read name is.0) refl
+named_in (command.Ask name Yield) is = rw (manager_read name is.0) refl
+named_in (command.Ask name Rediscover) is = rw (manager_read name is.0) refl
 named_in (command.Ask name (Poll None)) is = rw (manager_read name is.0) refl
 named_in (command.Ask name (Poll (Some lid))) is =
     let h = is.1 in rw (manager_read name is.0, number_read 0xFFFF lid (omega arith) h) refl

@@ -4,7 +4,7 @@ use Rattle.std.specs.Prelude.{ℕ, List, Option, None, Some, option_and_then, co
 use Rattle.std.specs.Str.{bytes_eq}
 use Rattle.text_words.specs.Numbers.{number_up_to}
 use Rattle.schedule_file.specs.declared.command.Ask.{Ask}
-use Rattle.schedule_file.specs.declared.command.Ask.TheVariants.{Sweep, Write, Handover, Poll}
+use Rattle.schedule_file.specs.declared.command.Ask.TheVariants.{Sweep, Write, Handover, Yield, Rediscover, Poll}
 use Rattle.schedule_file.specs.declared.command.Shown.{Shown}
 use Rattle.schedule_file.specs.declared.command.Shown.TheVariants.{Facts, Plan, Progress, Silent, State, Written}
 
@@ -15,6 +15,8 @@ asked_by word =
     if bytes_eq word (codes "sweep") then Some Sweep
     else if bytes_eq word (codes "write") then Some Write
     else if bytes_eq word (codes "handover") then Some Handover
+    else if bytes_eq word (codes "yield") then Some Yield
+    else if bytes_eq word (codes "rediscover") then Some Rediscover
     else if bytes_eq word (codes "poll") then Some (Poll None)
     else None
 

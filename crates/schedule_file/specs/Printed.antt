@@ -12,7 +12,7 @@ use Rattle.schedule_file.specs.Command.{NamedCommand}
 use Rattle.schedule_file.specs.Schedule.{Script, schedule_of}
 use Rattle.schedule_file.specs.Resolve.{SeatCommand}
 use Rattle.schedule_file.specs.declared.command.Ask.{Ask}
-use Rattle.schedule_file.specs.declared.command.Ask.TheVariants.{Sweep, Write, Handover, Poll}
+use Rattle.schedule_file.specs.declared.command.Ask.TheVariants.{Sweep, Write, Handover, Yield, Rediscover, Poll}
 use Rattle.schedule_file.specs.declared.command.Fate.{Fate}
 use Rattle.schedule_file.specs.declared.command.Fate.TheVariants.{Deliver, Lose, Repeat}
 use Rattle.schedule_file.specs.declared.command.Shown.{Shown}
@@ -44,12 +44,13 @@ shown_word Silent = codes "silent"
 shown_word Written = codes "written"
 shown_word State = codes "state"
 
--- the words of the line that asks the manager `name` for `sweep`, `write`, `handover` or `poll`; for `poll`, with the
--- LID if one is given
+-- the words of the line that asks the manager `name` for something; for `poll`, with the LID if one is given
 abbrev pub ask_words : Ask → List ℕ → List (List ℕ)
 ask_words Sweep name = codes "sweep" ∷ name ∷ []
 ask_words Write name = codes "write" ∷ name ∷ []
 ask_words Handover name = codes "handover" ∷ name ∷ []
+ask_words Yield name = codes "yield" ∷ name ∷ []
+ask_words Rediscover name = codes "rediscover" ∷ name ∷ []
 ask_words (Poll None) name = codes "poll" ∷ name ∷ []
 ask_words (Poll (Some lid)) name = codes "poll" ∷ name ∷ decimal lid ∷ []
 

@@ -48,6 +48,10 @@ pub enum Ask {
     Write,
     /// A HANDOVER to the manager's successor among the managers that its last sweep saw.
     Handover,
+    /// A HANDOVER to the manager's heir among them, whichever of the two wins.
+    Yield,
+    /// Leaving Standby for Discovering.
+    Rediscover,
     /// A poll of the manager at the LID or, if there is no LID, of a manager that the last sweep saw.
     Poll(Option<Lid>),
 }

@@ -20,6 +20,10 @@ pub fn asked_by(word: &[u8]) -> Option<Ask>
         Some(Ask::Write)
     } else if is_word(word, "handover") {
         Some(Ask::Handover)
+    } else if is_word(word, "yield") {
+        Some(Ask::Yield)
+    } else if is_word(word, "rediscover") {
+        Some(Ask::Rediscover)
     } else if is_word(word, "poll") {
         Some(Ask::Poll(None))
     } else {

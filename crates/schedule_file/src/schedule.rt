@@ -167,7 +167,7 @@ pub(crate) fn new_seat(
 /// |---|---|
 /// | `manager NAME "node"[port] PRIORITY` | priority 0 to 15 |
 /// | `manager NAME "node"[port] PRIORITY live KEY` | 64-bit SM_Key |
-/// | `sweep NAME`, `write NAME`, `handover NAME`, `timeout NAME` | |
+/// | `sweep NAME`, `write NAME`, `handover NAME`, `yield NAME`, `rediscover NAME`, `timeout NAME` | |
 /// | `poll NAME`, `poll NAME LID` | LID 0 to 65,535 |
 /// | `floor NAME GENERATION` | generation 1 to 4,294,967,295 |
 /// | `facts NAME`, `plan NAME`, `progress NAME`, `silent NAME`, `written NAME`, `state NAME` | |

@@ -7,10 +7,11 @@ use Rattle.lft_blocks.specs.PlanText.{plan_text}
 use Rattle.record_file.specs.FactsText.{facts_text}
 use Rattle.subnet_view.specs.Reading.{Cells}
 use Rattle.schedule_file.specs.declared.command.Ask.{Ask}
-use Rattle.schedule_file.specs.declared.command.Ask.TheVariants.{Sweep, Write, Handover, Poll}
+use Rattle.schedule_file.specs.declared.command.Ask.TheVariants.{Sweep, Write, Handover, Yield, Rediscover, Poll}
 use Rattle.schedule_file.specs.declared.command.Shown.{Shown}
 use Rattle.schedule_file.specs.declared.command.Shown.TheVariants.{Facts, Plan, Progress, Silent, State, Written}
-use Rattle.sm_manager.specs.Election.{after_handover, after_poll, handover_fault, poll_fault}
+use Rattle.sm_manager.specs.Election.{after_handover, after_poll, after_rediscover, after_yield, handover_fault, poll_fault}
+use Rattle.sm_manager.specs.Election.{rediscover_fault, yield_fault}
 use Rattle.sm_manager.specs.Manager.{Manager, after_begin_sweep, begin_fault, progress_of, silent_in}
 use Rattle.sm_manager.specs.PlanFaults.{plan_fault, writing_fault}
 use Rattle.sm_manager.specs.Writing.{after_write_steps, is_written}
@@ -18,19 +19,22 @@ use Rattle.sm_manager.specs.declared.fault.ManagerFault.{ManagerFault}
 use Rattle.schedule_lines.specs.Lines.{progress_line, silent_line, state_line, written_line}
 use Rattle.schedule_lines.specs.Refusals.{manager_line}
 
--- the fault for which the manager `m` refuses the request `sweep`, `write`, `handover` or `poll`, lack of memory
--- aside; None if `m` does not refuse the request
+-- the fault for which the manager `m` refuses a request, lack of memory aside; None if `m` does not refuse it
 abbrev pub asked_fault : Ask → Manager → Option ManagerFault
 asked_fault Sweep m = begin_fault m
 asked_fault Write m = writing_fault m
 asked_fault Handover m = handover_fault m
+asked_fault Yield m = yield_fault m
+asked_fault Rediscover m = rediscover_fault m
 asked_fault (Poll lid) m = poll_fault m lid
 
--- the manager after the request `sweep`, `write`, `handover` or `poll`, if the manager does not refuse the request
+-- the manager after a request that it does not refuse
 abbrev pub after_asked : Ask → Manager → Manager
 after_asked Sweep m = after_begin_sweep m
 after_asked Write m = after_write_steps m
 after_asked Handover m = after_handover m
+after_asked Yield m = after_yield m
+after_asked Rediscover m = after_rediscover m
 after_asked (Poll lid) m = after_poll m lid
 
 -- the manager with no packets queued

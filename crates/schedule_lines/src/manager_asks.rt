@@ -20,6 +20,8 @@ pub fn ask_manager(manager: &mut Manager, what: Ask) -> Result<(), ManagerFault>
         Ask::Sweep => manager.begin_sweep(),
         Ask::Write => manager.write_steps(),
         Ask::Handover => manager.handover(),
+        Ask::Yield => manager.yield_up(),
+        Ask::Rediscover => manager.rediscover(),
         Ask::Poll(lid) => manager.poll(lid),
     }
 }

@@ -76,6 +76,8 @@ told_alone : (w : Managing) (line : ServeLine) → IsNoSweepLine line → AreNoS
 told_alone w (Ask ask.Sweep) none = absurd none
 told_alone w (Ask ask.Write) none = (tt, tt)
 told_alone w (Ask ask.Handover) none = (tt, tt)
+told_alone w (Ask ask.Yield) none = (tt, tt)
+told_alone w (Ask ask.Rediscover) none = (tt, tt)
 told_alone w (Ask (ask.Poll lid)) none = (tt, tt)
 told_alone w (Floor floor) none = absurd none
 told_alone w (Timeout transaction) none = (tt, tt)

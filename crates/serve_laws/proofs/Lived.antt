@@ -2,10 +2,10 @@
 use Rattle.std.proofs.Common.{◌≡◌, ℕ, cond, List, [], ◌∷◌, ◌++◌, refl, sym, ap, ◌∙◌}
 use Rattle.std.specs.Prelude.{Option, Some, None, is_none, map}
 use Rattle.schedule_file.specs.declared.command.Ask.{Ask as Asking}
-use Rattle.schedule_file.specs.declared.command.Ask.TheVariants.{Sweep, Write, Handover, Poll}
+use Rattle.schedule_file.specs.declared.command.Ask.TheVariants.{Sweep, Write, Handover, Yield, Rediscover, Poll}
 use Rattle.sm_manager.specs.CallLists as calls
 use Rattle.sm_manager.specs.CallLists.{Call, after_call, after_calls}
-use Rattle.sm_manager.specs.Election.{after_handover, after_poll, handover_fault, poll_fault}
+use Rattle.sm_manager.specs.Election.{after_handover, after_poll, after_rediscover, after_yield, handover_fault, poll_fault, rediscover_fault, yield_fault}
 use Rattle.sm_manager.specs.Manager.{Manager, after_begin_sweep, begin_fault, outstanding}
 use Rattle.sm_manager.specs.Packets.{after_timeout}
 use Rattle.sm_manager.specs.PlanFaults.{writing_fault}
@@ -37,6 +37,8 @@ pub asked_lives : (m : Manager) (what : Asking) → (asked m what).manager ≡ a
 asked_lives m Sweep = asked_is m (begin_fault m) (after_begin_sweep m)
 asked_lives m Write = asked_is m (writing_fault m) (after_write_steps m)
 asked_lives m Handover = asked_is m (handover_fault m) (after_handover m)
+asked_lives m Yield = asked_is m (yield_fault m) (after_yield m)
+asked_lives m Rediscover = asked_is m (rediscover_fault m) (after_rediscover m)
 asked_lives m (Poll lid) = asked_is m (poll_fault m lid) (after_poll m lid)
 
 gave_up_lives : (m : Manager) (transactions : List ℕ)

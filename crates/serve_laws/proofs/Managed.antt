@@ -45,6 +45,8 @@ asked_so : (w : Managing) (what : Asking) → after_manager_event w (event_asked
 asked_so w ask.Sweep = refl
 asked_so w ask.Write = refl
 asked_so w ask.Handover = refl
+asked_so w ask.Yield = refl
+asked_so w ask.Rediscover = refl
 asked_so w (ask.Poll lid) = refl
 
 told_so : (w : Managing) (line : ServeLine) → IsOrder line
@@ -171,6 +173,8 @@ module _ (seat : NodePort) where
   asked_can ask.Sweep = tt
   asked_can ask.Write = tt
   asked_can ask.Handover = tt
+  asked_can ask.Yield = tt
+  asked_can ask.Rediscover = tt
   asked_can (ask.Poll lid) = tt
 
   told_can : (m : Manager) (line : ServeLine) → IsOrder line → All (CanBe seat) (events_of_line m line)

@@ -61,6 +61,8 @@ abbrev pub event_asked : Asking → ManagerEvent
 event_asked ask.Sweep = managing.Begin
 event_asked ask.Write = managing.Write
 event_asked ask.Handover = managing.HandOver
+event_asked ask.Yield = managing.Yield
+event_asked ask.Rediscover = managing.Rediscover
 event_asked (ask.Poll lid) = managing.Poll lid
 
 -- the events of the manager `m` for what a line other than a packet asks; none for lines that only show something

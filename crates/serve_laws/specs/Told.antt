@@ -1,7 +1,7 @@
 -- Lines as calls of a manager.
 use Rattle.std.specs.Prelude.{ℕ, List, [], ◌∷◌, ◌++◌, map, Some}
 use Rattle.schedule_file.specs.declared.command.Ask.{Ask as Asking}
-use Rattle.schedule_file.specs.declared.command.Ask.TheVariants.{Sweep, Write, Handover, Poll}
+use Rattle.schedule_file.specs.declared.command.Ask.TheVariants.{Sweep, Write, Handover, Yield, Rediscover, Poll}
 use Rattle.reply_facts.specs.Report.{Sightings}
 use Rattle.sm_manager.specs.CallLists as calls
 use Rattle.sm_manager.specs.CallLists.{Call, greatest_floor, taken_in}
@@ -18,6 +18,8 @@ abbrev pub call_asked : Asking → Call
 call_asked Sweep = calls.BeginSweep
 call_asked Write = calls.WriteSteps
 call_asked Handover = calls.Handover
+call_asked Yield = calls.Yield
+call_asked Rediscover = calls.Rediscover
 call_asked (Poll lid) = calls.Poll lid
 
 -- the calls of the manager `m` for what a line asks; none for lines that only show something

@@ -30,8 +30,8 @@ use Rattle.sm_manager.specs.declared.pending.Pending.{Pending}
 use Rattle.sm_manager.specs.declared.pending.Purpose.{Purpose}
 use Rattle.sm_manager.specs.declared.pending.Purpose.TheVariants as purpose
 use Rattle.sm_manager.specs.StepsAnswered.{BeginNone, BeginsNone, WrittenIsEachStepDone, counting_in, does_by_packet, does_request, does_step, one_if, steps_done}
-use Rattle.sm_manager.specs.CallLists.{Call, BeginSweep, WriteSteps, Take, Packet, Timeout, Raise, Merge, Poll, Handover, after_call, after_calls}
-use Rattle.sm_manager.specs.Election.{asked, control_out, after_handover, handed_to, handover_fault, handover_move, successor_lid, info_pending, poll_fault, poll_out, poll_path, poll_pending, after_poll, after_message}
+use Rattle.sm_manager.specs.CallLists.{Call, BeginSweep, WriteSteps, Take, Packet, Timeout, Raise, Merge, Poll, Handover, Yield, Rediscover, after_call, after_calls}
+use Rattle.sm_manager.specs.Election.{asked, control_out, after_handover, handed_to, handover_fault, handover_move, heir_lid, rediscover_fault, after_rediscover, after_yield, successor_lid, yield_fault, info_pending, poll_fault, poll_out, poll_path, poll_pending, after_poll, after_message}
 use Rattle.sm_manager.specs.Manager.{Manager, Writing, begin_fault, new_manager, after_begin_sweep, taken_of}
 use Rattle.sm_manager.specs.Packets.{Called, answered_by, answers, after_timeout, is_for_sweep, is_info_request, packet_taken, pending_for, refused, request_answered}
 use Rattle.sm_manager.specs.Packets.{done as done_call, request_gave_up, after_request, sweep_answered, sweep_gave_up, sweep_timed_out, unless_spent}
@@ -203,6 +203,11 @@ call_rises m (Poll lid) rising =
 call_rises m Handover rising =
     cond_both (is_none (handover_fault m)) (after_handover m) m (λ (x : Manager). Rising x.counter x.pending)
     (λ _. (hands_beside m (successor_lid m)).rising rising) (λ _. rising)
+call_rises m Yield rising =
+    cond_both (is_none (yield_fault m)) (after_yield m) m (λ (x : Manager). Rising x.counter x.pending)
+    (λ _. (hands_beside m (heir_lid m)).rising rising) (λ _. rising)
+call_rises m Rediscover rising =
+    cond_both (is_none (rediscover_fault m)) (after_rediscover m) m (λ (x : Manager). Rising x.counter x.pending) (λ _. rising) (λ _. rising)
 
 calls_rise : (calls : List Call) (m : Manager) → Rising m.counter m.pending → Rising (after_calls calls m).counter (after_calls calls m).pending
 calls_rise [] m rising = rising
@@ -400,6 +405,12 @@ module _ (m : Manager) (w : Writing) (writing : m.writing ≡ Some w) (first : C
   call_ends Handover begins =
       cond_both (is_none (handover_fault m)) (after_handover m) m (λ (x : Manager). StepsOn w m x 0) (λ _. from_beside _ (hands_beside m (successor_lid m)))
       (λ _. from_beside m (nothing m))
+  call_ends Yield begins =
+      cond_both (is_none (yield_fault m)) (after_yield m) m (λ (x : Manager). StepsOn w m x 0) (λ _. from_beside _ (hands_beside m (heir_lid m)))
+      (λ _. from_beside m (nothing m))
+  call_ends Rediscover begins =
+      cond_both (is_none (rediscover_fault m)) (after_rediscover m) m (λ (x : Manager). StepsOn w m x 0)
+      (λ _. from_beside (after_rediscover m) (record { writing = refl; many = refl; rising = λ r. r })) (λ _. from_beside m (nothing m))
 
 -- all calls ---------------------------------------------------------------------------------------------
 

@@ -8,7 +8,7 @@ pub mod Refusals
 pub mod Replies
 pub mod Sending
 pub mod StepsSent
-pub mod SuccessorLids
+pub mod ReceiverLids
 pub mod Begun
 pub mod CountedSteps
 pub mod Answered

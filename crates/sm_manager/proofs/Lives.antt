@@ -25,7 +25,7 @@ use Rattle.sm_manager.specs.declared.pending.Pending.{Pending}
 use Rattle.sm_manager.specs.Packets.{Called, refused, done, answered_by, sweep_answered, request_answered, after_request, pending_for, unless_spent, packet_taken, sweep_timed_out, sweep_gave_up, request_gave_up, after_timeout, is_for_sweep, is_info_request}
 use Rattle.sm_manager.specs.declared.pending.Purpose.{Purpose}
 use Rattle.sm_manager.specs.declared.pending.Purpose.TheVariants as purpose
-use Rattle.sm_manager.specs.Election.{after_handover, handed_to, handover_fault, handover_move, successor_lid, poll_fault, after_poll, after_message}
+use Rattle.sm_manager.specs.Election.{after_handover, handed_to, handover_fault, handover_move, heir_lid, rediscover_fault, after_rediscover, after_yield, successor_lid, yield_fault, poll_fault, after_poll, after_message}
 use Rattle.sm_manager.specs.SmInfoAnswers.{acknowledged_at, answering, controlled, request_counted, is_control, moved_on, replying, served}
 use Rattle.sm_manager.specs.Traps.{represses, repressing}
 use Rattle.sm_state.specs.Standing.{moved_to}
@@ -36,7 +36,7 @@ use Rattle.sm_state.specs.declared.event.Message.{Message}
 use Rattle.sm_state.specs.declared.transition.Transition.{Transition}
 use Rattle.sm_state.specs.Transitions.{status_of, stepped}
 use Rattle.sm_manager.specs.Writing.{is_done_by, is_spent, noted, phase_sent, after_step, went_on_with, after_write_steps}
-use Rattle.sm_manager.specs.CallLists.{Call, BeginSweep, WriteSteps, Take, Packet, Timeout, Raise, Merge, Poll, Handover, after_call, after_calls, sightings_if, sightings_of_reply, sightings_of_packet, sightings_of_call, taken_in, floor_in, greatest_floor, KnowsWhatItTookIn, SameTakenInSamePlan}
+use Rattle.sm_manager.specs.CallLists.{Call, BeginSweep, WriteSteps, Take, Packet, Timeout, Raise, Merge, Poll, Handover, Yield, Rediscover, after_call, after_calls, sightings_if, sightings_of_reply, sightings_of_packet, sightings_of_call, taken_in, floor_in, greatest_floor, KnowsWhatItTookIn, SameTakenInSamePlan}
 
 -- what a call takes in is merged with what was known -------------------------------------------
 
@@ -197,6 +197,21 @@ module _ (m : Manager) where
             refl;
         planning = refl;
       })) in
+      record { store = t.store; planning = t.planning }
+  takes Yield =
+      let t = stays Yield
+      (cond_both (is_none (yield_fault m)) (after_yield m) m (λ (x : Manager). Keeps m x) (λ _. handing_keeps (heir_lid m)) (λ _. record {
+        store =
+            refl;
+        planning = refl;
+      })) in
+      record { store = t.store; planning = t.planning }
+  takes Rediscover =
+      let t = stays Rediscover (cond_both (is_none (rediscover_fault m)) (after_rediscover m) m (λ (x : Manager). Keeps m x) (λ _. record {
+        store = refl;
+        planning =
+            refl;
+      }) (λ _. record { store = refl; planning = refl })) in
       record { store = t.store; planning = t.planning }
 
   pub takes_call : (call : Call) → (after_call m call).store ≡ merge m.store (view_at (floor_in call) (sightings_of_call m call))

@@ -14,6 +14,7 @@ use Rattle.plan_steps.specs.Arrival.{EveryPacketArrives}
 use Rattle.plan_steps.specs.Plan.{plan_of}
 use Rattle.sm_manager.specs.Manager.{Manager, new_manager, begin_fault, after_begin_sweep, after_raise_floor, after_merge, after_take_outgoing}
 use Rattle.sm_manager.specs.Election.{after_handover, handover_fault, poll_fault, after_poll}
+use Rattle.sm_manager.specs.Election.{after_rediscover, after_yield, rediscover_fault, yield_fault}
 use Rattle.sm_manager.specs.Packets.{after_packet, after_timeout, is_for_sweep, is_info_request}
 use Rattle.plan_steps.specs.Planning.{Planning}
 use Rattle.sm_state.specs.declared.conduct.Conduct.{Conduct}
@@ -24,7 +25,8 @@ use Rattle.sm_manager.specs.Writing.{after_write_steps}
 -- a call that may change a manager. `Packet` brings bytes to the manager's port; `from` is the LID of the sender, if
 -- this LID is known. `Timeout` times out the request with the TransactionID `transaction`. `Raise` raises the floor
 -- of the facts to `floor`. `Merge` merges the view of `sightings` at `floor`. `Poll` polls the manager at the LID
--- `lid` or, if `lid` is None, a manager that the last sweep saw
+-- `lid` or, if `lid` is None, a manager that the last sweep saw. `Handover` hands over to the successor, `Yield` to the
+-- heir; `Rediscover` has a standby discover anew
 pub data Call : Type 0 where
   BeginSweep : Call
   WriteSteps : Call
@@ -35,6 +37,8 @@ pub data Call : Type 0 where
   Merge : (floor : ℕ) → (sightings : Sightings) → Call
   Poll : (lid : Option ℕ) → Call
   Handover : Call
+  Yield : Call
+  Rediscover : Call
 
 -- the manager `m` after a call; unchanged if the call is refused. If memory runs out, the call counts as not made
 abbrev pub after_call : Manager → Call → Manager
@@ -47,6 +51,8 @@ after_call m (Raise floor) = after_raise_floor m floor
 after_call m (Merge floor sightings) = after_merge m (view_at floor sightings)
 after_call m (Poll lid) = if is_none (poll_fault m lid) then after_poll m lid else m
 after_call m Handover = if is_none (handover_fault m) then after_handover m else m
+after_call m Yield = if is_none (yield_fault m) then after_yield m else m
+after_call m Rediscover = if is_none (rediscover_fault m) then after_rediscover m else m
 
 -- the manager after these calls, one after the other
 abbrev pub after_calls : List Call → Manager → Manager
@@ -86,6 +92,8 @@ sightings_of_call m (Raise floor) = []
 sightings_of_call m (Merge floor sightings) = sightings
 sightings_of_call m (Poll lid) = []
 sightings_of_call m Handover = []
+sightings_of_call m Yield = []
+sightings_of_call m Rediscover = []
 
 -- all sightings that a manager took in by these calls, in turn
 abbrev pub taken_in : List Call → Manager → Sightings
@@ -103,6 +111,8 @@ floor_in (Raise floor) = floor
 floor_in (Merge floor sightings) = floor
 floor_in (Poll lid) = 1
 floor_in Handover = 1
+floor_in Yield = 1
+floor_in Rediscover = 1
 
 -- the greatest floor (`floor_in`) of the calls, at least 1
 abbrev pub greatest_floor : List Call → ℕ

@@ -29,7 +29,7 @@ use Rattle.sm_state.specs.declared.standing.Standing.{Standing}
 use Rattle.sweep.specs.Sweep.{Sweep, path_to}
 use Rattle.sm_manager.specs.Manager.{Manager}
 use Rattle.sm_manager.specs.PlanFaults.{number_fault, or_else, plan_fault}
-use Rattle.sm_state.specs.Election.{polled_of, successor_of}
+use Rattle.sm_state.specs.Election.{heir_of, polled_of, successor_of}
 use Rattle.sm_state.specs.Standing.{info_of, info_with, is_in, moved_to, moved_by}
 use Rattle.sm_state.specs.declared.control.Control.TheVariants as control
 use Rattle.sm_state.specs.declared.event.Event.TheVariants as event
@@ -170,31 +170,40 @@ successor m = successor_of (info_of m.standing) m.seen
 abbrev pub port_seen : Cells → SeenManager → Option EndPort
 port_seen cells s = if is_end_port cells s.guid s.port then Some (record { node = s.guid; port = s.port }) else None
 
--- the end port where the successor was seen; None if there is no successor, or the facts have no end port there
-abbrev pub successor_port : Manager → Option EndPort
-successor_port m = option_and_then (port_seen (cells_of m.store)) (successor m)
+-- the end port where the given manager was seen; None if none is given, or the facts have no end port there
+abbrev pub receiver_port : Manager → Option SeenManager → Option EndPort
+receiver_port m receiver = option_and_then (port_seen (cells_of m.store)) receiver
 
--- if the successor's end port is known and gets a LID in the plan, this LID; otherwise None
+-- if the end port of the given manager is known and gets a LID in the plan, this LID; otherwise None
+abbrev pub receiver_lid : Manager → Option SeenManager → Option ℕ
+receiver_lid m receiver =
+    option_and_then (lid_of (lids m.planning.lmc (cells_of m.store))) (receiver_port m receiver)
+
+-- the LID of the successor's port (`receiver_lid`)
 abbrev pub successor_lid : Manager → Option ℕ
-successor_lid m = option_and_then (lid_of (lids m.planning.lmc (cells_of m.store))) (successor_port m)
+successor_lid m = receiver_lid m (successor m)
 
 -- `Nobody` if there is no LID to send to, else None
 abbrev pub unless_lid : Option ℕ → Option ManagerFault
 unless_lid None = Some fault.Nobody
 unless_lid (Some lid) = None
 
--- why a master does not hand over, lack of memory aside: there is no successor, some end port finds no LID in the
--- plan, the plan gives the successor's port no LID, or no number is left; None if the master may hand over
-abbrev pub successor_fault : Manager → Option ManagerFault
-successor_fault m =
-    if is_none (successor m) then Some fault.Nobody
+-- why a master does not hand over to the given manager, lack of memory aside: none is given, some end port finds no
+-- LID in the plan, the plan gives the manager's port no LID, or no number is left; None if the master may hand over
+abbrev pub receiver_fault : Manager → Option SeenManager → Option ManagerFault
+receiver_fault m receiver =
+    if is_none receiver then Some fault.Nobody
     else or_else (plan_fault m.planning.lmc (cells_of m.store))
-    (or_else (unless_lid (successor_lid m)) (number_fault (m.counter + 1)))
+    (or_else (unless_lid (receiver_lid m receiver)) (number_fault (m.counter + 1)))
 
--- why a manager does not hand over, lack of memory aside: the manager is not master, or `successor_fault` gives a
--- fault; None if the manager may hand over
+-- why a manager does not hand over to the given one, lack of memory aside: it is not master, or `receiver_fault` gives
+-- a fault; None if it may hand over
+abbrev pub handing_fault : Manager → Option SeenManager → Option ManagerFault
+handing_fault m receiver = if is_none (handover_move m).message then Some fault.NotMaster else receiver_fault m receiver
+
+-- why a manager does not hand over to its successor
 abbrev pub handover_fault : Manager → Option ManagerFault
-handover_fault m = if is_none (handover_move m).message then Some fault.NotMaster else successor_fault m
+handover_fault m = handing_fault m (successor m)
 
 -- the manager after its state has moved by `handover_move` and the message of this move was queued as a control to
 -- the LID `lid`; nothing is queued if there is no LID or no message
@@ -205,6 +214,35 @@ handed_to m lid =
 -- the manager after its state has moved by `handover_move` and a HANDOVER to the successor's LID was queued
 abbrev pub after_handover : Manager → Manager
 after_handover m = handed_to m (successor_lid m)
+
+-- the heir: of the managers that the last sweep saw, the one that gets the subnet although it does not win over this
+-- one; None if there is nobody to yield to
+abbrev pub heir : Manager → Option SeenManager
+heir m = heir_of (info_of m.standing) m.seen
+
+-- the LID of the heir's port (`receiver_lid`)
+abbrev pub heir_lid : Manager → Option ℕ
+heir_lid m = receiver_lid m (heir m)
+
+-- why a manager does not yield to its heir
+abbrev pub yield_fault : Manager → Option ManagerFault
+yield_fault m = handing_fault m (heir m)
+
+-- the manager after its state has moved by `handover_move` and a HANDOVER to the heir's LID was queued
+abbrev pub after_yield : Manager → Manager
+after_yield m = handed_to m (heir_lid m)
+
+-- discovering anew ------------------------------------------------------------------------------
+
+-- why a manager does not discover anew: it is not standby; None if it may
+abbrev pub rediscover_fault : Manager → Option ManagerFault
+rediscover_fault m = if is_in Standby m.standing then None else Some fault.NotStandby
+
+-- the manager after it left Standby as if three polls in a row had been lost
+abbrev pub after_rediscover : Manager → Manager
+after_rediscover m = record m { standing = moved_by event.PollsUnanswered m.standing }
+
+-- ends of handovers ------------------------------------------------------------------------------
 
 -- whether the request `p` has the modifier of a HANDOVER
 abbrev pub is_handover : Pending → Bool

@@ -6,7 +6,7 @@ use Rattle.smp_bytes.specs.Packet.{fault_of, status}
 use Rattle.smp_bytes.specs.declared.smp_fault.SmpFault.{SmpFault}
 use Rattle.plan_steps.specs.Phase.{Phase}
 use Rattle.sm_manager.specs.declared.pending.Pending.{Pending}
-use Rattle.sm_manager.specs.CallLists.{Call, BeginSweep, WriteSteps, Take, Packet, Timeout, Raise, Merge, Poll, Handover, after_call, after_calls}
+use Rattle.sm_manager.specs.CallLists.{Call, BeginSweep, WriteSteps, Take, Packet, Timeout, Raise, Merge, Poll, Handover, Yield, Rediscover, after_call, after_calls}
 use Rattle.sm_manager.specs.Manager.{Manager, new_manager}
 use Rattle.sm_manager.specs.Packets.{is_for_sweep, is_info_request, pending_for, request_answered}
 use Rattle.plan_steps.specs.Planning.{Planning}
@@ -44,6 +44,8 @@ does_step m (Raise floor) = false
 does_step m (Merge floor sightings) = false
 does_step m (Poll lid) = false
 does_step m Handover = false
+does_step m Yield = false
+does_step m Rediscover = false
 
 -- 1 if the given flag is true, else 0
 abbrev pub one_if : Bool → ℕ

@@ -6,7 +6,9 @@ ghost use Rattle.fact_store.specs.View.{cells_of};
 ghost use Rattle.lid_assign.specs.Lids.{lid_of, lids};
 ghost use Rattle.subnet_view.specs.EndPort.{is_end_port};
 ghost use Rattle.smp_bytes.specs.Judges.{Judges, JudgesButFor};
-ghost use Rattle.sm_manager.specs.Election.{after_handover, handover_fault, successor_fault, successor_lid};
+ghost use Rattle.sm_manager.specs.Election.{after_handover, handed_to, handing_fault, handover_fault};
+ghost use Rattle.sm_manager.specs.Election.{after_rediscover, after_yield, receiver_fault, receiver_lid};
+ghost use Rattle.sm_manager.specs.Election.{rediscover_fault, yield_fault};
 ghost use Rattle.sm_manager.specs.Election.{port_seen};
 ghost use Rattle.sm_manager.specs.Election.{control_out, info_pending, poll_fault, poll_out, poll_path, poll_pending};
 ghost use Rattle.sm_manager.specs.Election.{after_poll, is_way_out, path_seen, polled_path, unless_way};
@@ -27,7 +29,8 @@ use attr_codec::Attribute;
 use fact_store::Store;
 use lid_assign::{LidFault, LidMap, assign, no_room};
 use sm_state::{
-    Control, Event, Message, SeenManager, SmState, Standing, polled, step, successor, sweep_verdict,
+    Control, Event, Message, SeenManager, SmState, Standing, heir, polled, step, successor,
+    sweep_verdict,
 };
 use smp_bytes::{Lid, Method, Path, PortNum};
 use std::collections::VecDeque;
@@ -122,6 +125,53 @@ impl Manager {
         ensures ok { OnOk result (self.new ≡ after_handover self.old) }
         ensures err { OnErr result (self.new ≡ self.old) }
     {
+        let successor = successor(&self.standing.info(), &self.seen);
+        self.hand_to(successor)
+    }
+
+    /// Asks the heir to take over, although this manager wins over it. The heir is the greatest master that this manager
+    /// hears and that the last sweep saw or, if it saw no master, the greatest standby that it hears; ties go to the
+    /// first. A master that gets a HANDOVER looks at the subnet anew. Otherwise as `handover`.
+    ///
+    /// # Errors
+    ///
+    /// Returns the first of these that applies: `NotMaster`; `Nobody` if there is no heir; `NoRoom`; `Nobody` if the
+    /// heir's port is not known to be an end port and thus has no LID in the plan; `SequenceSpent`; `Memory`.
+    pub fn yield_up(&mut self) -> Result<(), ManagerFault>
+        ensures judged { JudgesButFor is_memory result (yield_fault self.old) }
+        ensures ok { OnOk result (self.new ≡ after_yield self.old) }
+        ensures err { OnErr result (self.new ≡ self.old) }
+    {
+        let heir = heir(&self.standing.info(), &self.seen);
+        self.hand_to(heir)
+    }
+
+    /// Leaves Standby for Discovering, as if three polls in a row had been lost: nobody is master. Does not allocate.
+    ///
+    /// # Errors
+    ///
+    /// Returns only `NotStandby`.
+    pub fn rediscover(&mut self) -> Result<(), ManagerFault>
+        ensures judged { Judges result (rediscover_fault self.old) }
+        ensures ok { OnOk result (self.new ≡ after_rediscover self.old) }
+        ensures err { OnErr result (self.new ≡ self.old) }
+    {
+        if self.standing.is_in(SmState::Standby) {
+            self.standing.move_by(Event::PollsUnanswered);
+            Ok(())
+        } else {
+            Err(ManagerFault::NotStandby)
+        }
+    }
+
+    /// Queues a HANDOVER to the LID that the plan gives to the port where the manager `receiver` was seen. Returns the
+    /// first of these that applies: `NotMaster`; `Nobody` if `receiver` is `None`; `NoRoom`; `Nobody` if the receiver's
+    /// port is not known to be an end port; `SequenceSpent`; `Memory`.
+    fn hand_to(&mut self, receiver: Option<SeenManager>) -> Result<(), ManagerFault>
+        ensures judged { JudgesButFor is_memory result (handing_fault self.old receiver) }
+        ensures ok { OnOk result (self.new ≡ handed_to self.old (receiver_lid self.old receiver)) }
+        ensures err { OnErr result (self.new ≡ self.old) }
+    {
         let transition = step(
             self.standing.conduct,
             self.standing.state,
@@ -130,7 +180,7 @@ impl Manager {
         let Some(message) = transition.message else {
             return Err(ManagerFault::NotMaster);
         };
-        let lid = self.successor_lid()?;
+        let lid = self.receiver_lid(receiver)?;
         reserve(1, 1, &mut self.requests, &mut self.outgoing)?;
         self.standing.move_to(transition.state);
         send_control(
@@ -143,18 +193,18 @@ impl Manager {
         Ok(())
     }
 
-    /// Returns the LID that the plan gives to the successor's port. Returns the first of these that applies: `Nobody`
-    /// if there is no successor; `NoRoom`; `Nobody` if the successor's port is not known to be an end port;
-    /// `SequenceSpent` if no number is left for the request; `Memory`.
-    fn successor_lid(&self) -> Result<Lid, ManagerFault>
-        ensures judged { JudgesButFor is_memory result (successor_fault self.now) }
-        ensures lid { IfOk result (λ lid. successor_lid self.now ≡ Some lid) }
+    /// Returns the LID that the plan gives to the port where the manager `receiver` was seen. Returns the first of these
+    /// that applies: `Nobody` if `receiver` is `None`; `NoRoom`; `Nobody` if the receiver's port is not known to be an
+    /// end port; `SequenceSpent` if no number is left for the request; `Memory`.
+    fn receiver_lid(&self, receiver: Option<SeenManager>) -> Result<Lid, ManagerFault>
+        ensures judged { JudgesButFor is_memory result (receiver_fault self.now receiver) }
+        ensures lid { IfOk result (λ lid. receiver_lid self.now receiver ≡ Some lid) }
         ensures number { OnOk result (self.now.counter < 2 ^ 32) }
     {
-        let Some(successor) = successor(&self.standing.info(), &self.seen) else {
+        let Some(receiver) = receiver else {
             return Err(ManagerFault::Nobody);
         };
-        let Some(port) = port_seen(&self.store, &successor) else {
+        let Some(port) = port_seen(&self.store, &receiver) else {
             return Err(self.lidless_fault());
         };
         where_numbered(self.planned_lid(port), self.requests.has_numbers(1))

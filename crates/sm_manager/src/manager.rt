@@ -9,13 +9,14 @@ ghost use Rattle.smp_bytes.specs.Judges.{JudgesButFor};
 ghost use Rattle.sm_manager.specs.Fault.{is_memory};
 ghost use Rattle.sm_manager.specs.PlanFaults.{plan_fault};
 ghost use Rattle.sweep.specs.Replies.{judged};
+ghost use Rattle.sm_state.specs.Standing.{info_of};
 
 use crate::fault::ManagerFault;
 use crate::manager_requests::ManagerRequests;
 use crate::outgoing::{Outgoing, send_queued};
 use crate::progress::Progress;
 use crate::writing::Writing;
-use attr_codec::Priority;
+use attr_codec::{Priority, SmInfo};
 use fact_store::Store;
 use plan_steps::{Plan, PlanFault, Planning};
 use sm_state::{Conduct, SeenManager, SmState, Standing};
@@ -200,6 +201,13 @@ impl Manager {
         ensures { result.now ≡ self.now.store }
     {
         &self.store
+    }
+
+    /// Returns the SMInfo that the manager reports.
+    pub fn info(&self) -> SmInfo
+        ensures { result ≡ info_of self.now.standing }
+    {
+        self.standing.info()
     }
 
     /// Returns the manager's state among the managers of the subnet.

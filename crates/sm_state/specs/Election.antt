@@ -81,15 +81,30 @@ abbrev pub SuccessorLaw : Type 0
 SuccessorLaw = (own : SmInfo) (seen : List SeenManager)
     → IsSuccessorOrNone (filter (is_candidate own) seen) (successor_of own seen)
 
--- whom to poll -------------------------------------------------------------------------------------
+-- whom to yield to ---------------------------------------------------------------------------------
 
--- whether the manager `s` is a master that `own` hears
-abbrev pub is_heard_master : SmInfo → SeenManager → Bool
-is_heard_master own s = is_heard own s.info && says Master s.info
+-- whether `own` hears the manager `s`, which reports `state`
+abbrev pub is_heard_in : SmState → SmInfo → SeenManager → Bool
+is_heard_in state own s = is_heard own s.info && says state s.info
+
+-- the greatest of the managers in `state` that `own` hears; ties go to the first; None if it hears none
+abbrev pub greatest_in : SmState → SmInfo → List SeenManager → Option SeenManager
+greatest_in state own seen = greatest_of (is_heard_in state own) seen
+
+-- the manager that gets the subnet from `own`, whichever of the two wins: the greatest master that `own` hears or, if it
+-- hears no other master, the greatest standby that it hears; ties go to the first; None if it hears neither
+abbrev pub heir_of : SmInfo → List SeenManager → Option SeenManager
+heir_of own seen = option_or (greatest_in Master own seen) (greatest_in Standby own seen)
+
+-- whom to poll -------------------------------------------------------------------------------------
 
 -- whether the manager `s` outranks `own`
 abbrev pub is_above : SmInfo → SeenManager → Bool
 is_above own s = outranks own s.info
+
+-- whether the manager `s` is a master that `own` hears
+abbrev pub is_heard_master : SmInfo → SeenManager → Bool
+is_heard_master own s = is_heard_in Master own s
 
 -- the manager that `own` polls: the first master that `own` hears. If it hears no master, it polls the greatest of
 -- those that outrank it; ties go to the first; None if no manager outranks it

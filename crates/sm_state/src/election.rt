@@ -1,7 +1,8 @@
 //! The choice among the managers that a sweep saw.
 ghost use Rattle.std.specs.Prelude.{◌≡◌, Some, find, if◌then◌else◌};
 ghost use Rattle.sm_state.specs.Conduct.{is_heard};
-ghost use Rattle.sm_state.specs.Election.{any_outranks, better, greatest_of, next_best, successor_of, is_above};
+ghost use Rattle.sm_state.specs.Election.{any_outranks, better, greatest_of, greatest_in, heir_of, next_best};
+ghost use Rattle.sm_state.specs.Election.{is_above, is_heard_in, successor_of};
 ghost use Rattle.sm_state.specs.Election.{is_candidate, is_heard_master, outranks, polled_of, says, sweep_verdict};
 
 use crate::{Event, SmState, wins};
@@ -47,6 +48,27 @@ pub fn successor(own: &SmInfo, seen: &[SeenManager]) -> Option<SeenManager>
         best = next_best(is_candidate(own, other), best, *other);
     }
     best
+}
+
+/// Returns the greatest manager of `seen` that `own` hears and that reports `state`; ties go to the first. Returns `None`
+/// if there is no such manager. Takes time linear in the length of `seen`.
+pub fn greatest_in(state: SmState, own: &SmInfo, seen: &[SeenManager]) -> Option<SeenManager>
+    ensures { result ≡ greatest_in state own.now seen.now }
+{
+    let mut best = None;
+    for other in seen {
+        best = next_best(is_heard_in(state, own, other), best, *other);
+    }
+    best
+}
+
+/// Returns the manager that gets the subnet from `own` if `own` does not keep it, whichever of the two wins: the
+/// greatest master in `seen` that `own` hears or, if it hears no master, the greatest standby that it hears. Ties go to
+/// the first. Returns `None` if `own` hears neither. Takes time linear in the length of `seen`.
+pub fn heir(own: &SmInfo, seen: &[SeenManager]) -> Option<SeenManager>
+    ensures { result ≡ heir_of own.now seen.now }
+{
+    greatest_in(SmState::Master, own, seen).or(greatest_in(SmState::Standby, own, seen))
 }
 
 /// Returns the manager to poll: the first master in `seen` that `own` hears. If `own` hears no master, returns the
@@ -118,7 +140,14 @@ fn is_candidate(own: &SmInfo, other: &SeenManager) -> bool
 fn is_heard_master(own: &SmInfo, other: &SeenManager) -> bool
     ensures { result ≡ is_heard_master own.now other.now }
 {
-    is_heard(own, &other.info) && says(SmState::Master, &other.info)
+    is_heard_in(SmState::Master, own, other)
+}
+
+/// Returns whether the manager whose SMInfo is `own` hears `other`, and `other` reports `state`.
+fn is_heard_in(state: SmState, own: &SmInfo, other: &SeenManager) -> bool
+    ensures { result ≡ is_heard_in state own.now other.now }
+{
+    is_heard(own, &other.info) && says(state, &other.info)
 }
 
 /// Returns whether `other` outranks the manager whose SMInfo is `own`. That manager must hear `other`, and `other`

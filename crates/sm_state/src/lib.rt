@@ -14,7 +14,7 @@ mod transitions;
 
 pub use conduct::Conduct;
 pub use control::Control;
-pub use election::{SeenManager, polled, successor, sweep_verdict};
+pub use election::{SeenManager, greatest_in, heir, polled, successor, sweep_verdict};
 pub use event::{Event, Message};
 pub use precedence::wins;
 pub use standing::Standing;

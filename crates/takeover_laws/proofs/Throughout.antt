@@ -25,7 +25,7 @@ use Rattle.manager_laws.specs.Scene.{Handed, Scene, Sending, ByLid, ByPath, Answ
 use Rattle.manager_laws.proofs.Answers.{Continues}
 use Rattle.manager_laws.proofs.PlannedPings.{pings_arrive}
 use Rattle.manager_laws.proofs.Alike.{agrees_along, end_port_along}
-use Rattle.manager_laws.specs.Managing.{Managing, ManagerEvent, Around, Begin, Write, Take, Send, Hear, TimeOut, Raise, Merge, Poll, HandOver}
+use Rattle.manager_laws.specs.Managing.{Managing, ManagerEvent, Around, Begin, Write, Take, Send, Hear, TimeOut, Raise, Merge, Poll, HandOver, Yield, Rediscover}
 use Rattle.manager_laws.specs.Managing.{CanBe, hearing, packet_of, sending, after_manager_event, after_manager_events}
 use Rattle.manager_laws.specs.Sets.{Carries, KeepsPlan, TakesSet}
 use Rattle.manager_laws.specs.Written.{AllKeep, Keeps, at_first_steps, at_writing, own_sets, plan_at}
@@ -213,6 +213,8 @@ module _ (given : Facts) (w : Managing) (before between after : List ManagerEven
   written_next x (Merge floor sightings) c keep h = next x (Merge floor sightings) c tt h
   written_next x (Poll lid) c keep h = next x (Poll lid) c tt h
   written_next x HandOver c keep h = next x HandOver c tt h
+  written_next x Yield c keep h = next x Yield c tt h
+  written_next x Rediscover c keep h = next x Rediscover c tt h
 
   written_along : (events : List ManagerEvent) (x : Managing)
       → AllKeep (plan_at (at_writing w before between)) (own_sets w (at_writing w before between)) events x → Runs x → All (CanBe w.seat) events

@@ -2,7 +2,7 @@
 use Rattle.std.proofs.Common.{sym, ap, ◌∙◌, subst}
 use Rattle.std.specs.Prelude.{IsSome}
 use Rattle.lid_assign.specs.Lids.{Given, lid_of}
-use Rattle.sm_manager.proofs.SuccessorLids.{end_port_has_lid}
+use Rattle.sm_manager.proofs.ReceiverLids.{end_port_has_lid}
 use Rattle.sm_manager.proofs.manager.Manager.planned_lid.Goals as goal
 
 pub unwrap-requires : goal.unwrap-requires

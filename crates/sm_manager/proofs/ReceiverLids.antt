@@ -22,7 +22,7 @@ use Rattle.sm_manager.specs.declared.pending.Purpose.TheVariants.{Control}
 use Rattle.sm_state.specs.declared.standing.Standing.{Standing}
 use Rattle.sm_state.specs.declared.election.SeenManager.{SeenManager}
 use Rattle.sm_manager.specs.declared.fault.ManagerFault.{ManagerFault}
-use Rattle.sm_manager.specs.Election.{control_out, control_sent, after_handover, handover_move, successor, successor_fault, successor_lid, successor_port, info_pending, port_seen, after_message, unless_lid}
+use Rattle.sm_manager.specs.Election.{control_out, control_sent, handed_to, handover_move, receiver_fault, receiver_lid, receiver_port, info_pending, port_seen, after_message, unless_lid}
 use Rattle.sm_manager.specs.Manager.{Manager}
 use Rattle.sm_manager.specs.PlanFaults.{number_fault, or_else, plan_fault, room_fault, unless_numbers}
 use Rattle.sm_manager.specs.declared.fault.ManagerFault.TheVariants.{Nobody}
@@ -52,7 +52,7 @@ end_port_has_lid lmc facts e fault is =
     let its : Contains (lids lmc cells).ports (e, x.1) = subst (λ (y : EndPort). Contains (lids lmc cells).ports (y, x.1)) same there in
     subst (λ o. IsSome o) (sym (lid-from_given (lids lmc cells) (ports_apart lmc facts (has_room lmc facts room)) e x.1 its)) refl
 
--- the port where the successor was seen is an end port
+-- the port where a manager was seen is an end port, if the facts have one there
 pub seen_is_end : (cells : Cells) (o : Option SeenManager) (e : EndPort) → option_and_then (port_seen cells) o ≡ Some e → is_end_port cells e.node e.port ≡ true
 seen_is_end cells None e h = absurd (cc)
 seen_is_end cells (Some s) e h = by_test (is_end_port cells s.guid s.port) refl h
@@ -78,32 +78,32 @@ with_lid lmc facts p later is = by_fault (plan_fault lmc (cells_of facts)) refl
     by_fault None e = given (lid_of (lids lmc (cells_of facts)) p) (end_port_has_lid lmc facts p e is)
     by_fault (Some why) e = refl
 
--- if the successor was seen at an end port, a handover is refused if the plan is, or if numbers are lacking
-pub judged_with_lid : (before m : Manager) (s : SeenManager) (p : EndPort) (are_numbers : Bool) → before ≡ m → successor m ≡ Some s
+-- if the receiver was seen at an end port, a handover is refused if the plan is, or if numbers are lacking
+pub judged_with_lid : (before m : Manager) (receiver : Option SeenManager) (s : SeenManager) (p : EndPort) (are_numbers : Bool) → before ≡ m → receiver ≡ Some s
     → port_seen (cells_of m.store) s ≡ Some p → are_numbers ≡ nat_le (before.counter + 1) (2 ^ 32)
-    → or_else (plan_fault m.planning.lmc (cells_of m.store)) (unless_numbers are_numbers) ≡ successor_fault m
-judged_with_lid before m s p are_numbers same there seen enough =
+    → or_else (plan_fault m.planning.lmc (cells_of m.store)) (unless_numbers are_numbers) ≡ receiver_fault m receiver
+judged_with_lid before m receiver s p are_numbers same there seen enough =
     let cells = cells_of m.store in
     let plan = plan_fault m.planning.lmc cells in
     let number = number_fault (m.counter + 1) in
-    let port : successor_port m ≡ Some p = ap (option_and_then (port_seen cells)) there ∙ seen in
-    let lid : successor_lid m ≡ lid_of (lids m.planning.lmc cells) p = ap (option_and_then (lid_of (lids m.planning.lmc cells))) port in
+    let port : receiver_port m receiver ≡ Some p = ap (option_and_then (port_seen cells)) there ∙ seen in
+    let lid : receiver_lid m receiver ≡ lid_of (lids m.planning.lmc cells) p = ap (option_and_then (lid_of (lids m.planning.lmc cells))) port in
     ap (λ (b : Bool). or_else plan (unless_numbers b)) (enough ∙ ap (λ (x : Manager). nat_le (x.counter + 1) (2 ^ 32)) same)
     ∙ ap (or_else plan) (unless_so_many m.counter 1)
-    ∙ with_lid m.planning.lmc m.store p number (seen_is_end cells (successor m) p port)
+    ∙ with_lid m.planning.lmc m.store p number (seen_is_end cells receiver p port)
     ∙ ap (λ o. or_else plan (or_else (unless_lid o) number)) (sym lid)
-    ∙ sym (ap (λ (o : Option SeenManager). if is_none o then Some Nobody else or_else plan (or_else (unless_lid (successor_lid m)) number)) there)
+    ∙ sym (ap (λ (o : Option SeenManager). if is_none o then Some Nobody else or_else plan (or_else (unless_lid (receiver_lid m receiver)) number)) there)
 
--- what goes to the successor
-pub handed_is : (m : Manager) (lid : ℕ) (message : Message) → successor_lid m ≡ Some lid → (handover_move m).message ≡ Some message
-    → control_sent (record m { standing = moved_to (handover_move m).state m.standing }) lid (control_of_message message) ≡ after_handover m
-handed_is m lid message e f = sym (λ i. after_message (record m { standing = moved_to (handover_move m).state m.standing }) (e i) (f i))
+-- what goes to the receiver
+pub handed_is : (m : Manager) (to : Option ℕ) (lid : ℕ) (message : Message) → to ≡ Some lid → (handover_move m).message ≡ Some message
+    → control_sent (record m { standing = moved_to (handover_move m).state m.standing }) lid (control_of_message message) ≡ handed_to m to
+handed_is m to lid message e f = sym (λ i. after_message (record m { standing = moved_to (handover_move m).state m.standing }) (e i) (f i))
 
-pub handed_parts : (m : Manager) (standing : Standing) (counter : ℕ) (pending : List Pending) (outgoing : List Outgoing) (lid : ℕ) (message : Message)
-    → successor_lid m ≡ Some lid → (handover_move m).message ≡ Some message → standing ≡ moved_to (handover_move m).state m.standing → counter ≡ m.counter + 1
+pub handed_parts : (m : Manager) (standing : Standing) (counter : ℕ) (pending : List Pending) (outgoing : List Outgoing) (to : Option ℕ) (lid : ℕ) (message : Message)
+    → to ≡ Some lid → (handover_move m).message ≡ Some message → standing ≡ moved_to (handover_move m).state m.standing → counter ≡ m.counter + 1
     → pending ≡ m.pending ++ info_pending m.counter Control (modifier_of_control (control_of_message message)) ∷ []
     → outgoing ≡ m.outgoing ++ control_out standing m.counter lid (control_of_message message) ∷ []
-    → record m { standing = standing; counter = counter; pending = pending; outgoing = outgoing } ≡ after_handover m
-handed_parts m standing counter pending outgoing lid message e f moved number waits out =
+    → record m { standing = standing; counter = counter; pending = pending; outgoing = outgoing } ≡ handed_to m to
+handed_parts m standing counter pending outgoing to lid message e f moved number waits out =
     let sent = out ∙ ap (λ s. m.outgoing ++ control_out s m.counter lid (control_of_message message) ∷ []) moved in
-    (λ i. record m { standing = moved i; counter = number i; pending = waits i; outgoing = sent i }) ∙ handed_is m lid message e f
+    (λ i. record m { standing = moved i; counter = number i; pending = waits i; outgoing = sent i }) ∙ handed_is m to lid message e f
