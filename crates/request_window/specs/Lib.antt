@@ -1,0 +1,4 @@
+pub mod Calls
+pub mod Coded
+pub mod Window
+pub mod WindowLaws

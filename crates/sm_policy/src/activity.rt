@@ -1,0 +1,27 @@
+ghost use Rattle.std.specs.Prelude.{◌≡◌};
+ghost use Rattle.sm_policy.specs.Policy.{is_sweeping};
+
+/// What a manager is about.
+#[derive(Clone, Copy, Debug, PartialEq, Eq)]
+pub enum Activity {
+    /// Nothing runs but perhaps a poll.
+    Rests,
+    /// A sweep runs.
+    Sweeps,
+    /// A writing runs.
+    Writes,
+    /// A HANDOVER is out, or its acknowledgement is waited for.
+    Hands,
+}
+
+impl Activity {
+    /// Returns whether a sweep runs.
+    pub(crate) fn is_sweeping(self) -> bool
+        ensures { result ≡ is_sweeping self }
+    {
+        match self {
+            Activity::Sweeps => true,
+            Activity::Rests | Activity::Writes | Activity::Hands => false,
+        }
+    }
+}
