@@ -8,7 +8,7 @@ ghost use Rattle.ibsm.specs.Ending.{IsDone, PerformsWords, SaysWhyOfWords, statu
 
 use crate::opener::Opener;
 use crate::perform::{perform_or_explain, say};
-use crate::usage_errors::{explain, tell_successors, words};
+use crate::usage_errors::{explain, words};
 use byte_io::{Sink, ToWrite};
 use clap::ArgMatches;
 use cli_arguments::matches_of;
@@ -46,13 +46,7 @@ where
     let writer = BufWriter::new(rt.alloc(), output).map_err(|_| AllocError)?;
     match matches_of(rt.alloc(), words.as_slice())? {
         Ok(matches) => dispatch(rt, &matches, &mut ToWrite::new(writer), errors),
-        Err(error) => {
-            let status = explain(rt, &error, errors)?;
-            if status == ExitStatus::Usage {
-                tell_successors(rt, &words);
-            }
-            Ok(status)
-        }
+        Err(error) => explain(rt, &words, &error, errors),
     }
 }
 

@@ -1,11 +1,13 @@
 //! The words of the command line, and what is printed if they are wrong.
-ghost use Rattle.std.specs.Prelude.{◌≡◌, ◌↔◌, ◌⊎◌, IfOk, IsErr};
+ghost use Rattle.std.specs.Prelude.{◌≡◌, ◌↔◌, ◌⊎◌, [], IfOk, IsErr, OnErr};
 ghost use Rattle.clap.specs.Values.{kind_of};
-ghost use Rattle.ibsm.specs.Ending.{IsFaultOfWords, IsShownOrNot};
+ghost use Rattle.next_run.specs.NextRun.{IsSaid};
+ghost use Rattle.ibsm.specs.Ending.{IsFaultOfWords, IsShownOrNot, fault_line};
+ghost use Rattle.ibsm.specs.GoneWords.{successors_text};
 
-use crate::gone_words::successor;
+use crate::gone_words::write_successors;
 use crate::perform::say;
-use byte_io::ToWrite;
+use byte_io::{Sink, ToWrite};
 use clap::Error;
 use clap::error::ErrorKind;
 use sm_cli::{ExitStatus, Fault};
@@ -29,22 +31,33 @@ pub(crate) fn words<R: Env + Eprint + AllocGlobal>(
     }
 }
 
-/// Prints help or the version to standard output, or the fault of the command line to standard error. If help or the
-/// version cannot be printed, writes that to `errors`. Returns an error exactly if `error` is a lack of memory.
+/// Prints help or the version to standard output, or the fault of the command line to standard error. After the fault,
+/// writes to `errors` what to use instead of each of `words` that the program took in an earlier release. If help or
+/// the version cannot be printed, writes that to `errors`. Returns an error exactly if `error` is a lack of memory.
 pub(crate) fn explain<R: Print + Eprint, E: Write>(
     rt: &R,
+    words: &[String],
     error: &Error,
     errors: &mut ToWrite<E>,
 ) -> Result<ExitStatus, AllocError>
     ensures memory { IsErr result ↔ (kind_of error.now ≡ ErrorKind.OutOfMemory) }
     ensures usage { IfOk result (λ status. (status ≡ ExitStatus.Usage) ↔ IsFaultOfWords (kind_of error.now)) }
     ensures shown { IfOk result (λ status. IsFaultOfWords (kind_of error.now) ⊎ IsShownOrNot status) }
+    ensures successors { IfOk result (λ status. status ≡ ExitStatus.Usage
+        → IsSaid ⟦<ToWrite<E> as Sink>⟧.written ⟦<ToWrite<E> as Sink>⟧.has_failed errors.old errors.new
+        (successors_text words.now)) }
+    ensures fault { IfOk result (λ status. status ≡ ExitStatus.InputOutput
+        → IsSaid ⟦<ToWrite<E> as Sink>⟧.written ⟦<ToWrite<E> as Sink>⟧.has_failed errors.old errors.new
+        (fault_line [] Fault.Write)) }
+    ensures silent { IfOk result (λ status. status ≡ ExitStatus.Done → errors.new ≡ errors.old) }
+    ensures nothing_said { OnErr result (errors.new ≡ errors.old) }
 {
     if error.kind() == ErrorKind::OutOfMemory {
         return Err(AllocError);
     }
     let printed = error.print(rt);
     if error.use_stderr() {
+        tell_successors(words, errors);
         return Ok(ExitStatus::Usage);
     }
     if printed.is_err() {
@@ -53,12 +66,11 @@ pub(crate) fn explain<R: Print + Eprint, E: Write>(
     Ok(ExitStatus::Done)
 }
 
-/// Prints to standard error what to use instead of each of `words` that the program took in an earlier release.
-pub(crate) fn tell_successors<R: Eprint>(rt: &R, words: &[String]) {
-    for word in words {
-        let line = successor(word);
-        if !line.is_empty() {
-            let _ = rt.eprintln(line);
-        }
-    }
+/// Writes to `errors` what to use instead of each of `words` that the program took in an earlier release, in the order
+/// of `words`. Ignores a failed write.
+fn tell_successors<E: Write>(words: &[String], errors: &mut ToWrite<E>)
+    ensures { IsSaid ⟦<ToWrite<E> as Sink>⟧.written ⟦<ToWrite<E> as Sink>⟧.has_failed errors.old errors.new
+        (successors_text words.now) }
+{
+    let _ = write_successors(errors, words);
 }
