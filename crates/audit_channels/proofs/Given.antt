@@ -1,98 +1,20 @@
 -- Numbers of channels, given round by round.
-use Rattle.std.proofs.Common.{◌≡◌, ◌≢◌, ◌<◌, ◌≤◌, ◌+◌, ℕ, zero, suc, Bool, true, false, cond, List, [], ◌∷◌, length, replicate, refl, sym, ap, ◌∙◌, subst, arith, inl, inr, ◌⊎◌}
-use Rattle.std.specs.Prelude.{count_by, slice_index_or, ◌==◌, not, ◌&&◌}
-use Rattle.std.specs.Prelude.{None, Some, position}
-use Rattle.std.specs.List.{position_or_len}
+use Rattle.std.proofs.Common.{◌≡◌, ◌≢◌, ◌<◌, ◌≤◌, ℕ, zero, suc, Bool, true, false, cond, List, [], ◌∷◌, length, replicate, refl, sym, ap, ◌∙◌, subst, arith, inl, inr, ◌⊎◌}
+use Rattle.std.specs.Prelude.{Contains, filter, slice_index_or, slice_set, ◌==◌, not}
+use Rattle.std.specs.Prelude.{All, None, Some, position}
+use Rattle.std.specs.List.{position_or_len, range_with_len}
+use Rattle.std.proofs.lemmas.List.{get_or-set_other, get_or-set_same, length-set}
+use Rattle.std.proofs.lemmas.List.FromFn.{get_or-range_with_len, length-range_with_len}
 use Rattle.std.proofs.lemmas.List.Sums.{fails_before_first}
 use Rattle.std.proofs.lemmas.List.Quantifiers.{position-Some}
-use Rattle.smp_bytes.proofs.Members.{contains_none}
+use Rattle.smp_bytes.proofs.Members.{contains_cases, contains_filter, contains-from_filter, contains_here, contains_later, contains_none}
 use Rattle.std.proofs.lemmas.Bool.{cases_lt, eqb-true, eq-eqb, ltb-false}
-use Rattle.std.proofs.lemmas.List.Sums.{sum_by-cons}
 use Rattle.audit_channels.specs.ChannelOrders.{Follows, LeadToChannels, Rise}
-use Rattle.audit_channels.specs.Numbers.{has_none, is_held_up, next_number, AreFurther, AreGiven}
+use Rattle.audit_channels.specs.Numbers.{has_none, is_free, is_held_up, with_number, AreGiven}
 use Rattle.audit_channels.proofs.Passing.{list_any_true}
 
 abbrev num : List ℕ → ℕ → ℕ
 num numbers c = slice_index_or numbers c 0
-
-abbrev one : ℕ → ℕ
-one zero = 1
-one (suc n) = 0
-
-abbrev zeros : List ℕ → ℕ
-zeros [] = 0
-zeros (x ∷ xs) = one x + zeros xs
-
-not_zero : (n : ℕ) → n ≢ 0 → (n == 0) ≡ false
-not_zero n h = elim (n == 0) as (λ t. (n == 0) ≡ t → t ≡ false) [ true ↦ λ q. absurd (h (eqb-true n 0 q)) | false ↦ λ q. refl ] refl
-
-suc_not : (n : ℕ) → (suc n == 0) ≡ false
-suc_not n = not_zero (suc n) (λ e. omega arith)
-
-one_is : (x : ℕ) → one x ≡ cond (x == 0) 1 0
-one_is zero = refl
-one_is (suc n) = sym (ap (λ t. cond t 1 0) (suc_not n))
-
-zeros_count : (xs : List ℕ) → zeros xs ≡ count_by (λ n. n == 0) xs
-zeros_count [] = refl
-zeros_count (x ∷ xs) =
-    ap (λ n. one x + n) (zeros_count xs) ∙ ap (λ n. n + count_by (λ n. n == 0) xs) (one_is x) ∙ sym (sum_by-cons (λ (y : ℕ). cond (y == 0) 1 0) x xs)
-
-one_less : (x y : ℕ) → (y ≡ 0 → x ≡ 0) → one y ≤ one x
-one_less zero zero h = omega arith
-one_less zero (suc y) h = omega arith
-one_less (suc x) zero h = let e = h refl in absurd (omega arith)
-one_less (suc x) (suc y) h = omega arith
-
-fewer : (xs ys : List ℕ) → length ys ≡ length xs → ((i : ℕ) → i < length xs → num ys i ≡ 0 → num xs i ≡ 0) → zeros ys ≤ zeros xs
-fewer [] [] e h = omega arith
-fewer [] (y ∷ ys) e h = absurd (omega arith)
-fewer (x ∷ xs) [] e h = absurd (omega arith)
-fewer (x ∷ xs) (y ∷ ys) e h =
-    let head = one_less x y (h 0 (omega arith)) in let rest = fewer xs ys (omega arith) (λ i less. h (suc i) (omega arith)) in omega arith
-
-one_same : (x y : ℕ) → one y ≡ one x → x ≡ 0 → y ≡ 0
-one_same zero zero e h = refl
-one_same zero (suc y) e h = absurd (omega arith)
-one_same (suc x) y e h = absurd (omega arith)
-
-same : (xs ys : List ℕ) → length ys ≡ length xs → ((i : ℕ) → i < length xs → num ys i ≡ 0 → num xs i ≡ 0) → zeros ys ≡ zeros xs
-    → (i : ℕ) → i < length xs → num xs i ≡ 0 → num ys i ≡ 0
-same [] ys e h z i less none = absurd (omega arith)
-same (x ∷ xs) [] e h z i less none = absurd (omega arith)
-same (x ∷ xs) (y ∷ ys) e h z zero less none =
-    let head = one_less x y (h 0 (omega arith)) in
-    let rest = fewer xs ys (omega arith) (λ i less. h (suc i) (omega arith)) in one_same x y (omega arith) none
-same (x ∷ xs) (y ∷ ys) e h z (suc i) less none =
-    let head = one_less x y (h 0 (omega arith)) in
-    let rest = fewer xs ys (omega arith) (λ k at. h (suc k) (omega arith)) in
-    same xs ys (omega arith) (λ k at. h (suc k) (omega arith)) (omega arith) i (omega arith) none
-
--- what a channel's number becomes
-record Keeps (old next : ℕ) : Type 0 where
-  some : old ≢ 0
-  same_is : next ≡ old
-
-record Gets (held : Bool) (old next number : ℕ) : Type 0 where
-  none : old ≡ 0
-  free : held ≡ false
-  is : next ≡ number
-
-record Waits (held : Bool) (old next : ℕ) : Type 0 where
-  none : old ≡ 0
-  held_up : held ≡ true
-  is : next ≡ 0
-
-becomes : (following numbers : List ℕ) (old number next : ℕ) → next ≡ next_number following numbers old number
-    → Keeps old next ⊎ (Gets (is_held_up numbers following) old next number ⊎ Waits (is_held_up numbers following) old next)
-becomes following numbers (suc old) number next e =
-    inl (record { some = λ z. omega arith; same_is = e ∙ ap (λ t. cond (t && not (is_held_up numbers following)) number (suc old)) (suc_not old) })
-becomes following numbers zero number next e =
-    elim (is_held_up numbers following) as (λ t. is_held_up numbers following ≡ t → next ≡ cond (not t) number 0
-    → Keeps 0 next ⊎ (Gets t 0 next number ⊎ Waits t 0 next)) [
-      | true ↦ λ q k. inr (inr (record { none = refl; held_up = refl; is = k }))
-      | false ↦ λ q k. inr (inl (record { none = refl; free = refl; is = k }))
-    ] refl e
 
 -- a list's number there, whichever stands for none
 pub there : (xs : List ℕ) (i d e : ℕ) → i < length xs → slice_index_or xs i d ≡ slice_index_or xs i e
@@ -119,12 +41,74 @@ has_none_at numbers c less e = eq-eqb (slice_index_or numbers c 1) 0 (there numb
 some_there : (numbers : List ℕ) (c : ℕ) → num numbers c ≢ 0 → c < length numbers
 some_there numbers c h = elim (cases_lt c (length numbers)) [ inl less ↦ less | inr more ↦ absurd (h (past numbers c 0 more)) ]
 
--- numbers so far
-pub record SoFar (waits : List (List ℕ)) (numbers : List ℕ) (left : ℕ) : Type 0 where
+-- a number for some channels ----------------------------------------------------------------------
+
+pub length_with : (channels : List ℕ) (number : ℕ) (numbers : List ℕ) → length (with_number channels number numbers) ≡ length numbers
+length_with [] number numbers = refl
+length_with (c ∷ later) number numbers = length_with later number (slice_set numbers c number) ∙ length-set numbers c number
+
+-- a channel's number is given, or what it was
+given_or_same : (channels : List ℕ) (number : ℕ) (numbers : List ℕ) (c : ℕ) → c < length numbers
+    → (Contains channels c × (num (with_number channels number numbers) c ≡ number)) ⊎ (num (with_number channels number numbers) c ≡ num numbers c)
+given_or_same [] number numbers c less = inr refl
+given_or_same (d ∷ later) number numbers c less =
+    let long = length-set numbers d number in
+    elim (given_or_same later number (slice_set numbers d number) c (omega arith)) [
+      | inl given ↦ inl (contains_later d c later given.0, given.1)
+      | inr same ↦ (elim (c == d) as (λ t. (c == d) ≡ t → (Contains (d ∷ later) c × (num (with_number later number (slice_set numbers d number)) c ≡ number))
+          ⊎ (num (with_number later number (slice_set numbers d number)) c ≡ num numbers c)) [
+            | true ↦ λ q. let is : c ≡ d = eqb-true c d q in
+                inl (
+                  subst (λ (x : ℕ). Contains (x ∷ later) c) is (contains_here c later),
+                  same ∙ ap (λ x. num (slice_set numbers x number) c) (sym is) ∙ get_or-set_same numbers c number 0 less,
+                )
+            | false ↦ λ q. inr (same ∙ get_or-set_other numbers d c number 0 (λ is. let e : (c == d) ≡ true = eq-eqb c d is in cc))
+          ] refl)
+    ]
+
+-- each of the channels has it
+given_to : (channels : List ℕ) (number : ℕ) (numbers : List ℕ) (c : ℕ) → c < length numbers → Contains channels c
+    → num (with_number channels number numbers) c ≡ number
+given_to [] number numbers c less here = absurd (contains_none c here)
+given_to (d ∷ later) number numbers c less here =
+    let long = length-set numbers d number in
+    elim (contains_cases d c later here) [
+      | inl is ↦ (elim (given_or_same later number (slice_set numbers d number) c (omega arith)) [
+        | inl given ↦ given.1
+        | inr same ↦ same ∙ ap (λ x. num (slice_set numbers x number) c) is ∙ get_or-set_same numbers c number 0 less
+      ])
+      | inr more ↦ given_to later number (slice_set numbers d number) c (omega arith) more
+    ]
+
+-- what passes a test is no more, and less where one does not pass
+filter_no_more : (p : ℕ → Bool) (xs : List ℕ) → length (filter p xs) ≤ length xs
+filter_no_more p [] = omega arith
+filter_no_more p (x ∷ xs) =
+    let rest = filter_no_more p xs in
+    elim (p x) as (λ t. length (cond t (x ∷ filter p xs) (filter p xs)) ≤ length (x ∷ xs)) [ true ↦ omega arith | false ↦ omega arith ]
+
+filter_less : (p : ℕ → Bool) (xs : List ℕ) (x : ℕ) → Contains xs x → p x ≡ false → length (filter p xs) < length xs
+filter_less p [] x here e = absurd (contains_none x here)
+filter_less p (y ∷ xs) x here e =
+    elim (contains_cases y x xs here) [
+      | inl is ↦
+          let rest = filter_no_more p xs in
+          let P : Bool → Type 0 = λ t. length (cond t (y ∷ filter p xs) (filter p xs)) < length (y ∷ xs) in
+          subst P (sym (ap p is ∙ e)) (omega arith)
+      | inr more ↦
+          let rest = filter_less p xs x more e in
+          elim (p y) as (λ t. length (cond t (y ∷ filter p xs) (filter p xs)) < length (y ∷ xs)) [ true ↦ omega arith | false ↦ omega arith ]
+    ]
+
+-- numbers so far ----------------------------------------------------------------------------------
+
+-- numbers so far, and the channels that are left without one
+pub record SoFar (waits : List (List ℕ)) (numbers left : List ℕ) : Type 0 where
   pub as_many : length numbers ≡ length waits
-  pub left_is : left ≡ count_by (λ n. n == 0) numbers
   pub leads : LeadToChannels waits
-  pub above : (c : ℕ) → num numbers c ≢ 0 → left < num numbers c
+  pub none : (c : ℕ) → Contains left c → has_none numbers c ≡ true
+  pub all : (c : ℕ) → c < length numbers → num numbers c ≡ 0 → Contains left c
+  pub above : (c : ℕ) → num numbers c ≢ 0 → length left < num numbers c
   pub rises : (c next : ℕ) → num numbers c ≢ 0 → Follows waits c next → num numbers c < num numbers next
 
 blank : (n i : ℕ) → num (replicate {A = ℕ} n 0) i ≡ 0
@@ -132,116 +116,150 @@ blank zero i = refl
 blank (suc n) zero = refl
 blank (suc n) (suc i) = blank n i
 
-blank_zeros : (n : ℕ) → zeros (replicate {A = ℕ} n 0) ≡ n
-blank_zeros zero = refl
-blank_zeros (suc n) = let e = blank_zeros n in omega arith
-
 blank_long : (n : ℕ) → length (replicate {A = ℕ} n 0) ≡ n
 blank_long zero = refl
 blank_long (suc n) = ap suc (blank_long n)
 
-pub none_given : (waits : List (List ℕ)) (numbers : List ℕ) (left : ℕ) → numbers ≡ replicate {A = ℕ} left 0 → left ≡ length waits → LeadToChannels waits
-    → SoFar waits numbers left
-none_given waits numbers left e all leads =
+-- a range of channels has each channel below its end, and no other
+in_range : (n c : ℕ) → Contains (range_with_len 0 n) c → c < n
+in_range n c here =
+    let long = length-range_with_len 0 n in
+    let is = get_or-range_with_len 0 n here.0 c (omega (arith, here.1)) in omega (arith, here.1, here.2)
+
+of_range : (n c : ℕ) → c < n → Contains (range_with_len 0 n) c
+of_range n c less =
+    let long = length-range_with_len 0 n in
+    let is = get_or-range_with_len 0 n c c less in (c, omega arith, omega arith)
+
+pub none_given : (waits : List (List ℕ)) (numbers left : List ℕ) (n : ℕ) → numbers ≡ replicate {A = ℕ} n 0 → left ≡ range_with_len 0 n → n ≡ length waits
+    → LeadToChannels waits → SoFar waits numbers left
+none_given waits numbers left n e is all leads =
     subst (λ (xs : List ℕ). SoFar waits xs left) (sym e)
+    (subst (λ (cs : List ℕ). SoFar waits (replicate {A = ℕ} n 0) cs) (sym is)
     (record {
-      as_many = blank_long left ∙ all;
-      left_is = sym (blank_zeros left) ∙ zeros_count (replicate {A = ℕ} left 0);
+      as_many = blank_long n ∙ all;
       leads = leads;
-      above = λ c some. absurd (some (blank left c));
-      rises = λ c next some follows. absurd (some (blank left c));
-    })
+      none = λ c here. (let long = blank_long n in let less = in_range n c here in has_none_at (replicate {A = ℕ} n 0) c (omega arith) (blank n c));
+      all = λ c less none. (let long = blank_long n in of_range n c (omega arith));
+      above = λ c some. absurd (some (blank n c));
+      rises = λ c next some follows. absurd (some (blank n c));
+    }))
 
-module _ (waits : List (List ℕ)) (numbers next : List ℕ) (left now : ℕ) (some : 0 < left) (so_far : SoFar waits numbers left)
-    (further : AreFurther waits numbers left next) (now_is : now ≡ count_by (λ n. n == 0) next) where
-  at : (c : ℕ) → c < length numbers → Keeps (num numbers c) (num next c)
-      ⊎ (Gets (is_held_up numbers (slice_index_or waits c [])) (num numbers c) (num next c) left
-      ⊎ Waits (is_held_up numbers (slice_index_or waits c [])) (num numbers c) (num next c))
-  at c less = becomes (slice_index_or waits c []) numbers (num numbers c) left (num next c) (further.each c less)
+module _ (waits : List (List ℕ)) (numbers left : List ℕ) (so_far : SoFar waits numbers left) where
+  -- a channel that is left has no number
+  pub within : (c : ℕ) → Contains left c → c < length numbers
+  within c here = (none_there numbers c (so_far.none c here)).0
 
-  stays_none : (c : ℕ) → c < length numbers → num next c ≡ 0 → num numbers c ≡ 0
-  stays_none c less e =
-      elim (at c less) [ inl k ↦ sym k.same_is ∙ e | inr (inl g) ↦ g.none | inr (inr w) ↦ w.none ]
+  pub free_within : All (λ c. c < length numbers) (filter (is_free waits numbers) left)
+  free_within = λ k d less.
+      let here : Contains (filter (is_free waits numbers) left) (slice_index_or (filter (is_free waits numbers) left) k d) = (k, less, same k d less) in
+      within _ (contains-from_filter (is_free waits numbers) left _ here).0
+    where
+      same : (k d : ℕ) → k < length (filter (is_free waits numbers) left)
+          → slice_index_or (filter (is_free waits numbers) left) k (slice_index_or (filter (is_free waits numbers) left) k d)
+          ≡ slice_index_or (filter (is_free waits numbers) left) k d
+      same k d less = there (filter (is_free waits numbers) left) k _ d less
 
-  zeros_less : zeros next ≤ zeros numbers
-  zeros_less = fewer numbers next further.as_many stays_none
-
-  zeros_are : zeros numbers ≡ left
-  zeros_are = zeros_count numbers ∙ sym so_far.left_is
-
-  zeros_now : zeros next ≡ now
-  zeros_now = zeros_count next ∙ sym now_is
-
-  pub now_less : (now ≡ left → ⊥) → now < left
-  now_less apart = omega (arith, zeros_less, zeros_are, zeros_now, apart)
-
-  pub all_given : now ≡ left → AreGiven waits numbers
-  all_given e = record {
+  -- if none is free, each that is left is held up
+  pub all_given : filter (is_free waits numbers) left ≡ [] → AreGiven waits numbers
+  all_given no_free = record {
     as_many = so_far.as_many;
     rises = so_far.rises;
     held_up = λ c less none.
-        (let still = same numbers next further.as_many stays_none (zeros_now ∙ e ∙ sym zeros_are) c less none in
-        elim (at c less) [
-          | inl k ↦ absurd (k.some none)
-          | inr (inl g) ↦ let is = g.is in absurd (omega arith)
-          | inr (inr w) ↦ w.held_up
-        ]);
+        (elim (is_held_up numbers (slice_index_or waits c [])) as (λ t. is_held_up numbers (slice_index_or waits c []) ≡ t → t ≡ true) [
+          | true ↦ λ q. refl
+          | false ↦ λ q. absurd (contains_none c (subst (λ (cs : List ℕ). Contains cs c) no_free
+              (contains_filter (is_free waits numbers) left c (so_far.all c less none) (ap not q))))
+        ] refl);
   }
 
-  keeps : (c : ℕ) → num numbers c ≢ 0 → num next c ≡ num numbers c
-  keeps c s =
-      elim (at c (some_there numbers c s)) [ inl k ↦ k.same_is | inr (inl g) ↦ absurd (s g.none) | inr (inr w) ↦ absurd (s w.none) ]
+  module _ (free next later : List ℕ) (free_is : free ≡ filter (is_free waits numbers) left) (next_is : next ≡ with_number free (length left) numbers)
+      (later_is : later ≡ filter (has_none next) left) where
+    long : length next ≡ length numbers
+    long = ap length next_is ∙ length_with free (length left) numbers
 
-  -- a channel that is not held up: each that follows has a number
-  followed : (c d : ℕ) → is_held_up numbers (slice_index_or waits c []) ≡ false → Follows waits c d → num numbers d ≢ 0
-  followed c d free f = λ none.
-      let within = so_far.leads c d f in
-      let as_many = so_far.as_many in
-      let any : is_held_up numbers (slice_index_or waits c []) ≡ true =
-      list_any_true (has_none numbers) (slice_index_or waits c []) d f (has_none_at numbers d (omega arith) none) in
-      cc
+    is_left : (c : ℕ) → Contains free c → Contains left c × (is_free waits numbers c ≡ true)
+    is_left c here = contains-from_filter (is_free waits numbers) left c (subst (λ (cs : List ℕ). Contains cs c) free_is here)
 
-  above_next : now < left → (c : ℕ) → num next c ≢ 0 → now < num next c
-  above_next less c s =
-      let as_many = further.as_many in
-      let within = some_there next c s in
-      elim (at c (omega arith)) [
-        | inl k ↦ let is = k.same_is in let more = so_far.above c k.some in omega arith
-        | inr (inl g) ↦ let is = g.is in omega arith
-        | inr (inr w) ↦ absurd (s w.is)
-      ]
+    at : (c : ℕ) → c < length numbers → (Contains free c × (num next c ≡ length left)) ⊎ (num next c ≡ num numbers c)
+    at c less =
+        subst (λ (ns : List ℕ). (Contains free c × (num ns c ≡ length left)) ⊎ (num ns c ≡ num numbers c)) (sym next_is)
+        (given_or_same free (length left) numbers c less)
 
-  rises_next : (c d : ℕ) → num next c ≢ 0 → Follows waits c d → num next c < num next d
-  rises_next c d s f =
-      let as_many = further.as_many in
-      let within = some_there next c s in
-      elim (at c (omega arith)) [
-        | inl k ↦ let is = k.same_is in let more = so_far.rises c d k.some f in let kept = keeps d (λ z. omega arith) in omega arith
-        | inr (inl g) ↦ let is = g.is in let has = followed c d g.free f in let more = so_far.above d has in let kept = keeps d has in omega arith
-        | inr (inr w) ↦ absurd (s w.is)
-      ]
+    no_more : length later ≤ length left
+    no_more = let fewer = filter_no_more (has_none next) left in let is = ap length later_is in omega arith
 
-  pub more_given : (now ≡ left → ⊥) → SoFar waits next now
-  more_given apart = record {
-    as_many = further.as_many ∙ so_far.as_many;
-    left_is = now_is;
-    leads = so_far.leads;
-    above = above_next (now_less apart);
-    rises = rises_next;
-  }
+    -- a channel that is free is left no more
+    pub fewer : (c : ℕ) → Contains free c → length later < length left
+    fewer c here =
+        let was = is_left c here in
+        let less = within c was.0 in
+        let some = was.0.1 in
+        let given : num next c ≡ length left = ap (λ ns. num ns c) next_is ∙ given_to free (length left) numbers c less here in
+        let has : has_none next c ≡ false = no_zero (slice_index_or next c 1) (let same = there next c 1 0 (omega (arith, long, less)) in
+        omega (arith, same, given, some)) in
+        let less_now = filter_less (has_none next) left c was.0 has in
+        let is = ap length later_is in omega (arith, less_now, is)
+      where
+        no_zero : (n : ℕ) → 0 < n → (n == 0) ≡ false
+        no_zero n some = elim (n == 0) as (λ t. (n == 0) ≡ t → t ≡ false) [ true ↦ λ q. absurd (let e = eqb-true n 0 q in omega arith) | false ↦ λ q. refl ] refl
 
-pub none_left : (waits : List (List ℕ)) (numbers : List ℕ) (left : ℕ) → SoFar waits numbers left → left ≤ 0 → AreGiven waits numbers
-none_left waits numbers left h e = record {
-  as_many = h.as_many;
-  rises = h.rises;
-  held_up = λ c less none. absurd (some_zero numbers c less none (zeros_count numbers ∙ sym h.left_is ∙ omega arith));
-}
-  where
-    some_zero : (xs : List ℕ) (c : ℕ) → c < length xs → num xs c ≡ 0 → zeros xs ≡ 0 → ⊥
-    some_zero [] c less none z = omega arith
-    some_zero (zero ∷ xs) zero less none z = omega (arith, z)
-    some_zero (suc x ∷ xs) zero less none z = omega (arith, none)
-    some_zero (x ∷ xs) (suc c) less none z = some_zero xs c (omega arith) none (omega (arith, z))
+    -- each channel that follows one that is free has a number
+    followed : (c d : ℕ) → is_free waits numbers c ≡ true → Follows waits c d → num numbers d ≢ 0
+    followed c d free f = λ none.
+        let less = so_far.leads c d f in
+        let as_many = so_far.as_many in
+        let any : is_held_up numbers (slice_index_or waits c []) ≡ true =
+        list_any_true (has_none numbers) (slice_index_or waits c []) d f (has_none_at numbers d (omega arith) none) in
+        let not_free : is_free waits numbers c ≡ false = ap not any in cc
+
+    -- a number that was given stays
+    keeps : (c : ℕ) → num numbers c ≢ 0 → num next c ≡ num numbers c
+    keeps c some =
+        elim (at c (some_there numbers c some)) [
+          | inl given ↦ absurd (some (none_there numbers c (so_far.none c (is_left c given.0).0)).1)
+          | inr same ↦ same
+        ]
+
+    pub more_given : SoFar waits next later
+    more_given = record {
+      as_many = long ∙ so_far.as_many;
+      leads = so_far.leads;
+      none = λ c here. (contains-from_filter (has_none next) left c (subst (λ (cs : List ℕ). Contains cs c) later_is here)).1;
+      all = λ c less none. subst (λ (cs : List ℕ). Contains cs c) (sym later_is)
+          (contains_filter (has_none next) left c (was_left c less none) (has_none_at next c less none));
+      above = above_next;
+      rises = rises_next;
+    }
+      where
+        was_left : (c : ℕ) → c < length next → num next c ≡ 0 → Contains left c
+        was_left c less none =
+            elim (at c (omega (arith, long, less))) [
+              | inl given ↦ (is_left c given.0).0
+              | inr same ↦ so_far.all c (omega (arith, long, less)) (sym same ∙ none)
+            ]
+
+        above_next : (c : ℕ) → num next c ≢ 0 → length later < num next c
+        above_next c some =
+            let less = some_there next c some in
+            elim (at c (omega (arith, long, less))) [
+              | inl given ↦ let is = given.1 in let now = fewer c given.0 in omega (arith, is, now)
+              | inr same ↦ let more = so_far.above c (λ z. some (same ∙ z)) in omega (arith, same, more, no_more)
+            ]
+
+        rises_next : (c d : ℕ) → num next c ≢ 0 → Follows waits c d → num next c < num next d
+        rises_next c d some f =
+            let less = some_there next c some in
+            elim (at c (omega (arith, long, less))) [
+              | inl given ↦
+                  let is = given.1 in
+                  let has = followed c d (is_left c given.0).1 f in
+                  let more = so_far.above d has in
+                  let kept = keeps d has in omega (arith, is, more, kept)
+              | inr same ↦
+                  let more = so_far.rises c d (λ z. some (same ∙ z)) f in
+                  let kept = keeps d (λ z. omega (arith, more, z)) in omega (arith, same, more, kept)
+            ]
 
 -- the first without a number, or none
 no_index : (t : Bool) (n : ℕ) → cond t (Some n) None ≡ None → t ≡ false

@@ -1,5 +1,5 @@
 -- Numbers of channels while they are being given. A channel gets a number only if each channel that follows it has one.
-use Rattle.std.specs.Prelude.{◌≡◌, ◌≢◌, ◌<◌, ℕ, ◌==◌, ◌&&◌, not, true, Bool, List, [], length, slice_index_or, if◌then◌else◌}
+use Rattle.std.specs.Prelude.{◌≡◌, ◌≢◌, ◌<◌, ℕ, ◌==◌, not, true, Bool, List, [], ◌∷◌, length, slice_index_or, slice_set}
 use Rattle.std.specs.List.{list_any}
 use Rattle.audit_channels.specs.ChannelOrders.{Follows}
 
@@ -11,16 +11,14 @@ has_none numbers channel = slice_index_or numbers channel 1 == 0
 abbrev pub is_held_up : List ℕ → List ℕ → Bool
 is_held_up numbers following = list_any (has_none numbers) following
 
--- the next number of a channel that has the number `old`: `number` if `old` is 0, which stands for none, and each of
--- the channels `following` has a number; otherwise `old`
-abbrev pub next_number : List ℕ → List ℕ → ℕ → ℕ → ℕ
-next_number following numbers old number = if old == 0 && not (is_held_up numbers following) then number else old
+-- whether `channel` can get a number: each channel that follows it has one
+abbrev pub is_free : List (List ℕ) → List ℕ → ℕ → Bool
+is_free waits numbers channel = not (is_held_up numbers (slice_index_or waits channel []))
 
--- `next` has the next number of each channel (`next_number`), where `number` is the one that is given now
-pub record AreFurther (waits : List (List ℕ)) (numbers : List ℕ) (number : ℕ) (next : List ℕ) : Type 0 where
-  pub as_many : length next ≡ length numbers
-  pub each : (c : ℕ) → c < length numbers
-      → slice_index_or next c 0 ≡ next_number (slice_index_or waits c []) numbers (slice_index_or numbers c 0) number
+-- `numbers`, with `number` given to each of `channels`
+abbrev pub with_number : List ℕ → ℕ → List ℕ → List ℕ
+with_number [] number numbers = numbers
+with_number (channel ∷ later) number numbers = with_number later number (slice_set numbers channel number)
 
 -- the number of a channel that has one is less than the numbers of the channels that follow it; a channel without a
 -- number is followed by another channel without a number

@@ -1,61 +1,78 @@
 //! Numbers of channels, given from the greatest down. A channel gets a number once all channels that follow it have
 //! one.
-ghost use Rattle.std.specs.Prelude.{◌≡◌, ◌==◌, ◌<◌, IfOk, count_by, length, position};
-ghost use Rattle.audit_channels.specs.Numbers.{is_held_up, has_none, AreGiven, AreFurther, next_number};
+ghost use Rattle.std.specs.Prelude.{◌≡◌, ◌==◌, ◌<◌, All, IfOk, OnOk, filter, length, position};
+ghost use Rattle.std.specs.List.{range_with_len};
+ghost use Rattle.audit_channels.specs.Numbers.{AreGiven, has_none, is_free, is_held_up, with_number};
 
 use crate::waits::Waits;
 use std::alloc::{AllocError, Global};
 
 /// Returns a number above 0 for each channel that leads to no cycle, and 0 for each other channel. The number of a
 /// channel, if it is above 0, is less than the numbers of the channels that follow the channel. Works in rounds. A
-/// round takes time linear in the number of channels, plus the numbers of channels that follow each of them. There
-/// are as many rounds as the longest chain of numbered channels has channels, and one more if some channel gets no
-/// number.
+/// round takes time linear in the number of channels that have no number yet, plus the numbers of channels that follow
+/// each of them. There are as many rounds as the longest chain of numbered channels has channels, and one more.
 pub(crate) fn numbers(alloc: Global, waits: &Waits) -> Result<Vec<usize>, AllocError>
     ensures { IfOk result (λ numbers. AreGiven waits.now numbers.items) }
 {
     let mut numbers = vec![in alloc; 0; waits.len()]?;
-    let mut left = waits.len();
-    while left > 0 {
-        let next = further(alloc, waits, &numbers, left)?;
-        let now = count_without(&next);
-        if now == left {
-            return Ok(numbers);
-        }
-        numbers = next;
-        left = now;
+    let mut left = channels_below(alloc, waits.len())?;
+    let mut free = Vec::with_capacity(alloc, waits.len())?;
+    find_free(waits, &numbers, &left, &mut free)?;
+    while !free.is_empty() {
+        give(&mut numbers, &free, left.len());
+        keep_without(&mut left, &numbers);
+        find_free(waits, &numbers, &left, &mut free)?;
     }
     Ok(numbers)
 }
 
-/// Returns `numbers`, with `number` given to each channel that has no number and for which each channel that follows
-/// has a number in `numbers`.
-fn further(
-    alloc: Global,
-    waits: &Waits,
-    numbers: &[usize],
-    number: usize,
-) -> Result<Vec<usize>, AllocError>
-    ensures { IfOk result (λ next. AreFurther waits.now numbers.now number next.items) }
+/// Returns the first `count` channels, in ascending order.
+fn channels_below(alloc: Global, count: usize) -> Result<Vec<usize>, AllocError>
+    ensures { IfOk result (λ channels. channels.items ≡ range_with_len 0 count) }
 {
-    let mut next = Vec::with_capacity(alloc, numbers.len())?;
-    for (channel, old) in numbers.iter().enumerate() {
-        let new = next_number(waits.at(channel), numbers, *old, number);
-        next.push(new)?;
-    }
-    Ok(next)
+    (0..count).collect(alloc)
 }
 
-/// Returns the new number of a channel that has `old` and is followed by `following`. It is `number` if `old` is 0
-/// and each channel of `following` has a number in `numbers`, and otherwise `old`.
-fn next_number(following: &[usize], numbers: &[usize], old: usize, number: usize) -> usize
-    ensures { result ≡ next_number following.now numbers.now old number }
+/// Sets `free` to those of `channels` for which each channel that follows has a number in `numbers`.
+fn find_free(
+    waits: &Waits,
+    numbers: &[usize],
+    channels: &[usize],
+    free: &mut Vec<usize>,
+) -> Result<(), AllocError>
+    ensures { OnOk result (free.new.items ≡ filter (is_free waits.now numbers.now) channels.now) }
 {
-    if old == 0 && !is_held_up(following, numbers) {
-        number
-    } else {
-        old
+    free.clear();
+    for channel in channels {
+        if is_free(waits, numbers, *channel) {
+            free.push(*channel)?;
+        }
     }
+    Ok(())
+}
+
+/// Gives `number` to each of `channels`.
+fn give(numbers: &mut [usize], channels: &[usize], number: usize)
+    requires { All (λ channel. channel < length numbers.old) channels.now }
+    ensures { numbers.new ≡ with_number channels.now number numbers.old }
+{
+    for channel in channels {
+        numbers[*channel] = number;
+    }
+}
+
+/// Removes from `channels` those that have a number in `numbers`.
+fn keep_without(channels: &mut Vec<usize>, numbers: &[usize])
+    ensures { channels.new.items ≡ filter (has_none numbers.now) channels.old.items }
+{
+    channels.retain(|channel| has_none(numbers, *channel));
+}
+
+/// Returns whether each channel that follows `channel` has a number in `numbers`.
+fn is_free(waits: &Waits, numbers: &[usize], channel: usize) -> bool
+    ensures { result ≡ is_free waits.now numbers.now channel }
+{
+    !is_held_up(waits.at(channel), numbers)
 }
 
 /// Returns whether some channel of `following` has no number in `numbers` yet.
@@ -73,13 +90,6 @@ pub(crate) fn has_none(numbers: &[usize], channel: usize) -> bool
         Some(number) => *number == 0,
         None => false,
     }
-}
-
-/// Returns how many channels have no number.
-fn count_without(numbers: &[usize]) -> usize
-    ensures { result ≡ count_by (λ n. n == 0) numbers.now }
-{
-    numbers.iter().filter(|number| **number == 0).count()
 }
 
 /// Returns the first channel without a number, or `None` if each channel has a number.

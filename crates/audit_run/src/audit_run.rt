@@ -153,9 +153,9 @@ fn nothing_found(alloc: Global) -> LaneOrder
     }
 }
 
-/// Finds the flaws by `audit` and what was `found` by lane. Writes both, the lines of `appendix`, which must be those that
-/// `asked` asks for, and the line of the flaws, and flushes. Returns whether there are no flaws. If the fault is not
-/// `Write`, nothing was written.
+/// Finds the flaws by `audit` and what was `found` by lane. Writes both, the lines of `appendix`, which must be those
+/// that `asked` asks for, and the line of the flaws, and flushes. Returns whether there are no flaws. If the fault is
+/// not `Write`, nothing was written.
 fn tell<W: Sink>(
     alloc: Global,
     sink: &mut W,
@@ -180,8 +180,9 @@ fn tell<W: Sink>(
     tell_flaws(sink, asked, audit, found, appendix, &flaws)
 }
 
-/// Writes `audit`, what was `found` by lane, the lines of `appendix`, which must be those that `asked` asks for, and the
-/// line of `flaws`, and flushes. Returns whether there are no flaws. If the fault is not `Write`, nothing was written.
+/// Writes `audit`, what was `found` by lane, the lines of `appendix`, which must be those that `asked` asks for, and
+/// the line of `flaws`, and flushes. Returns whether there are no flaws. If the fault is not `Write`, nothing was
+/// written.
 fn tell_flaws<W: Sink>(
     sink: &mut W,
     asked: &AuditAsked,

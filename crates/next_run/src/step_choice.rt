@@ -33,13 +33,13 @@ pub(crate) struct StepChoice {
 }
 
 /// Returns how a step from the tables of `from` towards the tables of `plan` chooses entries. Both networks must have
-/// the same facts. `positions` must have the position of each usable switch, in ascending order of GUID, in an order; it
-/// is meant to be the one that the plan goes by.
+/// the same facts. `positions` must have the position of each usable switch, in ascending order of GUID, in an order;
+/// it is meant to be the one that the plan goes by.
 ///
 /// The step goes by the order of `positions` if the tables of `from` are right by it. Otherwise, if these tables imply
-/// an order, the step goes by that order, towards the goal in between. Of several implied orders, the step takes the one
-/// nearest to the order `last`, or to that of `positions` if `last` is `None`. If the tables imply no order, the step
-/// goes by settled entries.
+/// an order, the step goes by that order, towards the goal in between. Of several implied orders, the step takes the
+/// one nearest to the order `last`, or to that of `positions` if `last` is `None`. If the tables imply no order, the
+/// step goes by settled entries.
 pub(crate) fn step_choice(
     alloc: Global,
     positions: &[usize],

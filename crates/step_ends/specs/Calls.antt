@@ -59,22 +59,23 @@ abbrev pub most_calls : ℕ → ℕ
 most_calls n = (n - 1) * (2 * n + 3)
 
 -- suppose facts are in range and have room, and the first tables imply an order as `ImplyGrown` says. Then, for `n`
--- switches, one of the first `most_calls n` calls, or the one after them, is given tables that are right by the order of
--- the plan's switches
+-- switches, one of the first `most_calls n` calls, or the one after them, is given tables that are right by the order
+-- of the plan's switches
 abbrev pub CallsComeToFollow : Type 0
 CallsComeToFollow =
     (rule : RuleValue) (lmc : ℕ) (facts : Facts) (tables : ℕ → HeldPlan) (goals : ℕ → Option Goal) → AreInRange facts
     → ¬ (IsNoRoom lmc (cells_of facts)) → AreCalls rule lmc facts tables goals → ImplyGrown rule facts (tables 0)
     → (k : ℕ) × (k ≤ most_calls (length (switches (cells_of facts)))) × FollowPlan rule facts (tables k)
 
--- a call goes by the order of the plan's switches: its tables are right by that order, and it has no other goal than the
--- plan
+-- a call goes by the order of the plan's switches: its tables are right by that order, and it has no other goal than
+-- the plan
 pub record Follows (rule : RuleValue) (facts : Facts) (tables : HeldPlan) (goal : Option Goal) : Type 0 where
   pub right : FollowPlan rule facts tables
   pub no_goal : goal ≡ None
 
 -- suppose facts are in range and have room, and call `k` is given tables that are right by the order of the plan's
--- switches. Then it and all later calls go by that order, and after enough of them (`AreEnough`), a call changes nothing
+-- switches. Then it and all later calls go by that order, and after enough of them (`AreEnough`), a call changes
+-- nothing
 abbrev pub FollowingCallsEnd : Type 0
 FollowingCallsEnd =
     (rule : RuleValue) (lmc : ℕ) (facts : Facts) (tables : ℕ → HeldPlan) (goals : ℕ → Option Goal) → AreInRange facts
@@ -82,8 +83,8 @@ FollowingCallsEnd =
     → (k : ℕ) → FollowPlan rule facts (tables k) → (n : ℕ) → Follows rule facts (tables (n + k)) (goals (n + k))
     × (AreEnough rule lmc facts n → tables (suc n + k) ≡ tables (n + k))
 
--- suppose facts are in range and have room, and the first tables imply an order, or are right by the order of the plan's
--- switches. Then no mixture of a call's tables and those that it makes can make a credit loop
+-- suppose facts are in range and have room, and the first tables imply an order, or are right by the order of the
+-- plan's switches. Then no mixture of a call's tables and those that it makes can make a credit loop
 abbrev pub CallsMakeNoLoop : Type 0
 CallsMakeNoLoop =
     (rule : RuleValue) (lmc : ℕ) (facts : Facts) (tables : ℕ → HeldPlan) (goals : ℕ → Option Goal) → AreInRange facts

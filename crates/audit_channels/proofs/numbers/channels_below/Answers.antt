@@ -1,0 +1,8 @@
+-- All numbers of the range are collected.
+use Rattle.std.proofs.Common.{arith, refl}
+use Rattle.std.proofs.lemmas.Iterator.{YieldsList-from_range, items_from_collect}
+use Rattle.audit_channels.proofs.numbers.channels_below.Goals as goal
+
+pub returns : goal.returns
+returns c =
+    items_from_collect c.collect.result c.collect.ensures.ran (YieldsList-from_range 0 c.args.count c.args.count refl (omega arith))
