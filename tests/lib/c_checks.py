@@ -82,7 +82,7 @@ def counters(room: Room) -> None:
     program.write_text("#!/bin/sh\n")
     program.chmod(0o755)
     path, before = os.environ["PATH"], list(scale.failures)
-    made = {"strip": "cp $3 $2", "valgrind": "echo 'cannot be used here' >${4#--log-file=}; exit 1"}
+    made = {"strip": "shift $(($# - 2)); cp $2 $1", "valgrind": "echo 'cannot be used here' >${4#--log-file=}; exit 1"}
     try:
         for names, failures in ((("strip",), 0), (("strip", "valgrind"), 1), (("valgrind",), 1)):
             own = folder / "-".join(names)

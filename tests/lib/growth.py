@@ -15,13 +15,14 @@ import shutil
 import subprocess
 from collections.abc import Callable, Iterable, Iterator, Sequence
 
+import function_costs
 import measured_options
 import paths
 import record_files as make
 import sample_fabrics
 import served_lines
 from built_program import ENTRIES
-from noted_costs import ALLOCATIONS, INSTRUCTIONS, MEMORY, Noted
+from noted_costs import ALLOCATIONS, INSTRUCTIONS, Noted
 from scale import Fabric, Tree, chain, check
 
 # What twice the size may cost: two times as much for linear cost, four times for quadratic, and a third more for
@@ -78,13 +79,14 @@ class Perf:
 
 class Valgrind:
     """Instructions, by a simulated processor. The program is stripped, since valgrind may fail to read its debug
-    information."""
+    information; functions are counted in one that keeps their names."""
 
     name, is_exact = "valgrind", True
 
     def __init__(self, program: pathlib.Path, folder: pathlib.Path) -> None:
-        self.program, self.folder = folder / "stripped", folder
+        self.program, self.named, self.folder = folder / "stripped", folder / "named", folder
         subprocess.run(["strip", "-o", self.program, program], check=True)
+        subprocess.run(["strip", "-g", "-o", self.named, program], check=True)
 
     def cost(self, words: Iterable[str], log: pathlib.Path) -> tuple[int, int | None]:
         tool = [
@@ -93,6 +95,15 @@ class Valgrind:
         status = ran([*tool, self.program, *words], self.folder)
         found = re.search(r"I\s+refs:\s+([\d,]+)", log.read_text()) if log.exists() else None
         return status, int(found[1].replace(",", "")) if found else None
+
+    def profile(self, words: Iterable[str], log: pathlib.Path) -> str:
+        """Returns what callgrind writes of a run, with whole names."""
+        tool = [
+            "valgrind", "--tool=callgrind", "--dump-line=no", "--compress-strings=no", "--compress-pos=no",
+            f"--callgrind-out-file={log}", "--log-file=/dev/null",
+        ]
+        ran([*tool, self.named, *words], self.folder)
+        return log.read_text()
 
 
 class Clock:
@@ -169,6 +180,11 @@ class Costs:
 
         with concurrent.futures.ThreadPoolExecutor(os.cpu_count()) as pool:
             return list(pool.map(count, runs))
+
+    def profiles(self, runs: Iterable[Words]) -> list[str]:
+        """Returns what callgrind writes of each run."""
+        with concurrent.futures.ThreadPoolExecutor(os.cpu_count()) as pool:
+            return list(pool.map(lambda words: self.counter.profile(words, self.log()), runs))
 
     def at_most(self, cost: int, other: int, times: float, what: str, spare: int = 0) -> None:
         """Checks that a cost is at most `times` another. Processor time gets slack, and `spare` besides."""
@@ -373,7 +389,8 @@ def served(costs: Costs, hosts: int, line: str, times: int, *options: str) -> Wo
     first = costs.put("".join((*words, str(hosts))), lambda: "".join(
         f"{it}\n" for it in served_lines.bringing_up(costs.program, costs.folder, words, fabric)
     ))
-    text = "".join(f"{it}\n" for it in line.replace("PACKET", served_lines.ASKED).split("/") * times)
+    line = line.replace("PACKET", served_lines.ASKED).replace("TRAP", served_lines.TRAPPED)
+    text = "".join(f"{it}\n" for it in line.split("/") * times)
     return *words, "<", costs.put(f"lines{len(costs.files)}", lambda: (costs.folder / first).read_text() + text)
 
 
@@ -382,18 +399,36 @@ def served_order(costs: Costs, count: int) -> str:
     return costs.put(f"served_order{count}", lambda: "".join(f"0x{16 * it:x}\n" for it in range(6, 6 - count, -1)))
 
 
+def run_order(costs: Costs, count: int) -> str:
+    """Makes a text of the last `count` switches of the tree of a run, the last one first."""
+    switches = tree_of(4, 1).switches[-count:]
+    return costs.put(f"run_order{count}", lambda: "".join(f"0x{it:x}\n" for it in reversed(switches)))
+
+
 def in_order(costs: Costs, switches: int) -> Words:
     """Returns the options for plans of a mesh in an order."""
     return *SPREAD, "--order", order(costs, switches)
+
+
+def from_roots(costs: Costs, switches: int) -> Words:
+    """Returns the options for plans of a mesh from roots."""
+    return *SPREAD, "--roots", roots(costs, switches // 10)
 
 
 # The live conduct of managers, lines by which a switch sends a trap twice, and lines that a served manager answers from
 # what it has at hand.
 LIVE = " live 1"
 TRAPS = "traps/CUT/drain 100/PLUG/drain 100/resend"
-SHOWS = "state/progress/silent/written/managers/floor 1/timeout/poll/handover/PACKET"
+SHOWS = "state/progress/silent/written/managers/floor 1/timeout/poll/handover/yield/rediscover/PACKET/TRAP"
 
 
+def scheduled_live(costs: Costs, hosts: int, line: str, times: int) -> Words:
+    """Makes a run as `scheduled` does, with live managers."""
+    return scheduled(costs, hosts, line, times, LIVE)
+
+
+# The title of a row of lines; runs with few lines and with many, in a fabric and in one of four times the size.
+Steady = tuple[str, list[list[Words]]]
 # A command: `words` makes it for a size, `limit` bounds how many times as much it costs at twice that size, `status` is
 # its exit status.
 Row = collections.namedtuple("Row", "title words size limit status", defaults=[0])
@@ -416,9 +451,9 @@ GROWING = (
     Row("plan by switches, spread", lambda c, n: ("plan", *SPREAD, mesh(c, n)), 150, SQUARED),
     Row("plan by switches, balance", lambda c, n: ("plan", "--routing", "balance", mesh(c, n)), 60, SQUARED),
     Row("plan by switches, spread from roots",
-        lambda c, n: ("plan", *SPREAD, "--roots", roots(c, n // 10), mesh(c, n)), 150, SQUARED),
+        lambda c, n: ("plan", *from_roots(c, n), mesh(c, n)), 150, SQUARED),
     Row("plan by switches, spread in an order",
-        lambda c, n: ("plan", *SPREAD, "--order", order(c, n), mesh(c, n)), 150, SQUARED),
+        lambda c, n: ("plan", *in_order(c, n), mesh(c, n)), 150, SQUARED),
     Row("order of switches", lambda c, n: ("order", mesh(c, n)), 150, SQUARED),
     Row("plan of switches in a row", lambda c, n: ("plan", row(c, n)), 150, SQUARED),
     Row("plan of switches in a row, spread", lambda c, n: ("plan", *SPREAD, row(c, n)), 150, SQUARED),
@@ -481,15 +516,25 @@ GROWING = (
         lambda c, n: (
             "next", *SPREAD, "--last-order", order(c, n), printed(c, "plan", *in_order(c, n), mesh(c, n)), mesh(c, n)
         ), 50, SQUARED),
+    Row("next by switches, from roots",
+        lambda c, n: ("next", *from_roots(c, n), printed(c, "plan", *from_roots(c, n), mesh(c, n)), mesh(c, n)), 50,
+        SQUARED),
+    Row("next by switches, balance",
+        lambda c, n: ("next", "--routing", "balance", printed(c, "plan", mesh(c, n)), mesh(c, n)), 30, SQUARED),
     Row("next by adapters, LMC 3",
         lambda c, n: ("next", "--lmc", "3", planned(c, 40, n, 3), known(c, 40, n)), 6, LINEAR),
     Row("audit of tables by comments", lambda c, n: ("audit", remarked(c, n), known(c, 8, 10)), 5000, LINEAR),
     Row("run by adapters", lambda c, n: scheduled(c, n, "state A", 1), 60, LINEAR),
     Row("run by adapters, in an order",
-        lambda c, n: scheduled(c, n, "plan A", 1, "", (*SPREAD, "--order", served_order(c, 6))), 60, LINEAR),
+        lambda c, n: scheduled(c, n, "plan A", 1, "", (*SPREAD, "--order", run_order(c, 5))), 60, LINEAR),
+    Row("run by adapters, from roots, LMC 1",
+        lambda c, n: scheduled(c, n, "plan A", 1, "", ("--lmc", "1", *SPREAD, "--roots", run_order(c, 2))), 30,
+        LINEAR),
     Row("run by adapters, live managers", lambda c, n: scheduled(c, n, "state A", 1, LIVE), 60, LINEAR),
     Row("run by polls, live managers", lambda c, n: scheduled(c, 10, "poll B LID/drain 100", n, LIVE), 1500, LINEAR),
     Row("run by traps", lambda c, n: scheduled(c, 10, TRAPS, n, LIVE), 700, LINEAR),
+    Row("run by adapters, what is known and held",
+        lambda c, n: scheduled(c, n, "merge B A/facts B/plan B/tables/flight", 1), 30, LINEAR),
     Row("run by pings", lambda c, n: scheduled(c, 10, "ping SEAT LID", n), 4000, LINEAR),
     Row("run of a topology of comments", lambda c, n: ("run", remarks(c, n), remarks(c, 1)), 5000, LINEAR),
     Row("serve by adapters", lambda c, n: served(c, n, "facts/plan", 1), 30, LINEAR),
@@ -500,8 +545,8 @@ GROWING = (
         lambda c, n: served(c, 5, "plan", n, *SPREAD, "--roots", served_order(c, 2)), 50, LINEAR),
 )
 
-# Lines of a schedule, and then lines of `serve`, that cost the same in a fabric of any size, except for a search among
-# its ports.
+# Lines of a schedule, of one with live managers, and then lines of `serve`, that cost the same in a fabric of any size,
+# except for a search among its ports.
 STEADY = (
     ("a poll that is answered", "poll B LID/drain 100"),
     ("a poll over a path", "poll B/drain 100"),
@@ -514,7 +559,12 @@ STEADY = (
     ("a timeout of nothing", "timeout A"),
     ("a refused writing", "write B"),
     ("a packet that is lost", "poll B LID/lose last/timeout A"),
+    ("a packet that is repeated", "poll B LID/repeat last/deliver last/drain 100"),
+    ("a refused handover", "handover A"),
+    ("a refused handover to the heir", "yield A"),
+    ("a refused discovery", "rediscover A"),
 )
+STEADY_LIVE = (("a live poll that is answered", "poll B LID/drain 100"), ("traps", TRAPS))
 STEADY_SERVED = (("lines of serve", SHOWS),)
 
 
@@ -531,10 +581,13 @@ def check_all(program: pathlib.Path, folder: pathlib.Path, noted: Noted) -> tupl
         costs.at_most(costs.known[two], costs.known[one], case.limit, f"{case.title}, of twice the size")
         noted.find(INSTRUCTIONS, case.title, costs.known[two] / 10**6)
         noted.find(ALLOCATIONS, case.title, count)
-    # The titles of what is noted of memory are the words of runs.
-    measured_options.check_all(program, [two for _, _, two in growing] + [it.split() for it in noted.found[MEMORY]])
+    steady = steady_runs(costs)
+    measured = [two for _, _, two in growing] + [more for _, (_, (_, more)) in steady]
+    measured_options.check_all(program, measured, folder)
+    if isinstance(costs.counter, Valgrind):
+        function_costs.check_all({case.title: one for case, one, _ in growing}, costs.profiles, noted)
     check_apart(costs)
-    check_steady(costs)
+    check_steady(costs, steady)
     return costs.counter.name, len(costs.known)
 
 
@@ -546,14 +599,18 @@ def check_apart(costs: Costs) -> None:
         costs.at_most(costs.known[two], costs.known[one], 1.1, f"a plan by {options}, with a switch apart")
 
 
-def check_steady(costs: Costs) -> None:
-    """Checks that what a line of a schedule or of `serve` costs does not grow with the fabric."""
+def steady_runs(costs: Costs) -> list[Steady]:
+    """Returns the rows of lines that cost the same in a fabric of any size."""
     few, many, hosts = (250, 500, 25) if costs.counter.is_exact else (1000, 8000, 25)
-    steady = [
+    return [
         (title, [[words(costs, size, line, times) for times in (few, many)] for size in (hosts, 4 * hosts)])
-        for words, lines in ((scheduled, STEADY), (served, STEADY_SERVED))
+        for words, lines in ((scheduled, STEADY), (scheduled_live, STEADY_LIVE), (served, STEADY_SERVED))
         for title, line in lines
     ]
+
+
+def check_steady(costs: Costs, steady: Sequence[Steady]) -> None:
+    """Checks that what a line of a schedule or of `serve` costs does not grow with the fabric."""
     costs.take(words for _, rows in steady for both in rows for words in both)
     for title, rows in steady:
         one, two = (costs.known[more] - costs.known[less] for less, more in rows)

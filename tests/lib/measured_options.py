@@ -1,11 +1,14 @@
-"""Whether `tests/at-scale` measures what each command and each option of the command line costs."""
+"""Whether `tests/at-scale` measures what each command and each option of the command line costs, and each line of a
+schedule and of `serve`."""
 from __future__ import annotations
 
 import os
+import pathlib
 import re
 import subprocess
 from collections.abc import Iterable, Iterator, Sequence
 
+from paths import ROOT
 from scale import check
 
 # Options without a run of their own, each with the reason.
@@ -18,6 +21,9 @@ UNMEASURED = {
 COMMAND = re.compile(r"^  ([a-z-]+)  ", re.M)
 # An option with its help, up to the next one.
 OPTION = re.compile(r"^ +(?:-\w, )?(--[a-z-]+)(.*(?:\n {10}.*)*)", re.M)
+# The section of docs/FORMATS.md that has the lines which a command reads, and a row of its tables.
+LINES_OF = {"run": "Schedule", "serve": "Lines of serve"}
+LINE = re.compile(r"^\| (`.*?) \|", re.M)
 
 
 def help_of(program: str | os.PathLike[str], *words: str) -> str:
@@ -40,16 +46,28 @@ def asked_for(program: str | os.PathLike[str]) -> Iterator[str]:
                 yield from (f"{option} {word}" for word in words.split(", "))
 
 
-def check_all(program: str | os.PathLike[str], runs: Iterable[Sequence[str]]) -> None:
+def lines() -> Iterator[str]:
+    """Yields the first word of each line that a command reads, as `line of command: word`."""
+    text = (ROOT / "docs/FORMATS.md").read_text()
+    for command, title in LINES_OF.items():
+        section = text.partition(f"\n## {title}\n")[2].partition("\n## ")[0]
+        for names in LINE.findall(section):
+            yield from (f"line of {command}: {word}" for word in re.findall(r"`(\w+).*?`", names))
+
+
+def check_all(program: str | os.PathLike[str], runs: Iterable[Sequence[str]], folder: pathlib.Path) -> None:
     """Checks that the words of some run have each command, option and word of the help, apart from those in
-    UNMEASURED."""
-    asked, measured = list(dict.fromkeys(asked_for(program))), set()
+    UNMEASURED, and that its last file, which is in `folder`, has each line."""
+    asked, measured = list(dict.fromkeys([*asked_for(program), *lines()])), set()
     for command, *words in runs:
         measured.add(command)
         for option, word in zip(words, [*words[1:], ""]):
             if option.startswith("--"):
                 measured |= {f"{command} {option}", f"{option} {word}"}
-    check(len(asked) > 20, f"the help has few commands and options: {asked}")
+        if command in LINES_OF:
+            firsts = {line.split()[0] for line in (folder / words[-1]).read_text().splitlines() if line.strip()}
+            measured |= {f"line of {command}: {word}" for word in firsts}
+    check(len(asked) > 60, f"few commands, options and lines are found: {asked}")
     for name in asked:
         check(
             (name in measured) != (name in UNMEASURED),
@@ -58,4 +76,4 @@ def check_all(program: str | os.PathLike[str], runs: Iterable[Sequence[str]]) ->
             else f"{name}: no run measures it, so growth.py needs a row, or measured_options.py the reason why not",
         )
     for name in UNMEASURED.keys() - set(asked):
-        check(False, f"{name}: measured_options.py says why it is not measured, and the help does not have it")
+        check(False, f"{name}: measured_options.py says why it is not measured, and there is no such option or line")

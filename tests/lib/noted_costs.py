@@ -1,7 +1,8 @@
 """What runs cost, for `tests/at-scale`, compared with what `tests/costs.table` notes: instructions and allocations of
-the runs in growth.py, and memory of those in past_sizes.py. A run asks for memory no more often than noted. Valgrind
-counts the same instructions on each run, and on all machines except for what the C library chooses by processor, so a
-run may take a tenth more than noted. The processor's own counter counts some others too, and memory comes in pages, so
+the runs in growth.py, calls of the functions in function_costs.py and the instructions in them, and memory of the runs
+in past_sizes.py. A run asks for memory, and calls a function, no more often than noted. Valgrind counts the same
+instructions on each run, and on all machines except for what the C library chooses by processor, so a run or a function
+may take a tenth more than noted. The processor's own counter counts some others too, and memory comes in pages, so
 these may exceed the note by more."""
 from __future__ import annotations
 
@@ -11,8 +12,12 @@ from scale import check
 PATH = ROOT / "tests/costs.table"
 HEAD = "# What runs cost, by which tests/at-scale bounds them; it writes them with --write, of the program as it is.\n"
 INSTRUCTIONS, ALLOCATIONS, MEMORY = "millions of instructions", "allocations", "megabytes"
+CALLS, WITHIN = "calls of functions", "thousands of instructions in functions"
+KINDS = INSTRUCTIONS, ALLOCATIONS, CALLS, WITHIN, MEMORY
+# What valgrind alone counts, or counts well enough to be noted.
+BY_VALGRIND = INSTRUCTIONS, CALLS, WITHIN
 # How many times the noted cost a run may take, by what is counted or by what counts it.
-MORE = {"valgrind": 1.1, "perf": 4 / 3, ALLOCATIONS: 1, MEMORY: 1.25}
+MORE = {"valgrind": 1.1, "perf": 4 / 3, ALLOCATIONS: 1, CALLS: 1, WITHIN: 1.1, MEMORY: 1.25}
 # The megabytes that an empty run takes on some machines, with what starts it.
 LEAST = 16
 # A cost below this part of the noted one shows that the note is too old to bound anything.
@@ -29,7 +34,7 @@ class Noted:
 
     def __init__(self) -> None:
         kind = None
-        self.noted, self.found = ({kind: {} for kind in (INSTRUCTIONS, ALLOCATIONS, MEMORY)} for _ in range(2))
+        self.noted, self.found = ({kind: {} for kind in KINDS} for _ in range(2))
         for line in PATH.read_text().splitlines() if PATH.exists() else []:
             if line.startswith("  "):
                 title, _, number = line.strip().rpartition(": ")
@@ -46,7 +51,7 @@ class Noted:
         instead."""
         for kind, found in self.found.items():
             more = MORE.get(counter if kind == INSTRUCTIONS else kind)
-            if more is None:
+            if more is None or kind in (CALLS, WITHIN) and counter != "valgrind":
                 continue
             for title, number in found.items():
                 noted = self.noted[kind].get(title)
@@ -60,12 +65,12 @@ class Noted:
                             "notes that"
                         )
             for title in self.noted[kind].keys() - found.keys():
-                check(False, f"{title}: {kind} are noted of a run that is none")
+                check(False, f"{title}: {kind} are noted, and none are found")
 
     def write(self, counter: str) -> None:
-        """Notes the costs that were found. Instructions stay as noted unless valgrind counted them."""
+        """Notes the costs that were found. Those that valgrind counts stay as noted if something else counted."""
         if counter != "valgrind":
-            self.found[INSTRUCTIONS] = self.noted[INSTRUCTIONS]
+            self.found |= {kind: self.noted[kind] for kind in BY_VALGRIND}
         lines = [HEAD]
         for kind, found in self.found.items():
             lines += [f"{kind}\n", *(f"  {title}: {told(number)}\n" for title, number in found.items())]

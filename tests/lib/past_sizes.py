@@ -15,7 +15,9 @@ from scale import Fabric, Run, Tree, chain, check, levels
 # More than 2^16 lines, cells or commands; more than 2^20 cells; and the bytes of a line, for texts of more than 2^22
 # bytes.
 LINES, CELLS, PADDED = 70000, 1050000, 64
-SPREAD = "--routing", "spread"
+SPREAD, BALANCE = ("--routing", "spread"), ("--routing", "balance")
+# The live conduct of managers.
+LIVE = " live 1"
 
 
 class Room:
@@ -59,6 +61,11 @@ def check_tree(room: Room) -> None:
     way = f"{tree.adapters[0]:x}/1,{tree.lids()[1][-1]}"
     with_appendix = audit.replace(b"passes yes\n", tree.appendix() + b"passes yes\n")
     room.prints(with_appendix, "audit", "--loads", "--way", way, "tree.plan", "tree")
+    # All lines, of which there is none, and the greatest load that passes; then one less.
+    most = max(tree.loads().values())
+    room.prints(audit, "audit", "--all", "--max-load", f"{most}", "tree.plan", "tree")
+    busier = audit.replace(b"passes yes", b"passes no: load")
+    room.prints(busier, "audit", "--max-load", f"{most - 1}", "tree.plan", "tree", status=1)
     for tables in "tree.plan", "/dev/null":
         room.prints(plan, "next", tables, "tree")
     # Overlapping parts, in two groupings.
@@ -101,6 +108,39 @@ def check_ranges(room: Room) -> None:
     room.prints(tree.plan(), "next", "long.plan", "ranges")
 
 
+def check_findings(room: Room) -> None:
+    """Checks an audit of links between 140,000 nodes that nothing else describes, with all its lines and with the first
+    ones of each kind."""
+    far = [2 * LINES + 1 - guid for guid in range(1, LINES + 1)]
+    links = [f"link {guid:016x}/1 {other:016x}/2 @1\n" for guid, other in enumerate(far, 1)]
+    room.put("strangers", make.store_of("".join(links)))
+    unusable = [f"unusable {guid:016x}\n" for guid in range(1, 2 * LINES + 1)]
+    unjoined = [f"unjoined {guid:016x}/{1 + guid // (LINES + 1)}\n" for guid in range(1, 2 * LINES + 1)]
+    ends = "hops none\nload none\ncredit loop none\n"
+    whole = audits.found(audits.counted(0, 0) + "".join(unusable + unjoined) + ends, "unusable")
+    room.prints(whole.printed, "audit", "--all", "/dev/null", "strangers", status=1)
+    more = [f"more {kind} {2 * LINES - 20}\n" for kind in ("unusable", "unjoined")]
+    cut = "".join([*unusable[:20], more[0], *unjoined[:20], more[1]])
+    short = audits.found(audits.counted(0, 0) + cut + ends, "unusable")
+    room.prints(short.printed, "audit", "/dev/null", "strangers", status=1)
+
+
+def check_lanes(room: Room) -> None:
+    """Checks audits by a text of lanes of over 10 MB, with over 65,536 maps and as many blocks of levels: two levels
+    on one lane, and then on a lane each. In a tree packets do as they do without lanes."""
+    tree = levels(2, 2, 30)
+    by_lane = tree.audit()[2].replace(b"passes", b"answers credit loop none\npasses")
+    width = tree.lids()[1][-1] // 64 + 1
+    maps = [f"sl2vl {0x8000 + it // 200:x} 1 {it % 200} 0f{'00' * 15}\n" for it in range(LINES)]
+    blocks = [f"levels {0x8000 + it // 700:x}/1 {it % 700} {'01' * 64}\n" for it in range(LINES)]
+    blocks += [f"levels {guid:x}/1 {block} {'01' * 64}\n" for guid in tree.adapters[::2] for block in range(width)]
+    room.put("lane_tree", make.store(*tree.cells()))
+    room.put("lane_tree.plan", tree.plan())
+    for name, lanes in ("lanes", "00" * 16), ("more_lanes", "0001" + "00" * 14):
+        room.put(name, "".join([f"lanes {lanes}\nlevel 0\n", *maps, *blocks]))
+        room.prints(by_lane, "audit", "--lanes", name, "lane_tree.plan", "lane_tree")
+
+
 def check_cells(room: Room) -> None:
     """Checks a store file of over a million cells."""
     whole = make.store(*(make.cell(make.CLAIM, guid, 1, b"\0\1") for guid in range(CELLS)))
@@ -117,7 +157,7 @@ def check_switches(room: Room) -> None:
     ends, adapters = 1100 + 1080, 1080
     lids = set()
     room.put("order", "".join(f"0x{guid:x}\n" for guid in reversed(fabric.switches)))
-    for options in (), SPREAD, (*SPREAD, "--roots", "roots"), (*SPREAD, "--order", "order"):
+    for options in (), SPREAD, BALANCE, (*SPREAD, "--roots", "roots"), (*SPREAD, "--order", "order"):
         plan = room.run("plan", *options, "switches")
         lids.add(plan.partition(b"switch")[0])
         room.put("switches.plan", plan)
@@ -127,6 +167,23 @@ def check_switches(room: Room) -> None:
         passes = len(lines) == 8 and lines[-1] == "passes yes\n"
         check("".join(lines[:4]) == wanted and passes, f"the audit of a plan by {options}: {lines[:8]}")
     check(len(lids) == 1, "LIDs differ by the rule")
+    check_orders(room, fabric)
+
+
+def check_orders(room: Room, fabric: Fabric) -> None:
+    """Checks that the order by which a rule plans 1,100 switches gives the same plan once it is printed, that an order
+    is found of the tables by another one, and that a step from them near that order passes."""
+    all_switches = sorted(f"0x{guid:016x}\n".encode() for guid in fabric.switches)
+    room.put("whole_order", room.run("order", "switches"))
+    room.put("held_order", room.run("order", "--held", "switches.plan", "switches"))
+    for name in "whole_order", "held_order":
+        printed = (room.folder / name).read_bytes().splitlines(True)
+        check(sorted(printed) == all_switches, f"{name}: {len(printed)} lines of {len(all_switches)} switches")
+    planned = room.run("plan", *SPREAD, "switches")
+    room.prints(planned, "plan", *SPREAD, "--order", "whole_order", "switches")
+    room.put("step", room.run("next", *SPREAD, "--last-order", "held_order", "switches.plan", "switches"))
+    lines = room.run("audit", "step", "switches").splitlines()
+    check(lines[-1:] == [b"passes yes"], f"the audit of a step by an order: {lines[:8]}")
 
 
 def check_managers(room: Room) -> None:
@@ -168,14 +225,16 @@ def check_rooted_run(room: Room) -> None:
     room.prints(lid + plan, "plan", *SPREAD, "--roots", "roots", "known")
 
 
-def polled(times: int) -> str:
+def seated(conduct: str = "") -> list[str]:
+    """Returns the lines of a schedule by which a master A and a standby B come to the two adapters of a switch."""
+    seats = [f'manager {name} "H{number}"[1] {3 - number}{conduct}' for number, name in enumerate("AB", 1)]
+    return [*seats, "sweep A", "drain 1000", "write A", "drain 1000", "sweep B", "drain 1000"]
+
+
+def polled(times: int, conduct: str = "") -> str:
     """Returns a schedule in which a standby polls a master `times` times, and then once more. Each of the `times` polls
     is a line of 64 bytes."""
-    lines = [
-        'manager A "H1"[1] 2',
-        'manager B "H2"[1] 1',
-        *("sweep A", "drain 1000", "write A", "drain 1000", "sweep B", "drain 1000"),
-    ]
+    lines = seated(conduct)
     for number in range(times):
         lines.append("poll B 2".ljust(PADDED - 1, "#"))
         if number % 500 == 499:
@@ -185,16 +244,21 @@ def polled(times: int) -> str:
 
 def check_lines(room: Room) -> None:
     """Checks a topology and a schedule of over 65,536 lines and over 4 MiB: a standby's polls, each of which is
-    answered."""
+    answered. Then the same with live managers, which also count what they answer, and as many traps."""
     topology = 'Switch 4 "S" guid 0x10\n[1] "H1"[1]\n[2] "H2"[1]\nHca 1 "H1" guid 0x100\nHca 1 "H2" guid 0x200\n'
     room.put("short", topology)
     room.put("long", padded("# ", LINES).decode() + topology)
     # Each poll is one packet, and so is its answer.
     text = "state B standby\npacket {} \"H2\"\n"
-    room.put("few", polled(1000))
-    serial = int((room.run("run", "short", "few").split() + [0] * 5)[4])
-    room.put("many", polled(LINES))
-    room.prints(text.format(serial + 2 * (LINES - 1000)), "run", "long", "many")
+    for conduct, few, many in ("", "few", "many"), (LIVE, "few_live", "many_live"):
+        room.put(few, polled(1000, conduct))
+        serial = int((room.run("run", "short", few).split() + [0] * 5)[4])
+        room.put(many, polled(LINES, conduct))
+        room.prints(text.format(serial + 2 * (LINES - 1000)), "run", "long", many)
+    # The switch, whose LID is 1, tells that a port is down, and then that it is up.
+    changes = ['cut "H2"[1]', "drain 9", 'plug "H2"[1] "S"[2]', "drain 9"]
+    room.put("traps", "\n".join([*seated(LIVE), "traps", *changes * (LINES // 2), "flight", "resend", "flight", ""]))
+    room.prints("trap A 1\n" * (LINES // 2 * 2), "run", "short", "traps")
 
 
 def check_serving(room: Room) -> None:
@@ -214,7 +278,7 @@ def check_all(program: pathlib.Path, folder: pathlib.Path, noted: Noted) -> None
     """Checks inputs past each size at which a program could stop."""
     room = Room(program, folder, noted)
     for part in (
-        check_tree, check_ranges, check_cells, check_switches, check_managers, check_writing, check_rooted_run,
-        check_lines, check_serving,
+        check_tree, check_ranges, check_findings, check_lanes, check_cells, check_switches, check_managers,
+        check_writing, check_rooted_run, check_lines, check_serving,
     ):
         part(room)

@@ -18,6 +18,10 @@ WHO = "101", "1", "5"
 # A Get of SMInfo by LIDs from LID 7.
 ASKS = "0101010100000000" + "0000000000000005" + "0020000000000000" + "00" * 232
 ASKED = f"packet {ASKS} from 7"
+# A trap by LIDs from LID 9, issued by LID 0x5a5a.
+TRAP = "0101010500000000" + "0000000000000031" + "0002000000000000" + "00" * 40 + "018402000080" + "5a" * 58
+TRAP += "00" * 128
+TRAPPED = f"packet {TRAP} from 9"
 
 
 def tells(count: int, key: int = 1) -> str:
