@@ -1,5 +1,5 @@
--- The laws of decisions: a manager acts when something is due and only then, never waits for long, and writes only as
--- master.
+-- The laws of decisions: a manager acts when something is due and only then, never waits for long, and judges its plan
+-- only as master.
 use Rattle.std.specs.Prelude.{◌≡◌, ◌≢◌, ◌≤◌, ◌<◌, ◌↔◌, ℕ, ◌-◌, ◌^◌, max, Bool, true, false, List, [], ◌∷◌, Option, Some, None}
 use Rattle.sm_state.specs.declared.state.SmState.{SmState}
 use Rattle.sm_state.specs.declared.state.SmState.TheVariants.{NotActive, Master}
@@ -93,14 +93,14 @@ abbrev pub IsDueBy : ℕ → Option ℕ → Type 0
 IsDueBy until None = ⊥
 IsDueBy until (Some time) = time ≤ until
 
--- whatever happened to a new manager, it has something to do within `longest_wait` of the last news, if it is not
--- Not-active: it never waits for others alone, and no failure stops it for longer
+-- whatever happened to a new manager, what it does once it rests is due within `longest_wait` of the last news, if it is
+-- not Not-active: it never waits for others alone, and no failure stops it for longer
 abbrev pub NeverWaitsLong : Type 0
 NeverWaitsLong =
     (timing : Timing) (told : Told) (now : ℕ) → Rise 0 told now → (after_told told (new_policy timing)).state ≢ NotActive
     → IsDueBy (later_by (longest_wait timing) now) (rest_due (after_told told (new_policy timing)))
 
--- writing as master ---------------------------------------------------------------------------------
+-- judging as master ---------------------------------------------------------------------------------
 
 -- no other master was seen, or the one that was seen has been offered the subnet a few times, in a meeting that began not
 -- long ago

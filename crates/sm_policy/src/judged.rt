@@ -1,6 +1,7 @@
 //! What a master does about its plan.
 ghost use Rattle.std.specs.Prelude.{◌≡◌};
-ghost use Rattle.sm_policy.specs.Judged.{anew, failed, judged, may_bring_up, may_take, once_more, recent_takings, settled};
+ghost use Rattle.sm_policy.specs.Judged.{anew, failed, judged, may_bring_up};
+ghost use Rattle.sm_policy.specs.Judged.{may_take, once_more, recent_takings, settled};
 ghost use Rattle.sm_policy.specs.Judged.{stood, taking, writing, wrote};
 
 use crate::act::Act;
@@ -13,9 +14,9 @@ use crate::ports::Ports;
 const TAKEN_BACK_WITHIN: u64 = 600_000;
 
 impl Policy {
-    /// Returns what is done at the time `now` about the plan. `comparison` says how it compares to what was written last, and
-    /// `ports` what the sweep read of ports. Returns `Wait` if there is no plan, `Settle` if nothing is left to write, and
-    /// otherwise `Write`.
+    /// Returns what is done at the time `now` about the plan. `comparison` says how it compares to what was written
+    /// last, and `ports` what the sweep read of ports. Returns `Wait` if there is no plan, `Settle` if nothing is left
+    /// to write, and otherwise `Write`.
     pub fn judge(&mut self, now: u64, comparison: Comparison, ports: Ports) -> Act
         ensures policy { self.new ≡ (judged now comparison ports self.old).policy }
         ensures act { result ≡ (judged now comparison ports self.old).act }
@@ -45,8 +46,8 @@ impl Policy {
         Act::Write
     }
 
-    /// Returns what is done at the time `now` about a plan that was written and stands: it is written once more if that
-    /// may bring up a port, or take back one that names another master.
+    /// Returns what is done at the time `now` about a plan that was written and stands: it is written once more if
+    /// that may bring up a port, or take back one that names another master.
     fn look_after(&mut self, now: u64, ports: Ports) -> Act
         ensures policy { self.new ≡ (stood now ports self.old).policy }
         ensures act { result ≡ (stood now ports self.old).act }
@@ -67,8 +68,8 @@ impl Policy {
         ports.inactive > self.written.inactive && self.written.repeats < PATIENCE
     }
 
-    /// Returns whether ports are to be taken back at the time `now` that name another master. That one may take them too,
-    /// so this is not done without end.
+    /// Returns whether ports are to be taken back at the time `now` that name another master. That one may take them
+    /// too, so this is not done without end.
     fn may_take(&self, now: u64, ports: Ports) -> bool
         ensures { result ≡ may_take now ports self.now }
     {
@@ -117,7 +118,8 @@ impl Policy {
         self.written.foreign = ports.foreign;
     }
 
-    /// Notes, at the time `now`, that a writing was asked for. It runs if `has_begun`; otherwise the manager refused it.
+    /// Notes, at the time `now`, that a writing was asked for. It runs if `has_begun`; otherwise the manager refused
+    /// it.
     pub fn write(&mut self, now: u64, has_begun: bool)
         ensures { self.new ≡ writing now has_begun self.old }
     {
@@ -138,8 +140,8 @@ impl Policy {
         self.wait_longer(now);
     }
 
-    /// Returns what is done at the time `now` after a writing. `is_written` says whether all of it was answered as it must
-    /// be.
+    /// Returns what is done at the time `now` after a writing. `is_written` says whether all of it was answered as it
+    /// must be.
     pub fn write_ended(&mut self, now: u64, is_written: bool) -> Act
         ensures policy { self.new ≡ (wrote now is_written self.old).policy }
         ensures act { result ≡ (wrote now is_written self.old).act }

@@ -93,8 +93,8 @@ impl Policy {
         }
     }
 
-    /// Asks for a sweep as soon as one may begin: a trap told of a change, or the operator asks. What failed before may
-    /// succeed now, so only the shortest time is waited.
+    /// Asks for a sweep as soon as one may begin: a trap told of a change, or the operator asks. What failed before
+    /// may succeed now, so only the shortest time is waited.
     pub fn want(&mut self)
         ensures { self.new ≡ wanting self.old }
     {
@@ -159,8 +159,8 @@ impl Policy {
         }
     }
 
-    /// Notes a failure at the time `now`, and asks for a sweep after a wait, which is the longer the more failures came
-    /// in a row.
+    /// Notes a failure at the time `now`, and asks for a sweep after a wait, which is the longer the more failures
+    /// came in a row.
     pub(crate) fn wait_longer(&mut self, now: u64)
         ensures { self.new ≡ waited_longer now self.old }
     {

@@ -1,7 +1,8 @@
 //! What a manager does while no request is out and nothing runs.
 ghost use Rattle.std.specs.Prelude.{◌≡◌};
 ghost use Rattle.sm_policy.specs.Policy.{is_master, later_by};
-ghost use Rattle.sm_policy.specs.Resting.{awaited_since, call_due, due_in, earlier, handed, handing, is_awaited, is_due};
+ghost use Rattle.sm_policy.specs.Resting.{awaited_since, call_due, due_in, earlier};
+ghost use Rattle.sm_policy.specs.Resting.{handed, handing, is_awaited, is_due};
 ghost use Rattle.sm_policy.specs.Resting.{poll_due, rest_due, rested, sweep_due, sweeping};
 
 use crate::act::Act;
@@ -16,8 +17,8 @@ const ANNOUNCED_EVERY: u64 = 10_000;
 const ACKNOWLEDGED_IN: u64 = 1000;
 
 impl Policy {
-    /// Returns what a manager that rests does at the time `now`: it polls, or else announces itself, or else sweeps, if
-    /// that is due. Returns `Wait` if nothing is.
+    /// Returns what a manager that rests does at the time `now`: it polls, or else announces itself, or else sweeps,
+    /// if that is due. Returns `Wait` if nothing is.
     pub fn rest(&mut self, now: u64) -> Act
         ensures policy { self.new ≡ (rested now self.old).policy }
         ensures act { result ≡ (rested now self.old).act }
@@ -57,8 +58,8 @@ impl Policy {
         }
     }
 
-    /// Returns when a standby announces itself to a lesser master next, or `None` if it is no standby or knows no lesser
-    /// master.
+    /// Returns when a standby announces itself to a lesser master next, or `None` if it is no standby or knows no
+    /// lesser master.
     fn call_due(&self) -> Option<u64>
         ensures { result ≡ call_due self.now }
     {
@@ -69,8 +70,8 @@ impl Policy {
     }
 
     /// Returns when the next sweep begins: for a manager that discovers, or is standby and knows no master, as soon as
-    /// one may begin; otherwise once one is asked for, and for a master also after a period. Returns `None` if no sweep is
-    /// due.
+    /// one may begin; otherwise once one is asked for, and for a master also after a period. Returns `None` if no
+    /// sweep is due.
     fn sweep_due(&self) -> Option<u64>
         ensures { result ≡ sweep_due self.now }
     {
@@ -128,8 +129,8 @@ impl Policy {
         self.handed = None;
     }
 
-    /// Notes, at the time `now`, that the request of a handover is no longer out. A master then waits a while for the
-    /// acknowledgement, by which it becomes standby, and rests.
+    /// Notes, at the time `now`, that the request of a handover is no longer out. If the manager is still master, waits
+    /// a second for the acknowledgement. Otherwise, and after that, rests.
     pub fn handed(&mut self, now: u64)
         ensures { self.new ≡ handed now self.old }
     {
@@ -173,8 +174,8 @@ fn is_due(now: u64, due: Option<u64>) -> bool
     }
 }
 
-/// Returns whether the end of a handover is still waited for at `now`. `since` is when its request was answered, or `None`
-/// if that is just now.
+/// Returns whether the end of a handover is still waited for at `now`. `since` is when its request was answered, or
+/// `None` if that is just now.
 fn is_awaited(now: u64, since: Option<u64>) -> bool
     ensures { result ≡ is_awaited now since }
 {

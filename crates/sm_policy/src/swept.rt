@@ -1,7 +1,8 @@
 //! What a manager does when its sweep is over.
 ghost use Rattle.std.specs.Prelude.{◌≡◌};
 ghost use Rattle.sm_policy.specs.Policy.{forgotten, wanting};
-ghost use Rattle.sm_policy.specs.Swept.{counts, dealt, ended, is_past, judging, masterless_by, may_plan, meeting_at, met};
+ghost use Rattle.sm_policy.specs.Swept.{counts, dealt, ended, is_past, judging};
+ghost use Rattle.sm_policy.specs.Swept.{masterless_by, may_plan, meeting_at, met};
 ghost use Rattle.sm_policy.specs.Swept.{offered, reigned, stood_by, swept, swept_in};
 
 use crate::act::Act;
@@ -19,9 +20,9 @@ impl Policy {
     /// Returns what is done at the time `now` after a sweep. `is_whole` says whether the sweep has every answer, and
     /// `rival` which master it saw, the greatest of those that the manager hears.
     ///
-    /// Returns `Wait` if the manager stood still while the sweep ran. A standby polls `rival` from then on, and discovers
-    /// anew if several sweeps in a row saw no master. A master deals with `rival` before it writes anything; if there is
-    /// none, it judges its plan if the sweep has every answer.
+    /// Returns `Wait` if the manager stood still while the sweep ran. A standby polls `rival` from then on, and
+    /// discovers anew if several sweeps in a row saw no master. A master deals with `rival` before it writes anything;
+    /// if there is none, it judges its plan if the sweep has every answer.
     pub fn sweep_ended(&mut self, now: u64, is_whole: bool, rival: Option<Rival>) -> Act
         ensures policy { self.new ≡ (swept now is_whole rival self.old).policy }
         ensures act { result ≡ (swept now is_whole rival self.old).act }
@@ -83,7 +84,8 @@ impl Policy {
         }
     }
 
-    /// Returns whether a sweep of a standby that saw no master counts: it has every answer, or several in a row had not.
+    /// Returns whether a sweep of a standby that saw no master counts: it has every answer, or several in a row had
+    /// not.
     fn counts(&self) -> bool
         ensures { result ≡ counts self.now }
     {
@@ -121,8 +123,8 @@ impl Policy {
     }
 
     /// Returns how a master deals with the master `rival`: it offers a greater one the subnet. It announces itself, so
-    /// that a lesser one sweeps and hands over; if that does not help, it offers the subnet to that one, which has to look
-    /// at the subnet then.
+    /// that a lesser one sweeps and hands over; if that does not help, it offers the subnet to that one, which has to
+    /// look at the subnet then.
     fn deal_with(&mut self, rival: Rival) -> Act
         ensures policy { self.new ≡ (dealt rival self.old).policy }
         ensures act { result ≡ (dealt rival self.old).act }
@@ -155,8 +157,8 @@ impl Policy {
         }
     }
 
-    /// Returns whether a plan may be made of what is known: the last sweep has every answer, or several in a row had not,
-    /// and the manager is not strict.
+    /// Returns whether a plan may be made of what is known: the last sweep has every answer, or several in a row had
+    /// not, and the manager is not strict.
     fn may_plan(&self) -> bool
         ensures { result ≡ may_plan self.now }
     {

@@ -5,7 +5,7 @@ pub struct Timing {
     pub every: u32,
     /// From one poll of a standby to its next one.
     pub poll: u32,
-    /// Whether nothing is written while some request of sweeps has no answer. Otherwise, what is known is written after a
-    /// few such sweeps in a row.
+    /// Whether nothing is written while some request of sweeps has no answer. Otherwise, what is known is written
+    /// after a few such sweeps in a row.
     pub is_strict: bool,
 }
