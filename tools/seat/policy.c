@@ -290,8 +290,7 @@ static void leave_standby(void)
 /* Has the process send a HANDOVER, unless there is nobody to send it to. */
 static void hand_over_by(const char *line)
 {
-	if (strncmp(tell("%s", line), "refused ", 8))
-		phase = HANDS_OVER;
+	phase = strncmp(tell("%s", line), "refused ", 8) ? HANDS_OVER : RESTS;
 	handed_over = 0;
 }
 
@@ -633,7 +632,7 @@ void leave(void)
 	drop_all();	/* the heir writes anew */
 	be_no_manager();	/* or else its first sweep would find a master here, and it would stand by again */
 	yield_to(heir);
-	while (!handover_is_acknowledged() && now() < until && !manager_is_gone()) {
+	while (phase == HANDS_OVER && !handover_is_acknowledged() && now() < until && !manager_is_gone()) {
 		carry(LEAVING_MS);
 		if (has_news)
 			look_at_state();
