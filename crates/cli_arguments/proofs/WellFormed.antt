@@ -21,7 +21,8 @@ use Rattle.clap.specs.declared.parser.matches.ArgMatches.TheViews.{out-ArgMatche
 use Rattle.clap.specs.declared.parser.matches.SubCommand.{SubCommand}
 use Rattle.std.specs.Box.{box_value}
 use Rattle.cli_arguments.specs.CommandLine.{IsReadAs, AreRoutings, command_line}
-use Rattle.cli_arguments.specs.WellFormed.{HasItsWords, IsGiven, IsNumberWithin, IsRouting, IsWellFormed, NamesFiles, NamesOrder, NamesPlanning, NamesSeat, facts, join, plan, order, audit, next, run, serve}
+use Rattle.cli_arguments.specs.WellFormed.{HasItsWords, IsGiven, IsNumberWithin, IsRouting, IsWellFormed, NamesFiles, NamesOrder, NamesPace, NamesPlanning, NamesSeat}
+use Rattle.cli_arguments.specs.WellFormed.{facts, join, plan, order, audit, next, run, serve, manage}
 use Rattle.cli_arguments.specs.Words.{has_conflict, has_conflict_behind, has_conflict_of, is_guid, is_held_and_named, is_key, is_wrong_seat, order_rule, values_in, word_behind}
 use Rattle.cli_arguments.proofs.Entered.{EachHas, IsPassed, enters, required_given, found_has, given_word, is_help, word_passes}
 use Rattle.cli_arguments.proofs.Walked.{ArePlainIn, AreTaken, level_taken, wants_some}
@@ -45,6 +46,10 @@ module _ (routings : Bor (List (Bor Text))) (known : AreRoutings routings) (c : 
   number_read least most a is (Some v) h =
       accepts-Accepts a.ignore_case (Signed (pos least) (pos most)) v
       (subst (λ (o : Option ValueParser). accepts a.ignore_case (parser_of_value o) v ≡ true) is h)
+
+  number_named : (id : Text) (least most : ℕ) (a : Rule) → arg_by_id c id ≡ Some a → a.parser ≡ Some (Signed (pos least) (pos most))
+      → IsNumberWithin least most (word id)
+  number_named id least most a is parser = number_read least most a parser (word id) (word_passes c name id a rows is taken)
 
   one_named : (xs : List (Bor Text)) (v : Text) → map (λ word. word.now) xs ≡ codes "updown" ∷ codes "spread" ∷ codes "balance" ∷ []
       → list_any (λ x. bytes_eq x.now v) xs ≡ true → IsRouting (Some v)
@@ -87,20 +92,14 @@ module _ (routings : Bor (List (Bor Text))) (known : AreRoutings routings) (c : 
   names_files f is parser given =
       record {
         named = files_named given;
-        floor = number_read 1 4294967295 f parser (word (codes "floor"))
-            (word_passes c name (codes "floor") f rows is taken);
+        floor = number_named (codes "floor") 1 4294967295 f is parser;
       }
-
-  names_load : (m : Rule) → arg_by_id c (codes "max-load") ≡ Some m → m.parser ≡ Some (Signed (pos 0) (pos 4294967295))
-      → IsNumberWithin 0 4294967295 (word (codes "max-load"))
-  names_load m is parser =
-      number_read 0 4294967295 m parser (word (codes "max-load")) (word_passes c name (codes "max-load") m rows is taken)
 
   names_planning : (l r : Rule) → arg_by_id c (codes "lmc") ≡ Some l → l.parser ≡ Some (Signed (pos 0) (pos 7)) → arg_by_id c (codes "routing") ≡ Some r
       → r.parser ≡ Some (Names routings) → r.ignore_case ≡ false
       → has_conflict_of (word (codes "routing")) (is_some (word (codes "roots"))) (is_some (word (codes "order"))) ≡ false → NamesPlanning word
   names_planning l r is_l parser_l is_r parser_r plain apart = record {
-    lmc = number_read 0 7 l parser_l (word (codes "lmc")) (word_passes c name (codes "lmc") l rows is_l taken);
+    lmc = number_named (codes "lmc") 0 7 l is_l parser_l;
     routing = routing_read r parser_r plain (word (codes "routing")) (word_passes c name (codes "routing") r rows is_r taken);
     apart = apart;
   }
@@ -124,10 +123,25 @@ module _ (routings : Bor (List (Bor Text))) (known : AreRoutings routings) (c : 
   names_seat g p q is_g is_p parser_p is_q parser_q wants_g wants_p wants_q given_g given_p given_q right = record {
     guid = is_so (is_guid (word (codes "GUID"))) (neither _ _ right).0;
     port_given = text_given (codes "PORT") p is_p wants_p given_p;
-    port = number_read 1 254 p parser_p (word (codes "PORT")) (word_passes c name (codes "PORT") p rows is_p taken);
+    port = number_named (codes "PORT") 1 254 p is_p parser_p;
     priority_given = text_given (codes "PRIORITY") q is_q wants_q given_q;
-    priority = number_read 0 15 q parser_q (word (codes "PRIORITY")) (word_passes c name (codes "PRIORITY") q rows is_q taken);
+    priority = number_named (codes "PRIORITY") 0 15 q is_q parser_q;
     sm_key = is_so (is_key (word (codes "sm-key"))) (neither _ _ right).1;
+  }
+
+  names_pace : (e p w r o n : Rule) → arg_by_id c (codes "every") ≡ Some e → e.parser ≡ Some (Signed (pos 1000) (pos 60000))
+      → arg_by_id c (codes "poll") ≡ Some p → p.parser ≡ Some (Signed (pos 1) (pos 600000))
+      → arg_by_id c (codes "timeout") ≡ Some w → w.parser ≡ Some (Signed (pos 1) (pos 600000))
+      → arg_by_id c (codes "tries") ≡ Some r → r.parser ≡ Some (Signed (pos 1) (pos 101))
+      → arg_by_id c (codes "outstanding") ≡ Some o → o.parser ≡ Some (Signed (pos 1) (pos 64))
+      → arg_by_id c (codes "newest") ≡ Some n → n.parser ≡ Some (Signed (pos 0) (pos 4294967294)) → NamesPace word
+  names_pace e p w r o n is_e parser_e is_p parser_p is_w parser_w is_r parser_r is_o parser_o is_n parser_n = record {
+    every = number_named (codes "every") 1000 60000 e is_e parser_e;
+    poll = number_named (codes "poll") 1 600000 p is_p parser_p;
+    timeout = number_named (codes "timeout") 1 600000 w is_w parser_w;
+    tries = number_named (codes "tries") 1 101 r is_r parser_r;
+    outstanding = number_named (codes "outstanding") 1 64 o is_o parser_o;
+    newest = number_named (codes "newest") 0 4294967294 n is_n parser_n;
   }
 
 -- subcommands ---------------------------------------------------------------------------------------------
@@ -166,8 +180,35 @@ all_plain routings = (
               (
                 ((refl, refl), ((refl, refl), ((refl, refl), ((refl, refl), ((refl, refl), ((refl, refl), ((refl, refl), ((refl, refl), ((refl, refl), tt))))))))),
                 (
-                  ((refl, refl), tt),
-                  tt,
+                  (
+                    (refl, refl),
+                    (
+                      (refl, refl),
+                      (
+                        (refl, refl),
+                        (
+                          (refl, refl),
+                          (
+                            (refl, refl),
+                            (
+                              (refl, refl),
+                              (
+                                (refl, refl),
+                                (
+                                  (refl, refl),
+                                  ((refl, refl), ((refl, refl), ((refl, refl), ((refl, refl), ((refl, refl), ((refl, refl), ((refl, refl), ((refl, refl), tt)))))))),
+                                ),
+                              ),
+                            ),
+                          ),
+                        ),
+                      ),
+                    ),
+                  ),
+                  (
+                    ((refl, refl), tt),
+                    tt,
+                  ),
                 ),
               ),
             ),
@@ -193,7 +234,7 @@ all_fit routings known = (
         (
           λ other differs is rows t e apart. audit refl (text_given routings known _ (codes "audit") rows t (codes "TABLES") _ refl refl (given_first _ _ e).0)
               (files_named routings known _ (codes "audit") rows t (given_first _ _ (given_first _ _ e).1).0)
-              (names_load routings known _ (codes "audit") rows t _ refl refl) (is_so _ apart),
+              (number_named routings known _ (codes "audit") rows t (codes "max-load") 0 4294967295 _ refl refl) (is_so _ apart),
           (
             λ other differs is rows t e apart. next refl (text_given routings known _ (codes "next") rows t (codes "TABLES") _ refl refl (given_first _ _ e).0)
                 (files_named routings known _ (codes "next") rows t (given_first _ _ (given_first _ _ e).1).0)
@@ -208,8 +249,16 @@ all_fit routings known = (
                     (neither _ _ apart).1)
                     (names_planning routings known _ (codes "serve") rows t _ _ refl refl refl refl refl (neither _ _ apart).0),
                 (
-                  λ other differs is rows t e apart. absurd (is_named_help other differs is),
-                  tt,
+                  λ other differs is rows t e apart. manage refl
+                      (names_seat routings known _ (codes "manage") rows t _ _ _ refl refl refl refl refl refl refl refl
+                      (given_first _ _ e).0 (given_first _ _ (given_first _ _ e).1).0 (given_first _ _ (given_first _ _ (given_first _ _ e).1).1).0
+                      (neither _ _ apart).1)
+                      (names_planning routings known _ (codes "manage") rows t _ _ refl refl refl refl refl (neither _ _ apart).0)
+                      (names_pace routings known _ (codes "manage") rows t _ _ _ _ _ _ refl refl refl refl refl refl refl refl refl refl refl refl),
+                  (
+                    λ other differs is rows t e apart. absurd (is_named_help other differs is),
+                    tt,
+                  ),
                 ),
               ),
             ),

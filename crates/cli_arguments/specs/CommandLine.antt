@@ -1,5 +1,5 @@
 -- The command line: its subcommands and their arguments, what words are read as, and when they are refused.
-use Rattle.std.specs.Prelude.{◌≡◌, ◌⊎◌, Bool, true, false, List, [], ◌∷◌, ◌++◌, map, Some, codes, pos, Result, Ok, Err}
+use Rattle.std.specs.Prelude.{◌≡◌, ◌⊎◌, ℕ, Bool, true, false, List, [], ◌∷◌, ◌++◌, map, Some, codes, pos, Result, Ok, Err}
 use Rattle.std.specs.Borrow.{Bor}
 use Rattle.clap.specs.Lexer.{usize_max}
 use Rattle.clap.specs.Kinds.{IsAmong}
@@ -38,9 +38,13 @@ option_rule name = record (new_rule name) { long = Some name; value_names = 1; a
 abbrev pub flag_rule : Text → Rule
 flag_rule name = record (new_rule name) { long = Some name; action = Some SetTrue }
 
+-- the option `name` for a number from `least` to `most`
+abbrev pub number_rule : Text → ℕ → ℕ → Rule
+number_rule name least most = record (option_rule name) { parser = Some (Signed (pos least) (pos most)) }
+
 -- the option for a floor, from 1 to 2^32 - 1
 abbrev pub floor_rule : Rule
-floor_rule = record (option_rule (codes "floor")) { parser = Some (Signed (pos 1) (pos 4294967295)) }
+floor_rule = number_rule (codes "floor") 1 4294967295
 
 -- the option `--all`, with no word after it: all items are listed
 abbrev pub all_rule : Rule
@@ -52,7 +56,7 @@ of_step = option_rule (codes "last-order") ∷ []
 
 -- the option for the greatest load that passes, from 0 to 2^32 - 1
 abbrev pub max_load_rule : Rule
-max_load_rule = record (option_rule (codes "max-load")) { parser = Some (Signed (pos 0) (pos 4294967295)) }
+max_load_rule = number_rule (codes "max-load") 0 4294967295
 
 -- the option `--loads`, with no word after it: the load of each channel is printed
 abbrev pub loads_rule : Rule
@@ -66,7 +70,7 @@ of_report =
 
 -- the option for an LMC, from 0 to 7
 abbrev pub lmc_rule : Rule
-lmc_rule = record (option_rule (codes "lmc")) { parser = Some (Signed (pos 0) (pos 7)) }
+lmc_rule = number_rule (codes "lmc") 0 7
 
 -- the option for a rule of routing, one of `words`
 abbrev pub routing_rule : Bor (List (Bor Text)) → Rule
@@ -87,6 +91,46 @@ priority_rule = record (text_rule (codes "PRIORITY")) { parser = Some (Signed (p
 -- the arguments of a manager at a port, and the option for its SM_Key
 abbrev pub of_seat : List Rule
 of_seat = text_rule (codes "GUID") ∷ port_rule ∷ priority_rule ∷ option_rule (codes "sm-key") ∷ []
+
+-- the option for the time from the end of a master's sweep to its next one, from 1000 to 60000 milliseconds
+abbrev pub every_rule : Rule
+every_rule = number_rule (codes "every") 1000 60000
+
+-- the option for the time from one poll of a standby to its next one, from 1 to 600000 milliseconds
+abbrev pub poll_rule : Rule
+poll_rule = number_rule (codes "poll") 1 600000
+
+-- the option `--strict`, with no word after it: nothing is planned while a request of sweeps has no answer
+abbrev pub strict_rule : Rule
+strict_rule = flag_rule (codes "strict")
+
+-- the option for the time that an answer is waited for, from 1 to 600000 milliseconds
+abbrev pub timeout_rule : Rule
+timeout_rule = number_rule (codes "timeout") 1 600000
+
+-- the option for how often a request is sent, from 1 to 101
+abbrev pub tries_rule : Rule
+tries_rule = number_rule (codes "tries") 1 101
+
+-- the option for the number of requests that are out at a time, from 1 to 64
+abbrev pub outstanding_rule : Rule
+outstanding_rule = number_rule (codes "outstanding") 1 64
+
+-- the option for the newest generation that is known, from 0 to 2^32 - 2, so that there is one above it
+abbrev pub newest_rule : Rule
+newest_rule = number_rule (codes "newest") 0 4294967294
+
+-- the options for when a manager that decides by itself does what
+abbrev pub of_timing : List Rule
+of_timing = every_rule ∷ poll_rule ∷ strict_rule ∷ []
+
+-- the options for the requests of a manager that decides by itself
+abbrev pub of_limits : List Rule
+of_limits = timeout_rule ∷ tries_rule ∷ outstanding_rule ∷ []
+
+-- the options of a manager that decides by itself, besides those of its plans
+abbrev pub of_pace : List Rule
+of_pace = of_timing ++ of_limits ++ newest_rule ∷ []
 
 -- the options for the order of switches: a file of roots, or a file of an order
 abbrev pub of_order : List Rule
@@ -137,9 +181,17 @@ abbrev pub run_shape : Bor (List (Bor Text)) → Shape
 run_shape words =
     subcommand_shape (codes "run") (text_rule (codes "TOPOLOGY") ∷ text_rule (codes "SCHEDULE") ∷ of_planning words)
 
+-- the subcommand `name` of a manager at a port, with the options of its plans
+abbrev pub seated_shape : Text → Bor (List (Bor Text)) → Shape
+seated_shape name words = subcommand_shape name (of_seat ++ of_planning words)
+
 -- the subcommand that serves a manager
 abbrev pub serve_shape : Bor (List (Bor Text)) → Shape
-serve_shape words = subcommand_shape (codes "serve") (of_seat ++ of_planning words)
+serve_shape words = seated_shape (codes "serve") words
+
+-- the subcommand that runs a manager that decides by itself
+abbrev pub manage_shape : Bor (List (Bor Text)) → Shape
+manage_shape words = subcommand_shape (codes "manage") (of_seat ++ of_planning words ++ of_pace)
 
 -- the program without its subcommands; a subcommand is required
 abbrev pub program_app : App
@@ -152,7 +204,7 @@ command_line words = record {
   top = record program_app.top { is_leaf = false };
   subs =
       facts_shape ∷ join_shape ∷ plan_shape words ∷ order_shape words ∷ audit_shape ∷ next_shape words ∷ run_shape words
-      ∷ serve_shape words ∷ [];
+      ∷ serve_shape words ∷ manage_shape words ∷ [];
 }
 
 -- `words` are the words for the three rules of routing

@@ -59,6 +59,15 @@ pub record NamesSeat (word : Text → Option Text) : Type 0 where
   pub priority : IsNumberWithin 0 15 (word (codes "PRIORITY"))
   pub sm_key : is_key (word (codes "sm-key")) ≡ true
 
+-- the options of a manager that decides by itself, if named, are numbers in their ranges
+pub record NamesPace (word : Text → Option Text) : Type 0 where
+  pub every : IsNumberWithin 1000 60000 (word (codes "every"))
+  pub poll : IsNumberWithin 1 600000 (word (codes "poll"))
+  pub timeout : IsNumberWithin 1 600000 (word (codes "timeout"))
+  pub tries : IsNumberWithin 1 101 (word (codes "tries"))
+  pub outstanding : IsNumberWithin 1 64 (word (codes "outstanding"))
+  pub newest : IsNumberWithin 0 4294967294 (word (codes "newest"))
+
 -- the subcommand `name` has the words that it takes
 pub data HasItsWords (word : Text → Option Text) (files : Option (List Text)) (name : Text) : Type 0 where
   facts : name ≡ codes "facts" → NamesFiles word files → HasItsWords word files name
@@ -73,6 +82,7 @@ pub data HasItsWords (word : Text → Option Text) (files : Option (List Text)) 
   run : name ≡ codes "run" → IsGiven (word (codes "TOPOLOGY")) → IsGiven (word (codes "SCHEDULE")) → NamesPlanning word
       → HasItsWords word files name
   serve : name ≡ codes "serve" → NamesSeat word → NamesPlanning word → HasItsWords word files name
+  manage : name ≡ codes "manage" → NamesSeat word → NamesPlanning word → NamesPace word → HasItsWords word files name
 
 -- the words name a subcommand, which has the words that it takes
 pub record IsWellFormed (matches : ArgMatches) : Type 0 where

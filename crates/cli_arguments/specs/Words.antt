@@ -80,11 +80,15 @@ is_held_and_named word =
     is_some (word (codes "held")) && (is_some (word (codes "routing")) || is_some (word (codes "roots"))
     || is_some (word (codes "order")))
 
--- options contradict each other in the subcommand `name`, or it is `serve` and its GUID or SM_Key is not 1 to 16 hex
--- digits, or it is `audit` and does not name a packet as it has to be named
+-- the subcommand `name` runs a manager at a port
+abbrev pub is_seated : List ℕ → Bool
+is_seated name = bytes_eq name (codes "serve") || bytes_eq name (codes "manage")
+
+-- options contradict each other in the subcommand `name`, or it runs a manager at a port and its GUID or SM_Key is not 1
+-- to 16 hex digits, or it is `audit` and does not name a packet as it has to be named
 abbrev pub has_conflict : List ℕ → (List ℕ → Option (List ℕ)) → Bool
 has_conflict name word =
-    if bytes_eq name (codes "serve") then planning_conflict name word || is_wrong_seat word
+    if is_seated name then planning_conflict name word || is_wrong_seat word
     else (if bytes_eq name (codes "audit") then not (is_way (word (codes "way")))
     else planning_conflict name word || is_held_and_named word)
 

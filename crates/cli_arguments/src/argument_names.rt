@@ -21,6 +21,9 @@ pub const RUN: &str = "run";
 /// The subcommand that serves a manager.
 pub const SERVE: &str = "serve";
 
+/// The subcommand that runs a manager that decides by itself.
+pub const MANAGE: &str = "manage";
+
 /// The argument for the GUID of a manager's port.
 pub const GUID: &str = "GUID";
 
@@ -32,6 +35,27 @@ pub const PRIORITY: &str = "PRIORITY";
 
 /// The option for a manager's SM_Key.
 pub const SM_KEY: &str = "sm-key";
+
+/// The option for the time from the end of a master's sweep to its next one.
+pub const EVERY: &str = "every";
+
+/// The option for the time from one poll of a standby to its next one.
+pub const POLL: &str = "poll";
+
+/// The flag that makes a manager plan only after sweeps that had every answer.
+pub const STRICT: &str = "strict";
+
+/// The option for the time that an answer is waited for.
+pub const TIMEOUT: &str = "timeout";
+
+/// The option for how often a request is sent.
+pub const TRIES: &str = "tries";
+
+/// The option for the number of requests that are out at a time.
+pub const OUTSTANDING: &str = "outstanding";
+
+/// The option for the newest generation that is known.
+pub const NEWEST: &str = "newest";
 
 /// The argument for the report and store files of a subcommand.
 pub const FILE: &str = "FILE";

@@ -1,13 +1,14 @@
 //! The arguments and options of subcommands.
 ghost use Rattle.std.specs.Prelude.{◌≡◌, codes, false};
 ghost use Rattle.clap.specs.Walk.{rule_of};
-ghost use Rattle.cli_arguments.specs.CommandLine.{all_rule, files_rule, flag_rule, floor_rule};
-ghost use Rattle.cli_arguments.specs.CommandLine.{lmc_rule, loads_rule, max_load_rule, option_rule, port_rule};
-ghost use Rattle.cli_arguments.specs.CommandLine.{priority_rule, routing_rule, text_rule};
+ghost use Rattle.cli_arguments.specs.CommandLine.{all_rule, every_rule, files_rule, flag_rule, floor_rule};
+ghost use Rattle.cli_arguments.specs.CommandLine.{lmc_rule, loads_rule, max_load_rule, newest_rule, option_rule};
+ghost use Rattle.cli_arguments.specs.CommandLine.{outstanding_rule, poll_rule, port_rule, priority_rule};
+ghost use Rattle.cli_arguments.specs.CommandLine.{routing_rule, strict_rule, text_rule, timeout_rule, tries_rule};
 
 use crate::argument_names::{
-    ALL, FILE, FLOOR, GUID, HELD, LANES, LAST_ORDER, LMC, LOADS, MAX_LOAD, ORDER, PORT, PRIORITY,
-    ROOTS, ROUTING, SM_KEY, WAY,
+    ALL, EVERY, FILE, FLOOR, HELD, LANES, LAST_ORDER, LMC, LOADS, MAX_LOAD, NEWEST, ORDER,
+    OUTSTANDING, POLL, PORT, PRIORITY, ROOTS, ROUTING, SM_KEY, STRICT, TIMEOUT, TRIES, WAY,
 };
 use clap::{Arg, ArgAction, value_parser};
 use std::alloc::Global;
@@ -77,6 +78,102 @@ pub(crate) fn sm_key<'a>(alloc: Global) -> Arg<'a>
         "HEX",
         "The SM_Key of the manager, 1 to 16 hex digits; 1, OpenSM's, by default",
     )
+}
+
+/// Builds the option for the time between the sweeps of a master.
+pub(crate) fn every<'a>(alloc: Global) -> Arg<'a>
+    ensures rule { rule_of result ≡ every_rule }
+    ensures own { result.global ≡ false }
+{
+    option(
+        alloc,
+        EVERY,
+        "MS",
+        "As master, sweeps MS milliseconds after the last sweep, 1000 to 60000; 10000 by default",
+    )
+    .value_parser(value_parser!(u32).range(1000..=60000))
+}
+
+/// Builds the option for the time between the polls of a standby.
+pub(crate) fn poll<'a>(alloc: Global) -> Arg<'a>
+    ensures rule { rule_of result ≡ poll_rule }
+    ensures own { result.global ≡ false }
+{
+    option(
+        alloc,
+        POLL,
+        "MS",
+        "As standby, polls the master every MS milliseconds, 1 to 600000; 1000 by default",
+    )
+    .value_parser(value_parser!(u32).range(1..=600000))
+}
+
+/// Builds the flag for plans only after sweeps that had every answer.
+pub(crate) fn strict<'a>(alloc: Global) -> Arg<'a>
+    ensures rule { rule_of result ≡ strict_rule }
+    ensures own { result.global ≡ false }
+{
+    flag(
+        alloc,
+        STRICT,
+        "Never plans while a request of sweeps has no answer",
+    )
+}
+
+/// Builds the option for the time that an answer is waited for.
+pub(crate) fn timeout<'a>(alloc: Global) -> Arg<'a>
+    ensures rule { rule_of result ≡ timeout_rule }
+    ensures own { result.global ≡ false }
+{
+    option(
+        alloc,
+        TIMEOUT,
+        "MS",
+        "Waits MS milliseconds for an answer, 1 to 600000; 500 by default",
+    )
+    .value_parser(value_parser!(u32).range(1..=600000))
+}
+
+/// Builds the option for how often a request is sent.
+pub(crate) fn tries<'a>(alloc: Global) -> Arg<'a>
+    ensures rule { rule_of result ≡ tries_rule }
+    ensures own { result.global ≡ false }
+{
+    option(
+        alloc,
+        TRIES,
+        "N",
+        "Sends a request N times at most, 1 to 101; 4 by default",
+    )
+    .value_parser(value_parser!(u32).range(1..=101))
+}
+
+/// Builds the option for the number of requests that are out at a time.
+pub(crate) fn outstanding<'a>(alloc: Global) -> Arg<'a>
+    ensures rule { rule_of result ≡ outstanding_rule }
+    ensures own { result.global ≡ false }
+{
+    option(
+        alloc,
+        OUTSTANDING,
+        "N",
+        "Has N requests out at a time at most, 1 to 64; 4 by default",
+    )
+    .value_parser(value_parser!(u32).range(1..=64))
+}
+
+/// Builds the option for the newest generation that is known.
+pub(crate) fn newest<'a>(alloc: Global) -> Arg<'a>
+    ensures rule { rule_of result ≡ newest_rule }
+    ensures own { result.global ≡ false }
+{
+    option(
+        alloc,
+        NEWEST,
+        "G",
+        "Sweeps get generations above G, the newest that is known, 0 to 4294967294; 0 by default",
+    )
+    .value_parser(value_parser!(u32).range(0..=4294967294))
 }
 
 /// Builds the option for the floor.

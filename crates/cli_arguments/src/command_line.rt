@@ -2,20 +2,21 @@
 ghost use Rattle.std.specs.Prelude.{[], ◌∷◌, IfOk, codes, map};
 ghost use Rattle.clap.specs.Simple.{App, Shape, new_shape, with_subcommand};
 ghost use Rattle.cli_arguments.specs.CommandLine.{AddsRules, AreRoutings, IsApp, IsOf, IsReadAs, audit_shape};
-ghost use Rattle.cli_arguments.specs.CommandLine.{facts_shape, files_rule, join_shape, next_shape, order_shape};
+ghost use Rattle.cli_arguments.specs.CommandLine.{facts_shape, files_rule, join_shape, manage_shape, next_shape};
 ghost use Rattle.cli_arguments.specs.CommandLine.{command_line, of_files, of_order, of_planning, of_routing, of_seat};
-ghost use Rattle.cli_arguments.specs.CommandLine.{plan_shape, program_app, run_shape, serve_shape, option_rule};
-ghost use Rattle.cli_arguments.specs.CommandLine.{of_report, of_step, text_rule};
+ghost use Rattle.cli_arguments.specs.CommandLine.{order_shape, plan_shape, program_app, run_shape, serve_shape};
+ghost use Rattle.cli_arguments.specs.CommandLine.{of_limits, of_pace, of_report, of_step, of_timing, option_rule};
+ghost use Rattle.cli_arguments.specs.CommandLine.{seated_shape, text_rule};
 ghost use Rattle.cli_arguments.specs.WellFormed.{IsWellFormed};
 ghost use Rattle.cli_arguments.specs.Words.{has_conflict};
 
 use crate::argument_names::{
-    AUDIT, BALANCE, FACTS, GUID, JOIN, NEXT, ORDER, PLAN, RUN, SCHEDULE, SERVE, SPREAD, TABLES,
-    TOPOLOGY, UPDOWN,
+    AUDIT, BALANCE, FACTS, GUID, JOIN, MANAGE, NEXT, ORDER, PLAN, RUN, SCHEDULE, SERVE, SPREAD,
+    TABLES, TOPOLOGY, UPDOWN,
 };
 use crate::arguments::{
-    all, files, floor, held, lanes, last_order, lmc, loads, max_load, order_file, port, priority,
-    roots, routing, sm_key, text, way,
+    all, every, files, floor, held, lanes, last_order, lmc, loads, max_load, newest, order_file,
+    outstanding, poll, port, priority, roots, routing, sm_key, strict, text, timeout, tries, way,
 };
 use crate::conflicts::{conflict, has_conflict};
 use clap::{ArgMatches, Command, Error};
@@ -70,6 +71,14 @@ const SERVE_END: &str =
      4  a file or standard input cannot be opened or read, or the output takes no more\n  \
      5  out of memory\n\nExample:\n  ibsm serve 0000000000000101 1 5";
 
+const MANAGE_END: &str =
+    "It decides by itself when to sweep, to plan and to write, and when to yield to another manager. \
+     It is no subnet administration: it has no path records and no multicast groups, and knows no partitions \
+     and no lanes.\n\n\
+     Exit status:\n  0  done\n  2  the command line is wrong\n  3  a file is refused\n  \
+     4  a file or standard input cannot be opened or read, or the output takes no more\n  \
+     5  out of memory\n\nExample:\n  ibsm manage --every 10000 0000000000000101 1 5";
+
 /// What the rules of routing make of a plan, and which one is taken by default.
 const PLAN_ROUTING_HELP: &str =
     "updown (default) uses one root; spread uses all cables; balance also counts loads: the best for most fabrics";
@@ -121,7 +130,8 @@ fn command_line<'a>(alloc: Global, routings: &'a [&'a str]) -> Result<Command<'a
     let command = with(command, audit(alloc));
     let command = with(command, next(alloc, routings));
     let command = with(command, run(alloc, routings));
-    with(command, serve(alloc, routings))
+    let command = with(command, serve(alloc, routings));
+    with(command, manage(alloc, routings))
 }
 
 /// Adds `subcommand` to `command`. Returns an error if `command` or `subcommand` is an error, or if memory is refused.
@@ -254,12 +264,40 @@ fn run<'a>(alloc: Global, routings: &'a [&'a str]) -> Result<Command<'a>, AllocE
 fn serve<'a>(alloc: Global, routings: &'a [&'a str]) -> Result<Command<'a>, AllocError>
     ensures { IfOk result (IsOf (serve_shape routings.entry)) }
 {
-    let command = subcommand_head(
+    seated(
         alloc,
+        routings,
         SERVE,
         "Runs a subnet manager that is driven by lines on standard input",
         SERVE_END,
-    );
+    )
+}
+
+fn manage<'a>(alloc: Global, routings: &'a [&'a str]) -> Result<Command<'a>, AllocError>
+    ensures { IfOk result (IsOf (manage_shape routings.entry)) }
+{
+    let command = seated(
+        alloc,
+        routings,
+        MANAGE,
+        "Runs a subnet manager that decides by itself: standard input tells it time and packets",
+        MANAGE_END,
+    )?;
+    with_pace(alloc, command)
+}
+
+/// Builds the subcommand `name` of a manager at a port, with the options of its plans. Its help begins with `about` and
+/// closes with `end`.
+fn seated<'a>(
+    alloc: Global,
+    routings: &'a [&'a str],
+    name: &'a str,
+    about: &'a str,
+    end: &'a str,
+) -> Result<Command<'a>, AllocError>
+    ensures { IfOk result (IsOf (seated_shape name.now routings.entry)) }
+{
+    let command = subcommand_head(alloc, name, about, end);
     with_planning(alloc, routings, of_seat(alloc, command)?)
 }
 
@@ -272,6 +310,35 @@ fn of_seat<'a>(alloc: Global, command: Command<'a>) -> Result<Command<'a>, Alloc
         .arg(port(alloc))?
         .arg(priority(alloc))?
         .arg(sm_key(alloc))
+}
+
+/// Adds the options of a manager that decides by itself: when it does what, what limits its requests, and the newest
+/// generation that is known.
+fn with_pace<'a>(alloc: Global, command: Command<'a>) -> Result<Command<'a>, AllocError>
+    ensures { IfOk result (AddsRules of_pace command.entry) }
+{
+    let command = with_timing(alloc, command)?;
+    with_limits(alloc, command)?.arg(newest(alloc))
+}
+
+/// Adds the options for when a manager that decides by itself does what.
+fn with_timing<'a>(alloc: Global, command: Command<'a>) -> Result<Command<'a>, AllocError>
+    ensures { IfOk result (AddsRules of_timing command.entry) }
+{
+    command
+        .arg(every(alloc))?
+        .arg(poll(alloc))?
+        .arg(strict(alloc))
+}
+
+/// Adds the options that limit the requests of a manager that decides by itself.
+fn with_limits<'a>(alloc: Global, command: Command<'a>) -> Result<Command<'a>, AllocError>
+    ensures { IfOk result (AddsRules of_limits command.entry) }
+{
+    command
+        .arg(timeout(alloc))?
+        .arg(tries(alloc))?
+        .arg(outstanding(alloc))
 }
 
 /// Adds the argument for the files and the option for the floor.
@@ -346,8 +413,8 @@ fn with_order<'a>(alloc: Global, command: Command<'a>) -> Result<Command<'a>, Al
     command.arg(roots(alloc))?.arg(order_file(alloc))
 }
 
-/// Builds the subcommand `name` if it is `audit`, `next`, `run`, `order` or `serve`. Builds `plan` for any other name,
-/// and for `None`.
+/// Builds the subcommand `name` if it is `audit`, `next`, `run`, `order`, `serve` or `manage`. Builds `plan` for any
+/// other name, and for `None`.
 pub(crate) fn subcommand<'a>(alloc: Global, name: Option<&str>) -> Result<Command<'a>, AllocError> {
     match name {
         Some(AUDIT) => audit(alloc)?.bin_name("ibsm audit"),
@@ -355,6 +422,7 @@ pub(crate) fn subcommand<'a>(alloc: Global, name: Option<&str>) -> Result<Comman
         Some(RUN) => run(alloc, RULES.as_slice())?.bin_name("ibsm run"),
         Some(ORDER) => order(alloc, RULES.as_slice())?.bin_name("ibsm order"),
         Some(SERVE) => serve(alloc, RULES.as_slice())?.bin_name("ibsm serve"),
+        Some(MANAGE) => manage(alloc, RULES.as_slice())?.bin_name("ibsm manage"),
         _ => plan(alloc, RULES.as_slice())?.bin_name("ibsm plan"),
     }
 }

@@ -13,7 +13,7 @@ ghost use Rattle.cli_arguments.specs.Words.{planning_conflict};
 
 use crate::arg_matches::is_named;
 use crate::argument_names::{
-    AUDIT, BALANCE, GUID, HELD, ORDER, ROOTS, ROUTING, SERVE, SM_KEY, SPREAD, WAY,
+    AUDIT, BALANCE, GUID, HELD, MANAGE, ORDER, ROOTS, ROUTING, SERVE, SM_KEY, SPREAD, WAY,
 };
 use crate::command_line::subcommand;
 use crate::way_word::packet_named;
@@ -21,7 +21,7 @@ use clap::error::ErrorKind;
 use clap::{ArgMatches, Error};
 use std::alloc::{AllocError, Global};
 
-/// Returns whether options contradict each other, or the GUID or the SM_Key of `serve`, or the packet that `audit`
+/// Returns whether options contradict each other, or the GUID or the SM_Key of a manager, or the packet that `audit`
 /// names, is wrong. Options contradict each other if roots and an order are both named, if roots or an order are named
 /// without a rule of routing that takes them, or if held tables are named with a rule, roots or an order. The
 /// subcommand `order` needs no rule. The GUID must be 1 to 16 hex digits, and so must the SM_Key if one is named.
@@ -34,13 +34,14 @@ pub(crate) fn has_conflict(matches: &ArgMatches<'_>) -> bool
     }
 }
 
-/// Returns whether the options of the subcommand `name` contradict each other, or `name` is `serve` and the GUID or the
-/// SM_Key is not 1 to 16 hex digits, or `name` is `audit` and does not name a packet as `packet_named` reads it.
+/// Returns whether the options of the subcommand `name` contradict each other, or `name` is `serve` or `manage` and the
+/// GUID or the SM_Key is not 1 to 16 hex digits, or `name` is `audit` and does not name a packet as `packet_named`
+/// reads it.
 fn has_conflict_in(name: &str, words: &ArgMatches<'_>) -> bool
     ensures { result ≡ has_conflict name.now (first_value (found_of words.now)) }
 {
     match name {
-        SERVE => planning_conflict(name, words) || has_wrong_seat(words),
+        SERVE | MANAGE => planning_conflict(name, words) || has_wrong_seat(words),
         AUDIT => !has_way(words),
         _ => planning_conflict(name, words) || is_held_and_named(words),
     }

@@ -1,5 +1,6 @@
 pub mod Guids
 pub mod Numbers
+pub mod Paces
 pub mod RuleTexts
 pub mod WellFormed
 pub mod Within

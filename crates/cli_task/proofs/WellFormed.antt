@@ -1,22 +1,24 @@
 -- Well-formed words ask for a task, and name its inputs.
-use Rattle.std.proofs.Common.{◌≡◌, ◌&&◌, ℕ, Bool, not, true, false, List, [], ◌∷◌, Option, None, Some, ap, inl, inr, refl, sym, subst, ◌∙◌}
+use Rattle.std.proofs.Common.{arith, ◌≡◌, ℕ, true, false, List, [], ◌∷◌, Option, None, Some, ap, inl, inr, refl, sym, subst, ◌∙◌}
 use Rattle.std.specs.Prelude.{codes, is_some, option_and_then, option_map, if◌then◌else◌}
 use Rattle.clap.specs.Matches.{subcommand_name_of}
 use Rattle.clap.specs.declared.parser.matches.ArgMatches.{ArgMatches}
 use Rattle.cli_arguments.specs.WellFormed.{AreNamed, HasItsWords, IsGiven, IsNumberWithin, IsRouting, IsWellFormed, NamesFiles, NamesOrder, NamesPlanning, NamesSeat}
-use Rattle.cli_arguments.specs.WellFormed.{facts, join, plan, order, audit, next, run, serve}
+use Rattle.cli_arguments.specs.WellFormed.{NamesPace, facts, join, plan, order, audit, next, run, serve, manage}
 use Rattle.cli_arguments.specs.WayWord.{is_way, packet_named}
-use Rattle.cli_arguments.specs.Words.{files_named, has_conflict_of, is_guid, is_key, is_set, order_rule, word_named}
+use Rattle.cli_arguments.specs.Words.{files_named, has_conflict_of, is_guid, is_key, order_rule, word_named}
 use Rattle.sm_cli.specs.declared.audit_asked.WayAsked.{WayAsked}
 use Rattle.sm_cli.specs.declared.asked.RuleAsked.{RuleAsked}
 use Rattle.sm_cli.specs.declared.asked.RuleAsked.TheVariants.{UpDown, Spread, SpreadFromRoots, SpreadInOrder, Balance, BalanceInOrder}
 use Rattle.sm_cli.specs.declared.asked.Output.TheVariants.{Order}
+use Rattle.sm_cli.specs.declared.serving.Serving.{Serving}
 use Rattle.cli_task.specs.declared.task.Task.TheVariants.{Answer, OrderOfTables}
 use Rattle.cli_task.specs.InputNames.{followed_by, names_in, text_if, texts_of_rule}
 use Rattle.cli_task.specs.OptionValues.{floor_asked, guid_asked, lmc_asked, max_load_asked, number_in, order_asked, port_asked}
-use Rattle.cli_task.specs.OptionValues.{priority_asked, sm_key_asked, within, planning_asked, rule_asked, way_asked}
-use Rattle.cli_task.specs.Task.{task_behind}
+use Rattle.cli_task.specs.OptionValues.{newest_asked, number_or, priority_asked, sm_key_asked, within, planning_asked, rule_asked, way_asked}
+use Rattle.cli_task.specs.Task.{serving_asked, serving_by, task_behind}
 use Rattle.cli_task.proofs.Guids.{guid_is_read}
+use Rattle.cli_task.proofs.Paces.{number_given}
 use Rattle.cli_task.proofs.Within.{number_within}
 
 -- a value that is there
@@ -209,15 +211,48 @@ module _ (word : List ℕ → Option (List ℕ)) (files : Option (List (List ℕ
       let by = planning_there p in
       rw by.1 (both_there (texts_of_rule word by.0.1) _ by.2 (both_there _ (Some []) (two_there (word (codes "TOPOLOGY")) (word (codes "SCHEDULE")) t s) refl))
 
-  serve_asks : NamesSeat word → NamesPlanning word → Asks (codes "serve")
-  serve_asks s p =
+  -- a manager at a port, and the text that its rule takes
+  serving_there : NamesSeat word → NamesPlanning word
+      → (serving : Serving) × (serving_asked word ≡ Some serving) × (is_some (texts_of_rule word serving.rule) ≡ true)
+  serving_there s p =
       let by = planning_there p in
       let guid = known (guid_asked (word (codes "GUID"))) (guid_there (word (codes "GUID")) s.guid) in
       let port = known (port_asked (word (codes "PORT"))) (number_there 1 254 (word (codes "PORT")) s.port_given s.port) in
       let priority = known (priority_asked (word (codes "PRIORITY"))) (number_there 0 15 (word (codes "PRIORITY")) s.priority_given s.priority) in
-      let sm_key = known (sm_key_asked (word (codes "sm-key"))) (key_there (word (codes "sm-key")) s.sm_key) in
-      rw (by.1, guid.1, port.1, priority.1, sm_key.1)
-      (both_there (texts_of_rule word by.0.1) _ by.2 (both_there _ (Some []) (lines_there (word (codes "GUID")) s.guid) refl))
+      let sm_key = known (sm_key_asked (word (codes "sm-key"))) (key_there (word (codes "sm-key")) s.sm_key) in (
+        record { guid = guid.0; port = port.0; priority = priority.0; sm_key = sm_key.0; lmc = by.0.0; rule = by.0.1 },
+        whole _ _ _ _ _ by.0 guid.0 port.0 priority.0 sm_key.0 by.1 guid.1 port.1 priority.1 sm_key.1,
+        by.2,
+      )
+    where
+      whole : (planned : Option (ℕ × RuleAsked)) (o p q r : Option ℕ) (by : ℕ × RuleAsked) (guid port priority sm_key : ℕ) → planned ≡ Some by
+          → o ≡ Some guid → p ≡ Some port → q ≡ Some priority → r ≡ Some sm_key → option_and_then (λ by. serving_by by o p q r) planned
+          ≡ Some (record { guid = guid; port = port; priority = priority; sm_key = sm_key; lmc = by.0; rule = by.1 })
+      whole planned o p q r by guid port priority sm_key e f g h k = rw (e, f, g, h, k) refl
+
+  -- its inputs are named
+  lines_named : NamesSeat word → (serving : Serving) → is_some (texts_of_rule word serving.rule) ≡ true
+      → is_some (followed_by (texts_of_rule word serving.rule)
+      (followed_by (option_map (λ guid. codes "/dev/stdin" ∷ []) (word (codes "GUID"))) (Some []))) ≡ true
+  lines_named s serving texts =
+      both_there (texts_of_rule word serving.rule) _ texts (both_there _ (Some []) (lines_there (word (codes "GUID")) s.guid) refl)
+
+  serve_asks : NamesSeat word → NamesPlanning word → Asks (codes "serve")
+  serve_asks s p =
+      let serving = serving_there s p in
+      rw serving.1 (lines_named s serving.0 serving.2)
+
+  manage_asks : NamesSeat word → NamesPlanning word → NamesPace word → Asks (codes "manage")
+  manage_asks s p q =
+      let serving = serving_there s p in
+      let every = known (number_or 10000 (word (codes "every"))) (number_given 10000 1000 60000 (word (codes "every")) (omega arith) q.every) in
+      let poll = known (number_or 1000 (word (codes "poll"))) (number_given 1000 1 600000 (word (codes "poll")) (omega arith) q.poll) in
+      let timeout = known (number_or 500 (word (codes "timeout"))) (number_given 500 1 600000 (word (codes "timeout")) (omega arith) q.timeout) in
+      let tries = known (number_or 4 (word (codes "tries"))) (number_given 4 1 101 (word (codes "tries")) (omega arith) q.tries) in
+      let outstanding =
+      known (number_or 4 (word (codes "outstanding"))) (number_given 4 1 64 (word (codes "outstanding")) (omega arith) q.outstanding) in
+      let newest = known (newest_asked (word)) (number_given 0 0 4294967294 (word (codes "newest")) (omega arith) q.newest) in
+      rw (serving.1, every.1, poll.1, outstanding.1, tries.1, timeout.1, newest.1) (lines_named s serving.0 serving.2)
 
   words_ask : (name : List ℕ) → HasItsWords word files name → Asks name
   words_ask name (facts is h) = subst Asks (sym is) (facts_ask h)
@@ -228,6 +263,7 @@ module _ (word : List ℕ → Option (List ℕ)) (files : Option (List (List ℕ
   words_ask name (next is t h p) = subst Asks (sym is) (next_asks t h p)
   words_ask name (run is t s p) = subst Asks (sym is) (run_asks t s p)
   words_ask name (serve is s p) = subst Asks (sym is) (serve_asks s p)
+  words_ask name (manage is s p q) = subst Asks (sym is) (manage_asks s p q)
 
 -- so do well-formed words
 pub well_formed_asks : (matches : ArgMatches) → IsWellFormed matches

@@ -18,7 +18,7 @@ told false t = absurd t
 below : (a b : ℕ) → pos a ≤ℤ pos b → a ≤ b
 below a b h = leb-true a b (told (leb a b) h.le)
 
-some_within : (least most n : ℕ) → least ≤ n → n ≤ most → within least most n ≡ Some n
+pub some_within : (least most n : ℕ) → least ≤ n → n ≤ most → within least most n ≡ Some n
 some_within least most n low high = rw (is_within least n low, is_within n most high) refl
 
 module _ (least most : ℕ) where

@@ -8,7 +8,7 @@ use Rattle.sm_cli.specs.declared.asked.RuleAsked.{RuleAsked}
 use Rattle.sm_cli.specs.declared.asked.RuleAsked.TheVariants.{UpDown, Spread, SpreadFromRoots, SpreadInOrder, Balance}
 use Rattle.sm_cli.specs.declared.asked.RuleAsked.TheVariants.{BalanceInOrder}
 use Rattle.cli_task.specs.declared.task.Task.{Task}
-use Rattle.cli_task.specs.declared.task.Task.TheVariants.{Answer, OrderOfTables, Audit, Next, Run, Serve}
+use Rattle.cli_task.specs.declared.task.Task.TheVariants.{Answer, OrderOfTables, Audit, Next, Run, Serve, Manage}
 use Rattle.cli_task.specs.Task.{task_asked}
 
 -- the names of the texts that a rule takes, from the words for roots and order; None if the name of such a text is
@@ -29,6 +29,7 @@ rule_of_task (Audit asked) = UpDown
 rule_of_task (Next asked) = asked.rule
 rule_of_task (Run lmc rule) = rule
 rule_of_task (Serve asked) = asked.rule
+rule_of_task (Manage asked) = asked.serving.rule
 
 -- the names `first` and then `later`; None if one of the lists is None
 abbrev pub followed_by : Option (List (List ℕ)) → Option (List (List ℕ)) → Option (List (List ℕ))
@@ -44,8 +45,8 @@ abbrev pub texts_before_files : (List ℕ → Option (List ℕ)) → Bool → Li
 texts_before_files word is_asked name =
     followed_by (text_if is_asked (word name)) (option_map (λ tables. tables ∷ []) (word (codes "TABLES")))
 
--- the names of the texts that a task takes after the text of its rule; for `serve`, standard input. None if a name is
--- missing, or if `serve` has no word for the GUID
+-- the names of the texts that a task takes after the text of its rule; for `serve` and `manage`, standard input. None if
+-- a name is missing, or if `serve` or `manage` has no word for the GUID
 abbrev pub texts_asked : (List ℕ → Option (List ℕ)) → Task → Option (List (List ℕ))
 texts_asked word (Answer request) = Some []
 texts_asked word OrderOfTables = option_map (λ tables. tables ∷ []) (word (codes "held"))
@@ -55,6 +56,7 @@ texts_asked word (Run lmc rule) =
     option_and_then (λ topology. option_map (λ schedule. topology ∷ schedule ∷ []) (word (codes "SCHEDULE")))
     (word (codes "TOPOLOGY"))
 texts_asked word (Serve asked) = option_map (λ guid. codes "/dev/stdin" ∷ []) (word (codes "GUID"))
+texts_asked word (Manage asked) = option_map (λ guid. codes "/dev/stdin" ∷ []) (word (codes "GUID"))
 
 -- a task takes files
 abbrev pub takes_files : Task → Bool
@@ -64,6 +66,7 @@ takes_files (Audit asked) = true
 takes_files (Next asked) = true
 takes_files (Run lmc rule) = false
 takes_files (Serve asked) = false
+takes_files (Manage asked) = false
 
 -- the names of the files that a task takes, or None if they are missing; empty if the task takes no files
 abbrev pub files_asked : Option (List (List ℕ)) → Task → Option (List (List ℕ))

@@ -4,12 +4,14 @@ use Rattle.std.specs.Prelude.{option_map, option_and_then, ◌&&◌, ◌||◌, i
 use Rattle.std.specs.Str.{bytes_eq}
 use Rattle.std.specs.Str.Parse.{starts_with_minus, without_leading_plus}
 use Rattle.cli_arguments.specs.WayWord.{packet_named}
-use Rattle.cli_arguments.specs.Words.{order_rule}
+use Rattle.cli_arguments.specs.Words.{is_set, order_rule}
 use Rattle.text_words.specs.Numbers.{number_of}
+use Rattle.request_window.specs.declared.limits.Limits.{Limits}
 use Rattle.sm_cli.specs.declared.asked.RuleAsked.{RuleAsked}
 use Rattle.sm_cli.specs.declared.asked.RuleAsked.TheVariants.{UpDown, Spread, SpreadFromRoots, SpreadInOrder, Balance}
 use Rattle.sm_cli.specs.declared.asked.RuleAsked.TheVariants.{BalanceInOrder}
 use Rattle.sm_cli.specs.declared.audit_asked.WayAsked.{WayAsked}
+use Rattle.sm_policy.specs.declared.timing.Timing.{Timing}
 use Rattle.serve_lines.specs.ServeLine.{hex_number}
 
 -- `n` if it is from `least` to `most`, and otherwise None
@@ -98,3 +100,21 @@ priority_asked word = option_and_then (within 0 15) (option_and_then number_in w
 abbrev pub sm_key_asked : Option (List ℕ) → Option ℕ
 sm_key_asked None = Some 1
 sm_key_asked (Some word) = hex_number word
+
+-- when a manager does what, in milliseconds: every 10,000 and 1,000 if no words say otherwise, and not strict. None if a
+-- word is no 32-bit number
+abbrev pub timing_asked : (List ℕ → Option (List ℕ)) → Option Timing
+timing_asked word = option_and_then (λ every. option_map (λ poll.
+    record { every = every; poll = poll; is_strict = is_set (word (codes "strict")) })
+    (number_or 1000 (word (codes "poll")))) (number_or 10000 (word (codes "every")))
+
+-- what limits a manager's requests: 4 are out at a time, each is sent 4 times, and an answer is waited for during 500
+-- milliseconds, if no words say otherwise. None if a word is no 32-bit number
+abbrev pub limits_asked : (List ℕ → Option (List ℕ)) → Option Limits
+limits_asked word = option_and_then (λ outstanding. option_and_then (λ tries. option_map (λ timeout.
+    record { outstanding = outstanding; tries = tries; timeout = timeout }) (number_or 500 (word (codes "timeout"))))
+    (number_or 4 (word (codes "tries")))) (number_or 4 (word (codes "outstanding")))
+
+-- the newest generation that is known, 0 if there is no word; None if the word is no 32-bit number
+abbrev pub newest_asked : (List ℕ → Option (List ℕ)) → Option ℕ
+newest_asked word = number_or 0 (word (codes "newest"))

@@ -1,5 +1,5 @@
 -- The task that the words of a command line ask for.
-use Rattle.std.specs.Prelude.{ℕ, Bool, true, false, List, Option, None, Some, codes, is_some, option_map}
+use Rattle.std.specs.Prelude.{ℕ, List, Option, None, Some, codes, is_some, option_map}
 use Rattle.std.specs.Prelude.{option_and_then, if◌then◌else◌}
 use Rattle.std.specs.Str.{bytes_eq}
 use Rattle.clap.specs.Matches.{subcommand_name_of}
@@ -11,10 +11,12 @@ use Rattle.sm_cli.specs.declared.asked.RuleAsked.{RuleAsked}
 use Rattle.sm_cli.specs.declared.audit_asked.AuditAsked.{AuditAsked}
 use Rattle.sm_cli.specs.declared.serving.Serving.{Serving}
 use Rattle.sm_cli.specs.declared.step_asked.StepAsked.{StepAsked}
+use Rattle.cli_task.specs.declared.managing.Managing.{Managing}
 use Rattle.cli_task.specs.declared.task.Task.{Task}
-use Rattle.cli_task.specs.declared.task.Task.TheVariants.{Answer, OrderOfTables, Audit, Next, Run, Serve}
+use Rattle.cli_task.specs.declared.task.Task.TheVariants.{Answer, OrderOfTables, Audit, Next, Run, Serve, Manage}
 use Rattle.cli_task.specs.OptionValues.{floor_asked, planning_asked, order_asked, max_load_asked, guid_asked}
-use Rattle.cli_task.specs.OptionValues.{port_asked, priority_asked, sm_key_asked, way_asked}
+use Rattle.cli_task.specs.OptionValues.{limits_asked, newest_asked, port_asked, priority_asked, sm_key_asked}
+use Rattle.cli_task.specs.OptionValues.{timing_asked, way_asked}
 
 -- the audit that the words ask for, by lane if a file of lanes is named; None if one of them is wrong
 abbrev pub audit_asked : (List ℕ → Option (List ℕ)) → Option AuditAsked
@@ -44,6 +46,13 @@ abbrev pub serving_asked : (List ℕ → Option (List ℕ)) → Option Serving
 serving_asked word = option_and_then (λ by. serving_by by (guid_asked (word (codes "GUID")))
     (port_asked (word (codes "PORT"))) (priority_asked (word (codes "PRIORITY"))) (sm_key_asked (word (codes "sm-key"))))
     (planning_asked word)
+
+-- the manager that is to decide by itself; None if one of the words is missing or wrong
+abbrev pub managing_asked : (List ℕ → Option (List ℕ)) → Option Managing
+managing_asked word =
+    option_and_then (λ serving. option_and_then (λ timing. option_and_then (λ limits. option_map
+    (λ newest. record { serving = serving; timing = timing; limits = limits; newest = newest }) (newest_asked word))
+    (limits_asked word)) (timing_asked word)) (serving_asked word)
 
 -- the output that the subcommand `command` writes from facts; None if `command` is another subcommand, or if a word is
 -- wrong
@@ -76,7 +85,8 @@ task_behind word command =
     else (if bytes_eq command (codes "next") then option_map Next (step_asked word)
     else (if bytes_eq command (codes "run") then option_map (λ by. Run by.0 by.1) (planning_asked word)
     else (if bytes_eq command (codes "serve") then option_map Serve (serving_asked word)
-    else answer_task word command))))
+    else (if bytes_eq command (codes "manage") then option_map Manage (managing_asked word)
+    else answer_task word command)))))
 
 -- the task that the words of the command line ask for; None if the words name no subcommand, or one of the words is
 -- wrong

@@ -2,7 +2,9 @@
 #![tactic(auto)]
 
 pub mod laws;
+mod managing;
 mod option_values;
 mod task;
 
+pub use managing::Managing;
 pub use task::{Task, names_of, task_of};

@@ -3,21 +3,39 @@ ghost use Rattle.std.specs.Prelude.{◌≡◌, codes, is_some, option_and_then};
 ghost use Rattle.clap.specs.Matches.{first_value, found_of};
 ghost use Rattle.cli_task.specs.OptionValues.{floor_asked, lmc_asked, max_load_asked, number_in, number_or};
 ghost use Rattle.cli_task.specs.OptionValues.{planning_asked, rule_asked, order_asked, within, balance_asked, spread_asked, guid_asked};
-ghost use Rattle.cli_task.specs.OptionValues.{port_asked, priority_asked, sm_key_asked, way_asked};
+ghost use Rattle.cli_task.specs.OptionValues.{limits_asked, newest_asked, port_asked, priority_asked, sm_key_asked};
+ghost use Rattle.cli_task.specs.OptionValues.{timing_asked, way_asked};
 
 use attr_codec::{Lmc, Priority};
 use clap::ArgMatches;
 use cli_arguments::argument_names::{
-    BALANCE, FLOOR, GUID, LMC, MAX_LOAD, ORDER, PORT, PRIORITY, ROOTS, ROUTING, SM_KEY, SPREAD,
-    UPDOWN, WAY,
+    BALANCE, EVERY, FLOOR, GUID, LMC, MAX_LOAD, NEWEST, ORDER, OUTSTANDING, POLL, PORT, PRIORITY,
+    ROOTS, ROUTING, SM_KEY, SPREAD, STRICT, TIMEOUT, TRIES, UPDOWN, WAY,
 };
-use cli_arguments::packet_named;
+use cli_arguments::{is_set, packet_named};
+use request_window::Limits;
 use serve_lines::hex_number;
 use sm_cli::{RuleAsked, WayAsked};
+use sm_policy::Timing;
 use smp_bytes::{Generation, Guid, PortNum};
 
 /// The SM_Key that OpenSM has unless its options set another.
 const OPENSM_KEY: u64 = 1;
+
+/// From the end of a master's sweep to its next one, in milliseconds, unless the command line says otherwise.
+const DEFAULT_EVERY: u32 = 10_000;
+
+/// From one poll of a standby to its next one, in milliseconds, unless the command line says otherwise.
+const DEFAULT_POLL: u32 = 1_000;
+
+/// For how many milliseconds an answer is waited for, unless the command line says otherwise.
+const DEFAULT_TIMEOUT: u32 = 500;
+
+/// How often a request is sent at most, unless the command line says otherwise.
+const DEFAULT_TRIES: u32 = 4;
+
+/// How many requests may be out at a time, unless the command line says otherwise.
+const DEFAULT_OUTSTANDING: u32 = 4;
 
 /// Returns the LMC that `words` ask for, or 0 if `words` name no LMC. Returns `None` if the named LMC is not from 0 to
 /// 7.
@@ -187,4 +205,41 @@ pub(crate) fn way_of(words: &ArgMatches<'_>) -> Option<Option<WayAsked>>
         }
         None => Some(None),
     }
+}
+
+/// Returns when a manager does what, as asked by `words`. Returns `None` if an option for it is not followed by a
+/// 32-bit number.
+pub(crate) fn timing_of(words: &ArgMatches<'_>) -> Option<Timing>
+    ensures { result ≡ timing_asked (first_value (found_of words.now)) }
+{
+    let every = number_or(words, EVERY, DEFAULT_EVERY)?;
+    let poll = number_or(words, POLL, DEFAULT_POLL)?;
+    Some(Timing {
+        every,
+        poll,
+        is_strict: is_set(words, STRICT),
+    })
+}
+
+/// Returns what limits the requests of a manager, as asked by `words`. Returns `None` if an option for it is not
+/// followed by a 32-bit number.
+pub(crate) fn limits_of(words: &ArgMatches<'_>) -> Option<Limits>
+    ensures { result ≡ limits_asked (first_value (found_of words.now)) }
+{
+    let outstanding = number_or(words, OUTSTANDING, DEFAULT_OUTSTANDING)?;
+    let tries = number_or(words, TRIES, DEFAULT_TRIES)?;
+    let timeout = number_or(words, TIMEOUT, DEFAULT_TIMEOUT)?;
+    Some(Limits {
+        outstanding,
+        tries,
+        timeout,
+    })
+}
+
+/// Returns the newest generation that is known, as `words` name it, or 0 if `words` name none. Returns `None` if it is
+/// not a 32-bit number.
+pub(crate) fn newest_of(words: &ArgMatches<'_>) -> Option<u32>
+    ensures { result ≡ newest_asked (first_value (found_of words.now)) }
+{
+    number_or(words, NEWEST, 0)
 }

@@ -4,18 +4,20 @@ ghost use Rattle.clap.specs.Matches.{first_value, found_of, matched_of, raw_valu
 ghost use Rattle.cli_task.specs.Task.{answer_task, audit_asked, order_task, output_asked, step_asked};
 ghost use Rattle.cli_task.specs.Task.{task_asked, task_behind};
 ghost use Rattle.cli_task.specs.InputNames.{names_asked, names_in, rule_of_task};
-ghost use Rattle.cli_task.specs.Task.{serving_asked};
+ghost use Rattle.cli_task.specs.Task.{managing_asked, serving_asked};
 ghost use Rattle.cli_task.specs.InputNames.{takes_files, texts_asked, texts_before_files, texts_of_rule};
 
+use crate::managing::Managing;
 use crate::option_values::{
-    floor_of, guid_of, max_load_of, order_of, planning_of, port_of, priority_of, sm_key_of, way_of,
+    floor_of, guid_of, limits_of, max_load_of, newest_of, order_of, planning_of, port_of,
+    priority_of, sm_key_of, timing_of, way_of,
 };
 use arrayvec::ArrayVec;
 use attr_codec::Lmc;
 use clap::ArgMatches;
 use cli_arguments::argument_names::{
-    ALL, AUDIT, FACTS, FILE, GUID, HELD, JOIN, LANES, LAST_ORDER, LOADS, NEXT, ORDER, PLAN, ROOTS,
-    RUN, SCHEDULE, SERVE, TABLES, TOPOLOGY,
+    ALL, AUDIT, FACTS, FILE, GUID, HELD, JOIN, LANES, LAST_ORDER, LOADS, MANAGE, NEXT, ORDER, PLAN,
+    ROOTS, RUN, SCHEDULE, SERVE, TABLES, TOPOLOGY,
 };
 use cli_arguments::is_set;
 use sm_cli::{AuditAsked, Invocation, Output, RuleAsked, Serving, StepAsked};
@@ -38,9 +40,11 @@ pub enum Task {
     Run(Lmc, RuleAsked),
     /// Serving a manager by lines.
     Serve(Serving),
+    /// Running a manager that decides by itself, and is told time and packets by lines.
+    Manage(Managing),
 }
 
-/// The name of the file from which a served manager reads its lines.
+/// The name of the file from which a manager at a port reads its lines.
 const LINES: &str = "/dev/stdin";
 
 impl Task {
@@ -54,6 +58,7 @@ impl Task {
             Task::Next(asked) => asked.rule,
             Task::Run(_, rule) => *rule,
             Task::Serve(asked) => asked.rule,
+            Task::Manage(asked) => asked.serving.rule,
         }
     }
 
@@ -63,7 +68,7 @@ impl Task {
     {
         match self {
             Task::Answer(_) | Task::OrderOfTables | Task::Audit(_) | Task::Next(_) => true,
-            Task::Run(..) | Task::Serve(_) => false,
+            Task::Run(..) | Task::Serve(_) | Task::Manage(_) => false,
         }
     }
 }
@@ -91,6 +96,7 @@ fn task_behind(command: &str, words: &ArgMatches<'_>) -> Option<Task>
             Some(Task::Run(lmc, rule))
         }
         SERVE => Some(Task::Serve(serving_of(words)?)),
+        MANAGE => Some(Task::Manage(managing_of(words)?)),
         _ => answer_task(command, words),
     }
 }
@@ -166,6 +172,23 @@ fn serving_of(words: &ArgMatches<'_>) -> Option<Serving>
         sm_key,
         lmc,
         rule,
+    })
+}
+
+/// Returns the manager that decides by itself, as asked by `words`, which are those after a subcommand. Returns `None`
+/// if one of the words is missing or wrong.
+fn managing_of(words: &ArgMatches<'_>) -> Option<Managing>
+    ensures { result ≡ managing_asked (first_value (found_of words.now)) }
+{
+    let serving = serving_of(words)?;
+    let timing = timing_of(words)?;
+    let limits = limits_of(words)?;
+    let newest = newest_of(words)?;
+    Some(Managing {
+        serving,
+        timing,
+        limits,
+        newest,
     })
 }
 
@@ -262,8 +285,9 @@ fn texts_before_files<'a>(
     Some(texts)
 }
 
-/// Returns the names of the texts that `task` takes besides the text of its rule; to serve a manager, that is the file
-/// of lines. Returns `None` if one of these texts is not named, or if `task` serves a manager and no GUID is named.
+/// Returns the names of the texts that `task` takes besides the text of its rule; for a manager at a port, that is the
+/// file of lines. Returns `None` if one of these texts is not named, or if `task` runs a manager at a port and no GUID
+/// is named.
 fn texts_of<'a>(words: &ArgMatches<'a>, task: &Task) -> Option<ArrayVec<&'a str, 2>>
     ensures { option_map (λ found. map (λ name. name.now) found.items) result
         ≡ texts_asked (first_value (found_of words.now)) task.now }
@@ -280,7 +304,7 @@ fn texts_of<'a>(words: &ArgMatches<'a>, task: &Task) -> Option<ArrayVec<&'a str,
             texts.push(words.get_str(TOPOLOGY)?);
             texts.push(words.get_str(SCHEDULE)?);
         }
-        Task::Serve(_) => {
+        Task::Serve(_) | Task::Manage(_) => {
             words.get_str(GUID)?;
             texts.push(LINES);
         }

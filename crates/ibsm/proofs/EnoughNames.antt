@@ -5,12 +5,13 @@ use Rattle.std.specs.Prelude.{codes, map, option_and_then, option_map}
 use Rattle.std.specs.Borrow.{Bor}
 use Rattle.std.proofs.lemmas.List.{length-map}
 use Rattle.clap.specs.declared.parser.matches.ArgMatches.{ArgMatches}
-use Rattle.sm_cli.specs.Asked.{rule_for, texts_if}
+use Rattle.sm_cli.specs.Asked.{rule_for, texts_for, texts_if}
+use Rattle.sm_cli.specs.declared.asked.RuleAsked.{RuleAsked}
 use Rattle.cli_arguments.specs.Words.{files_named, word_named}
 use Rattle.cli_task.specs.InputNames.{followed_by, names_asked, names_in, text_if, texts_asked, texts_before_files}
 use Rattle.cli_task.specs.InputNames.{texts_of_rule}
 use Rattle.cli_task.specs.declared.task.Task.{Task}
-use Rattle.cli_task.specs.declared.task.Task.TheVariants.{Answer, OrderOfTables, Audit, Next, Run, Serve}
+use Rattle.cli_task.specs.declared.task.Task.TheVariants.{Answer, OrderOfTables, Audit, Next, Run, Serve, Manage}
 use Rattle.cli_task.proofs.RuleTexts.{one_word, texts_counted}
 use Rattle.ibsm.specs.Ending.{HasEnoughNames}
 
@@ -44,6 +45,22 @@ texts_before_counted word is_asked name xs e =
 lines_counted : (guid : Option (List ℕ)) (xs : List (List ℕ)) → option_map (λ g. codes "/dev/stdin" ∷ []) guid ≡ Some xs → length xs ≡ 1
 lines_counted None xs e = absurd (cc)
 lines_counted (Some g) xs e = ap length (sym (same_Some _ _ e))
+
+-- the names of a manager at a port
+abbrev names_served : (List ℕ → Option (List ℕ)) → RuleAsked → Option (List (List ℕ))
+names_served word rule = followed_by (texts_of_rule word rule) (followed_by (option_map (λ g. codes "/dev/stdin" ∷ []) (word (codes "GUID"))) (Some []))
+
+served_counted : (word : List ℕ → Option (List ℕ)) (rule : RuleAsked) (names : List (List ℕ)) → names_served word rule ≡ Some names
+    → length names ≡ texts_for rule + 1
+served_counted word rule names e =
+    let own = option_map (λ g. codes "/dev/stdin" ∷ []) (word (codes "GUID")) in
+    let all = both_named (texts_of_rule word rule) (followed_by own (Some [])) names e in
+    let texts = texts_counted word rule all.0 all.2 in
+    let rest = both_named own (Some []) all.1 all.3 in
+    let one = lines_counted (word (codes "GUID")) rest.0 rest.2 in
+    let none = ap length (same_Some _ _ rest.3) in
+    let count = all.4 in
+    let others = rest.4 in omega arith
 
 -- there are as many inputs as the task takes
 pub names_suffice : (word : List ℕ → Option (List ℕ)) (files : Option (List (List ℕ))) (task : Task) (names : List (List ℕ))
@@ -79,14 +96,8 @@ names_suffice word files (Run lmc rule) names e =
     let none = ap length (same_Some _ _ rest.3) in
     let count = all.4 in
     let others = rest.4 in omega arith
-names_suffice word files (Serve asked) names e =
-    let all = both_named (texts_of_rule word asked.rule) (followed_by (texts_asked word (Serve asked)) (Some [])) names e in
-    let texts = texts_counted word asked.rule all.0 all.2 in
-    let rest = both_named (texts_asked word (Serve asked)) (Some []) all.1 all.3 in
-    let one = lines_counted (word (codes "GUID")) rest.0 rest.2 in
-    let none = ap length (same_Some _ _ rest.3) in
-    let count = all.4 in
-    let others = rest.4 in omega arith
+names_suffice word files (Serve asked) names e = served_counted word asked.rule names e
+names_suffice word files (Manage asked) names e = served_counted word asked.serving.rule names e
 
 pub inputs_suffice : (matches : ArgMatches) (task : Task) (names : List (Bor (List ℕ))) → Some (map (λ name. name.now) names) ≡ names_asked matches task
     → HasEnoughNames task (length names)

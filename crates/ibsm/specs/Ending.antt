@@ -19,11 +19,14 @@ use Rattle.order_run.specs.OrderRun.{HasPrintedOrder, IsOrderFault}
 use Rattle.record_file.specs.declared.file_fault.FileFault.TheVariants.{Read}
 use Rattle.schedule_run.specs.Run.{HasRun, IsRunFault}
 use Rattle.serve_task.specs.RunServe.{HasServedLines, IsServeFault}
+use Rattle.serve_task.specs.declared.seating.Seating.{Seating}
+use Rattle.serve_task.specs.declared.seating.Seating.TheVariants.{Obeying, Deciding}
 use Rattle.cli_task.specs.Task.{task_asked}
 use Rattle.cli_task.specs.InputNames.{names_asked}
 use Rattle.ibsm.specs.declared.opener.OpenFault.{OpenFault}
+use Rattle.cli_task.specs.declared.managing.Managing.{Managing}
 use Rattle.cli_task.specs.declared.task.Task.{Task}
-use Rattle.cli_task.specs.declared.task.Task.TheVariants.{Answer, OrderOfTables, Audit, Next, Run, Serve}
+use Rattle.cli_task.specs.declared.task.Task.TheVariants.{Answer, OrderOfTables, Audit, Next, Run, Serve, Manage}
 use Rattle.ibsm.specs.Opening.{AreOpened, IsOpenFault}
 
 -- what is done ----------------------------------------------------------------------------------
@@ -37,6 +40,11 @@ HasEnoughNames (Audit asked) count = texts_if asked.lanes + 1 ≤ count
 HasEnoughNames (Next asked) count = texts_before asked + 1 ≤ count
 HasEnoughNames (Run lmc rule) count = count ≡ texts_for rule + 2
 HasEnoughNames (Serve asked) count = count ≡ texts_for asked.rule + 1
+HasEnoughNames (Manage asked) count = count ≡ texts_for asked.serving.rule + 1
+
+-- the manager that is asked for decides by itself, as it is paced
+abbrev pub deciding : Managing → Seating
+deciding asked = Deciding asked.timing asked.limits asked.newest
 
 -- the task was done with open inputs. Its output is printed, as `prints` says, and a step (`Next`) writes to standard
 -- error, as `says` says. `passed` says whether what the task judges passes, and is true if the task judges nothing
@@ -53,7 +61,9 @@ Does state (Next asked) olds news prints says passed =
 Does state (Run lmc rule) olds news prints says passed =
     (passed ≡ true) × HasRun state lmc rule olds news prints
 Does state (Serve asked) olds news prints says passed =
-    (passed ≡ true) × HasServedLines state asked olds news prints
+    (passed ≡ true) × HasServedLines state asked Obeying olds news prints
+Does state (Manage asked) olds news prints says passed =
+    (passed ≡ true) × HasServedLines state asked.serving (deciding asked) olds news prints
 
 -- unless the task is a step (`Next`), which may write to standard error, standard error is as it was before the task
 abbrev pub StaysSilent : {E : Type 0} → Task → E → E → Type 0
@@ -116,7 +126,9 @@ IsFaultOver state (Next asked) olds news prints whole output_failed fault =
 IsFaultOver state (Run lmc rule) olds news prints whole output_failed fault =
     IsRunFault state lmc rule olds news prints output_failed fault
 IsFaultOver state (Serve asked) olds news prints whole output_failed fault =
-    IsServeFault state asked olds news prints whole output_failed fault
+    IsServeFault state asked Obeying olds news prints whole output_failed fault
+IsFaultOver state (Manage asked) olds news prints whole output_failed fault =
+    IsServeFault state asked.serving (deciding asked) olds news prints whole output_failed fault
 
 -- the files `names` were opened, and the task on these files ends with `fault`
 pub record FailsOverFiles {S : Type 0} (answers : List ℕ → Result S OpenFault → Type 0) (state : S → SourceState)
@@ -139,6 +151,7 @@ IsTaskFault answers state task names prints whole output_failed fault =
 abbrev pub StopsAsItGoes : Task → Fault → Type 0
 StopsAsItGoes (Run lmc rule) fault = fault ≡ Memory
 StopsAsItGoes (Serve asked) fault = (fault ≡ Memory) ⊎ (fault ≡ File (texts_for asked.rule) Read)
+StopsAsItGoes (Manage asked) fault = (fault ≡ Memory) ⊎ (fault ≡ File (texts_for asked.serving.rule) Read)
 StopsAsItGoes task fault = ⊥
 
 -- a task that ends with `fault` leaves the output unchanged (`stays`), unless a write failed or a part was already

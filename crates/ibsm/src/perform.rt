@@ -16,7 +16,7 @@ use cli_task::Task;
 use next_run::run_next;
 use order_run::run_order_of_tables;
 use schedule_run::run_schedule;
-use serve_task::run_serve;
+use serve_task::{Seating, run_serve};
 use sm_cli::{ExitStatus, Fault, run_files, write_fault};
 use std::alloc::Global;
 use std::io::Write;
@@ -134,7 +134,16 @@ fn do_task<S: Source, W: Sink, E: Sink>(
             Ok(true)
         }
         Task::Serve(asked) => {
-            run_serve(alloc, inputs, asked, output)?;
+            run_serve(alloc, inputs, asked, Seating::Obeying, output)?;
+            Ok(true)
+        }
+        Task::Manage(asked) => {
+            let seating = Seating::Deciding {
+                timing: asked.timing,
+                limits: asked.limits,
+                newest: asked.newest,
+            };
+            run_serve(alloc, inputs, asked.serving, seating, output)?;
             Ok(true)
         }
     }

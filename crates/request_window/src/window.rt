@@ -150,6 +150,13 @@ impl Window {
         self.limits
     }
 
+    /// Returns the number of requests that wait for their turn.
+    pub fn queued(&self) -> usize
+        ensures { result ≡ length self.now.queued }
+    {
+        self.queued.len()
+    }
+
     /// Returns the number of requests that are out.
     pub fn outs(&self) -> usize
         ensures { result ≡ length self.now.outs }

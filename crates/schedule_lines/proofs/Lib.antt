@@ -4,6 +4,5 @@ pub mod Order
 pub mod Present
 pub mod Printing
 pub mod Refused
-pub mod Taking
 pub mod Waits
 pub mod Written

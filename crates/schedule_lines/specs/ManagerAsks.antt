@@ -37,10 +37,6 @@ after_asked Yield m = after_yield m
 after_asked Rediscover m = after_rediscover m
 after_asked (Poll lid) m = after_poll m lid
 
--- the manager with no packets queued
-abbrev pub emptied : Manager → Manager
-emptied m = record m { outgoing = [] }
-
 -- the text of the plan that `planning` makes of the facts `cells` or, if there is a fault, the line of the fault
 abbrev pub plan_or_refusal : Planning → Cells → Option ManagerFault → List ℕ
 plan_or_refusal planning cells None = plan_text (plan_of planning.rule planning.lmc cells)

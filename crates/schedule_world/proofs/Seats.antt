@@ -13,7 +13,7 @@ use Rattle.fabric_model.specs.Cables.{is_same_port}
 use Rattle.fabric_model.specs.declared.cable.NodePort.{NodePort}
 use Rattle.fabric_sim.specs.Simulation.{Simulation, is_seat_at}
 use Rattle.sm_manager.specs.Fault.{is_memory}
-use Rattle.sm_manager.specs.Manager.{Manager, outstanding}
+use Rattle.sm_manager.specs.Manager.{Manager, outstanding, emptied}
 use Rattle.sm_manager.specs.declared.fault.ManagerFault.{ManagerFault}
 use Rattle.sm_manager.specs.declared.fault.ManagerFault.TheVariants as manager
 use Rattle.schedule_world.specs.Commands.{after_giving_up, seat_at, after_timeout_line}
@@ -22,7 +22,6 @@ use Rattle.schedule_lines.specs.Outcome.{Outcome}
 use Rattle.schedule_world.specs.World.{Does, SeatedValue, WorldValue, after_ask, after_inject_all, after_manager_call, after_send, after_send_by}
 use Rattle.schedule_lines.specs.Outcome.{and_then, quiet}
 use Rattle.schedule_world.specs.World.{at_seat, seated_value, value_of, with_manager}
-use Rattle.schedule_lines.specs.ManagerAsks.{emptied}
 use Rattle.schedule_lines.specs.Refusals.{manager_line}
 use Rattle.schedule_lines.specs.declared.run_fault.RunFault.{RunFault}
 use Rattle.schedule_lines.specs.declared.run_fault.RunFault.TheVariants.{Memory}

@@ -7,7 +7,7 @@ use Rattle.sm_manager.specs.declared.outgoing.Outgoing.{Outgoing}
 use Rattle.sm_manager.specs.Manager.{Manager, after_take_outgoing}
 use Rattle.schedule_world.specs.NamedPackets.{packet_out}
 use Rattle.schedule_lines.specs.Outcome.{and_then, quiet}
-use Rattle.schedule_lines.proofs.Taking.{first_is, none_is}
+use Rattle.sm_manager.proofs.Taking.{first_is, none_is}
 use Rattle.schedule_world.specs.World.{after_fabric, after_inject_all}
 
 -- the first packet of a queue, and those after it

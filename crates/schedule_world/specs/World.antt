@@ -11,8 +11,7 @@ use Rattle.fabric_sim.specs.Called.{Called}
 use Rattle.fabric_sim.specs.Simulation.{Simulation}
 use Rattle.sm_manager.specs.declared.fault.ManagerFault.{ManagerFault}
 use Rattle.sm_manager.specs.declared.outgoing.Outgoing.{Outgoing}
-use Rattle.sm_manager.specs.Manager.{Manager}
-use Rattle.schedule_lines.specs.ManagerAsks.{emptied}
+use Rattle.sm_manager.specs.Manager.{Manager, emptied}
 use Rattle.schedule_lines.specs.Refusals.{manager_line, refusal_line}
 use Rattle.schedule_lines.specs.Outcome.{Outcome, and_then, quiet, shows}
 use Rattle.schedule_lines.specs.Prints.{PrintsUnless}

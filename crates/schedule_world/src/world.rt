@@ -6,7 +6,7 @@ ghost use Rattle.fabric_sim.specs.Changes.{after_inject};
 ghost use Rattle.schedule_world.specs.Commands.{seat_at, world_of};
 ghost use Rattle.schedule_world.specs.NamedPackets.{packet_out};
 ghost use Rattle.schedule_lines.specs.Prints.{PrintsUnless};
-ghost use Rattle.schedule_lines.specs.ManagerAsks.{emptied};
+ghost use Rattle.sm_manager.specs.Manager.{emptied};
 ghost use Rattle.schedule_world.specs.World.{after_fabric, after_send, after_inject_all, value_of, Does};
 
 use byte_io::Sink;

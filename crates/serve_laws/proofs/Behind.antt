@@ -4,9 +4,14 @@ use Rattle.std.specs.Prelude.{◌==◌, map}
 use Rattle.std.proofs.lemmas.List.{append_assoc}
 use Rattle.sm_manager.specs.Manager.{Manager}
 use Rattle.serve_lines.specs.declared.serve_line.ServeLine.{ServeLine}
-use Rattle.serve_lines.specs.ServeLine.{begun_by, line_of, lines_ended, lines_told}
+use Rattle.serve_lines.specs.ManageLine.{manage_line_of}
+use Rattle.serve_lines.specs.ServeLine.{begun_by, line_of, lines_ended}
+use Rattle.schedule_lines.specs.Outcome.{Outcome}
+use Rattle.acting_manager.specs.Acting.{Acting}
+use Rattle.serve_run.specs.Decided.{decided, decided_all}
+use Rattle.serve_run.specs.Seat.{Deciding, Obeying, Seat, line_served, lines_served, seated}
 use Rattle.serve_run.specs.Served.{served, served_all}
-use Rattle.serve_laws.specs.ServeLaws.{EarlierAnswersStay}
+use Rattle.serve_laws.specs.ServeLaws.{EarlierAnswersStay, LinesAreServed}
 
 -- bytes behind others ------------------------------------------------------------------------------------
 
@@ -24,16 +29,6 @@ ended_behind begun (b ∷ before) later =
     (lines_ended (begun ++ b ∷ []) (before ++ later)) (lines_ended (begun ++ b ∷ []) before) (begun_by [] before)
     (begun_by (begun ++ b ∷ []) before) later (ended_behind [] before later) (ended_behind (begun ++ b ∷ []) before later)
 
-said_behind : (one other : List (List ℕ)) → map line_of (one ++ other) ≡ map line_of one ++ map line_of other
-said_behind [] other = refl
-said_behind (line ∷ one) other = ap (λ lines. line_of line ∷ lines) (said_behind one other)
-
-told_behind : (begun before later : List ℕ)
-    → lines_told begun (before ++ later) ≡ lines_told begun before ++ lines_told (begun_by begun before) later
-told_behind begun before later =
-    ap (map line_of) (ended_behind begun before later)
-    ∙ said_behind (lines_ended begun before) (lines_ended (begun_by begun before) later)
-
 -- lines behind others ------------------------------------------------------------------------------------
 
 pub now_behind : (m : Manager) (lines later : List ServeLine)
@@ -41,17 +36,34 @@ pub now_behind : (m : Manager) (lines later : List ServeLine)
 now_behind m [] later = refl
 now_behind m (line ∷ lines) later = now_behind (served m line).now lines later
 
-pub text_behind : (m : Manager) (lines later : List ServeLine)
-    → (served_all m (lines ++ later)).text
-    ≡ (served_all m lines).text ++ (served_all (served_all m lines).now later).text
-text_behind m [] later = refl
-text_behind m (line ∷ lines) later =
-    let next = (served m line).now in
-    ap (λ text. (served m line).text ++ text) (text_behind next lines later)
-    ∙ sym (append_assoc (served m line).text (served_all next lines).text
-    (served_all (served_all next lines).now later).text)
+lines_behind : (seat : Seat) (lines later : List (List ℕ))
+    → (lines_served seat (lines ++ later)).text
+    ≡ (lines_served seat lines).text ++ (lines_served (lines_served seat lines).now later).text
+lines_behind seat [] later = refl
+lines_behind seat (line ∷ lines) later =
+    let next = (line_served seat line).now in
+    ap (λ text. (line_served seat line).text ++ text) (lines_behind next lines later)
+    ∙ sym (append_assoc (line_served seat line).text (lines_served next lines).text
+    (lines_served (lines_served next lines).now later).text)
 
 pub earlier_answers_stay : EarlierAnswersStay
-earlier_answers_stay m before later =
-    ap (λ lines. (served_all m lines).text) (told_behind [] before later)
-    ∙ text_behind m (lines_told [] before) (lines_told (begun_by [] before) later)
+earlier_answers_stay seat before later =
+    ap (λ lines. (lines_served seat lines).text) (ended_behind [] before later)
+    ∙ lines_behind seat (lines_ended [] before) (lines_ended (begun_by [] before) later)
+
+-- lines and their meanings -------------------------------------------------------------------------------
+
+-- the outcome `o` behind the text `text`
+abbrev told_behind : List ℕ → Outcome Seat → Outcome Seat
+told_behind text o = record { now = o.now; text = text ++ o.text }
+
+obeyed : (m : Manager) (lines : List (List ℕ)) → lines_served (Obeying m) lines ≡ seated Obeying (served_all m (map line_of lines))
+obeyed m [] = refl
+obeyed m (line ∷ lines) = let o = served m (line_of line) in ap (told_behind o.text) (obeyed o.now lines)
+
+decided_so : (a : Acting) (lines : List (List ℕ)) → lines_served (Deciding a) lines ≡ seated Deciding (decided_all a (map manage_line_of lines))
+decided_so a [] = refl
+decided_so a (line ∷ lines) = let o = decided a (manage_line_of line) in ap (told_behind o.text) (decided_so o.now lines)
+
+pub lines_are_served : LinesAreServed
+lines_are_served = record { obeying = obeyed; deciding = decided_so }

@@ -1,5 +1,5 @@
 -- No line of an answer but its last one begins with a dot.
-use Rattle.std.proofs.Common.{◌≡◌, ℕ, zero, suc, ◌+◌, ◌/◌, ◌%◌, Bool, true, false, List, [], ◌∷◌, ◌++◌, refl, ap, ◌∙◌, arith}
+use Rattle.std.proofs.Common.{◌≡◌, ℕ, zero, suc, ◌+◌, ◌/◌, ◌%◌, Bool, true, false, List, [], ◌∷◌, ◌++◌, append_assoc, refl, sym, ap, ◌∙◌, arith}
 use Rattle.std.proofs.lemmas.Bool.{cond_both}
 use Rattle.std.specs.Prelude.{◌&&◌, ◌||◌, ◌==◌, nat_le, nat_lt, codes, decimal, slice_index, Option, Some, None}
 use Rattle.std.specs.Fmt.{digit_glyph, digits, digits_onto}
@@ -58,9 +58,20 @@ use Rattle.serve_lines.specs.declared.serve_line.ServeLine.TheVariants as is
 use Rattle.schedule_file.specs.declared.command.Shown.TheVariants as shown
 use Rattle.serve_lines.specs.declared.serve_line.ServeLine.{ServeLine}
 use Rattle.schedule_file.specs.declared.command.Shown.{Shown}
-use Rattle.serve_run.specs.Served.{after_giving_up, after_line, asked, fault_text, heard_text, seen_line}
+use Rattle.serve_run.specs.Served.{after_giving_up, after_line, asked, end_line, fault_text, heard_text, seen_line}
 use Rattle.serve_run.specs.Served.{send_line, to_text, told_state, told_text, where_text, served}
-use Rattle.serve_laws.specs.Framed.{AnswersEndOnce, has_dot, is_line_end}
+use Rattle.serve_lines.specs.declared.manage_line.ManageLine.{ManageLine}
+use Rattle.serve_lines.specs.declared.manage_line.ManageLine.TheVariants as manage
+use Rattle.serve_lines.specs.declared.manage_line.ManageWord.{ManageWord}
+use Rattle.serve_lines.specs.declared.manage_line.ManageWord.TheVariants as word
+use Rattle.sm_policy.specs.declared.act.Act.{Act}
+use Rattle.sm_policy.specs.declared.act.Act.TheVariants as act
+use Rattle.acting_manager.specs.Acting.{Acting}
+use Rattle.acting_manager.specs.Working.{wake_of}
+use Rattle.acting_manager.specs.declared.note.Note.{Note}
+use Rattle.acting_manager.specs.declared.note.Note.TheVariants as note
+use Rattle.serve_run.specs.Decided.{act_word, after_manage, after_word, decided, note_line, note_text, wake_line, wake_text}
+use Rattle.serve_laws.specs.Framed.{AnswersEndOnce, EndsOnce, has_dot, is_line_end}
 
 -- texts ---------------------------------------------------------------------------------------------------
 
@@ -387,10 +398,79 @@ line_passes m is.Managers = each seen_line seen_passes m.seen
 line_passes m is.Empty = nothing
 line_passes m is.Wrong = told _ refl refl
 
-pub answers_end_once : AnswersEndOnce
+obeying_ends : (m : Manager) (line : ServeLine) → EndsOnce (served m line).text
 unfolding served
-answers_end_once m line =
+obeying_ends m line =
     let text = (after_line m line).text in
     let sends = flat_map send_line (after_line m line).now.outgoing in
     let p = and_then text sends (line_passes m line) (each send_line send_passes (after_line m line).now.outgoing) in
     record { said = text ++ sends; ends = refl; no_dot = p.no_dot; whole = p.end }
+
+-- lines of a manager that decides by itself ---------------------------------------------------------------
+
+act_passes : (what : Act) → Passes false (act_word what) false
+act_passes act.Wait = told _ refl refl
+act_passes act.Poll = told _ refl refl
+act_passes act.Announce = told _ refl refl
+act_passes act.Sweep = told _ refl refl
+act_passes act.Rediscover = told _ refl refl
+act_passes act.HandOver = told _ refl refl
+act_passes act.Yield = told _ refl refl
+act_passes act.Judge = told _ refl refl
+act_passes act.Write = told _ refl refl
+act_passes act.Settle = told _ refl refl
+
+noted_passes : (what : Note) → Passes false (note_text what) false
+noted_passes (note.State state) = mid (codes "state ") refl refl then state_passes state
+noted_passes note.Paused = told _ refl refl
+noted_passes (note.GivenUp request) = mid (codes "unanswered ") refl refl then encoded request
+noted_passes (note.Swept whole) = mid (codes "swept ") refl refl then written_passes whole
+noted_passes (note.Wrote whole) = mid (codes "written ") refl refl then written_passes whole
+noted_passes (note.Settled ports) =
+    mid (codes "settled inactive ") refl refl then number ports.inactive then mid (codes " foreign ") refl refl then number ports.foreign
+noted_passes (note.Did what) = act_passes what
+noted_passes (note.Refused what) = mid (codes "refused ") refl refl then act_passes what
+
+note_passes : (what : Note) → Passes true (note_line what) true
+unfolding note_line
+note_passes what = head (codes "note ") refl refl then noted_passes what then newline
+
+time_passes : (wake : Option ℕ) → Passes false (wake_text wake) false
+time_passes None = told _ refl refl
+time_passes (Some time) = number time
+
+wake_passes : (wake : Option ℕ) → Passes true (wake_line wake) true
+unfolding wake_line
+wake_passes wake = head (codes "wake ") refl refl then time_passes wake then newline
+
+word_passes : (a : Acting) (time : ℕ) (what : ManageWord) → Passes true (after_word a time what).text true
+word_passes a time word.Time = nothing
+word_passes a time (word.Packet bytes from) = nothing
+word_passes a time word.Look = nothing
+word_passes a time word.Leave = nothing
+word_passes a time (word.Show what) = shown_passes what a.manager
+word_passes a time word.Managers = each seen_line seen_passes a.manager.seen
+
+manage_passes : (a : Acting) (line : ManageLine) → Passes true (after_manage a line).text true
+manage_passes a (manage.Told time what) = word_passes a time what
+manage_passes a manage.Empty = nothing
+manage_passes a manage.Wrong = told _ refl refl
+
+deciding_ends : (a : Acting) (line : ManageLine) → EndsOnce (decided a line).text
+unfolding decided
+deciding_ends a line =
+    let o = after_manage a line in
+    let notes = flat_map note_line o.now.notes in
+    let sends = flat_map send_line o.now.ready in
+    let gives = and_then notes sends (each note_line note_passes o.now.notes) (each send_line send_passes o.now.ready) in
+    let said = and_then o.text (notes ++ sends) (manage_passes a line) gives in
+    let p = and_then (o.text ++ (notes ++ sends)) (wake_line (wake_of o.now)) said (wake_passes (wake_of o.now)) in
+    record {
+      said = o.text ++ (notes ++ sends) ++ wake_line (wake_of o.now);
+      ends = sym (append_assoc (o.text ++ (notes ++ sends)) (wake_line (wake_of o.now)) end_line);
+      no_dot = p.no_dot;
+      whole = p.end;
+    }
+
+pub answers_end_once : AnswersEndOnce
+answers_end_once = record { obeying = obeying_ends; deciding = deciding_ends }

@@ -18,8 +18,7 @@ use Rattle.fabric_sim.specs.Changes.{after_inject, cabled_at, after_lose, after_
 use Rattle.fabric_sim.specs.Delivery.{after_deliver}
 use Rattle.fabric_sim.specs.PacketOutcome.{outcome_of}
 use Rattle.schedule_file.specs.declared.command.Ask.TheVariants as ask
-use Rattle.schedule_lines.specs.ManagerAsks.{emptied}
-use Rattle.sm_manager.specs.Manager.{Manager, new_manager, after_begin_sweep}
+use Rattle.sm_manager.specs.Manager.{Manager, new_manager, after_begin_sweep, emptied}
 use Rattle.sm_manager.specs.PlanFaults.{writing_fault}
 use Rattle.sm_manager.specs.Writing.{after_write_steps, begun_with, is_written}
 use Rattle.manager_laws.specs.Scene.{Deliver, Lose, Repeat, Send as SendFrom, Emit}

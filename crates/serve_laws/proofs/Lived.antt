@@ -6,13 +6,12 @@ use Rattle.schedule_file.specs.declared.command.Ask.TheVariants.{Sweep, Write, H
 use Rattle.sm_manager.specs.CallLists as calls
 use Rattle.sm_manager.specs.CallLists.{Call, after_call, after_calls}
 use Rattle.sm_manager.specs.Election.{after_handover, after_poll, after_rediscover, after_yield, handover_fault, poll_fault, rediscover_fault, yield_fault}
-use Rattle.sm_manager.specs.Manager.{Manager, after_begin_sweep, begin_fault, outstanding}
+use Rattle.sm_manager.specs.Manager.{Manager, after_begin_sweep, begin_fault, outstanding, emptied}
 use Rattle.sm_manager.specs.Packets.{after_timeout}
 use Rattle.sm_manager.specs.PlanFaults.{writing_fault}
 use Rattle.sm_manager.specs.Writing.{after_write_steps}
 use Rattle.sm_manager.specs.declared.fault.ManagerFault.{ManagerFault}
 use Rattle.sm_manager.specs.declared.outgoing.Outgoing.{Outgoing}
-use Rattle.schedule_lines.specs.ManagerAsks.{emptied}
 use Rattle.serve_lines.specs.declared.serve_line.ServeLine.{ServeLine}
 use Rattle.serve_lines.specs.declared.serve_line.ServeLine.TheVariants.{Ask, GiveUp}
 use Rattle.serve_run.specs.Served.{after_giving_up, after_line, asked, asked_with, served}

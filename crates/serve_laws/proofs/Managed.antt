@@ -7,9 +7,8 @@ use Rattle.fabric_model.specs.declared.cable.NodePort.{NodePort}
 use Rattle.fabric_model.specs.Cables.{is_same_port}
 use Rattle.schedule_file.specs.declared.command.Ask.{Ask as Asking}
 use Rattle.schedule_file.specs.declared.command.Ask.TheVariants as ask
-use Rattle.schedule_lines.specs.ManagerAsks.{emptied}
 use Rattle.sm_manager.specs.CallLists as calls
-use Rattle.sm_manager.specs.Manager.{Manager, outstanding}
+use Rattle.sm_manager.specs.Manager.{Manager, outstanding, emptied}
 use Rattle.sm_manager.specs.declared.outgoing.Outgoing.{Outgoing}
 use Rattle.manager_laws.specs.Scene.{Handed}
 use Rattle.manager_laws.specs.Managing as managing

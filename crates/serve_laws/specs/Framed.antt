@@ -2,6 +2,9 @@
 use Rattle.std.specs.Prelude.{◌≡◌, ℕ, Bool, true, false, ◌&&◌, ◌||◌, List, [], ◌∷◌, ◌++◌, ◌==◌}
 use Rattle.sm_manager.specs.Manager.{Manager}
 use Rattle.serve_lines.specs.declared.serve_line.ServeLine.{ServeLine}
+use Rattle.serve_lines.specs.declared.manage_line.ManageLine.{ManageLine}
+use Rattle.acting_manager.specs.Acting.{Acting}
+use Rattle.serve_run.specs.Decided.{decided}
 use Rattle.serve_run.specs.Served.{end_line, served}
 
 -- some line of the text begins with a dot; `start` says whether a line begins at the start of the text
@@ -24,5 +27,6 @@ pub record EndsOnce (text : List ℕ) : Type 0 where
 
 -- each answer ends at its first line that begins with a dot. So a reader that reads up to this line has read one answer
 -- and no more
-abbrev pub AnswersEndOnce : Type 0
-AnswersEndOnce = (m : Manager) (line : ServeLine) → EndsOnce (served m line).text
+pub record AnswersEndOnce : Type 0 where
+  pub obeying : (m : Manager) (line : ServeLine) → EndsOnce (served m line).text
+  pub deciding : (a : Acting) (line : ManageLine) → EndsOnce (decided a line).text

@@ -1,5 +1,5 @@
--- The laws of a manager that is controlled by lines.
-use Rattle.std.specs.Prelude.{◌≡◌, ℕ, List, [], ◌++◌}
+-- The laws of a manager that is served by lines.
+use Rattle.std.specs.Prelude.{◌≡◌, ℕ, List, [], ◌++◌, map}
 use Rattle.fact_store.specs.Seen.{HaveSameMembers}
 use Rattle.fact_store.specs.View.{view_at}
 use Rattle.sm_manager.specs.CallLists.{KnowTheSame, after_calls}
@@ -7,21 +7,31 @@ use Rattle.sm_manager.specs.Manager.{Manager}
 use Rattle.serve_lines.specs.declared.serve_line.ServeLine.{ServeLine}
 use Rattle.serve_lines.specs.declared.serve_line.ServeLine.TheVariants.{Show}
 use Rattle.schedule_file.specs.declared.command.Shown.TheVariants.{Facts, Plan}
-use Rattle.serve_lines.specs.ServeLine.{begun_by, lines_told}
-use Rattle.serve_run.specs.Served.{served, served_all, served_by}
+use Rattle.serve_lines.specs.ManageLine.{manage_line_of}
+use Rattle.serve_lines.specs.ServeLine.{begun_by, line_of, lines_ended}
+use Rattle.acting_manager.specs.Acting.{Acting}
+use Rattle.serve_run.specs.Decided.{decided_all}
+use Rattle.serve_run.specs.Seat.{Deciding, Obeying, Seat, lines_served, seated, served_by}
+use Rattle.serve_run.specs.Served.{served, served_all}
 use Rattle.serve_laws.specs.Told.{Who, new_by}
 use Rattle.serve_laws.specs.Told.{calls_of, floor_by, told_by}
 
+-- lines are handled by what they mean, in turn: whatever a manager of either kind leaves and prints for lines, it leaves
+-- and prints for their meanings
+pub record LinesAreServed : Type 0 where
+  pub obeying : (m : Manager) (lines : List (List ℕ)) → lines_served (Obeying m) lines ≡ seated Obeying (served_all m (map line_of lines))
+  pub deciding : (a : Acting) (lines : List (List ℕ)) → lines_served (Deciding a) lines ≡ seated Deciding (decided_all a (map manage_line_of lines))
+
 -- the manager after it was given the whole lines of `bytes`
-abbrev pub manager_after : Manager → List ℕ → Manager
-manager_after m bytes = (served_all m (lines_told [] bytes)).now
+abbrev pub seat_after : Seat → List ℕ → Seat
+seat_after seat bytes = (lines_served seat (lines_ended [] bytes)).now
 
 -- bytes that are read later do not change the text that was printed. They only add to this text the answers that the
 -- manager at that moment gives to their lines; the first of these lines may have begun before
 abbrev pub EarlierAnswersStay : Type 0
 EarlierAnswersStay =
-    (m : Manager) (before later : List ℕ) → served_by m (before ++ later)
-    ≡ served_by m before ++ (served_all (manager_after m before) (lines_told (begun_by [] before) later)).text
+    (seat : Seat) (before later : List ℕ) → served_by seat (before ++ later)
+    ≡ served_by seat before ++ (lines_served (seat_after seat before) (lines_ended (begun_by [] before) later)).text
 
 -- the manager that serving lines leaves is the one that the calls of these lines leave
 abbrev pub ServedLives : Type 0

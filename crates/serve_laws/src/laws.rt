@@ -1,7 +1,7 @@
-//! The laws of a manager that is controlled by lines, and of what it prints.
-ghost use Rattle.serve_laws.specs.ServeLaws.{EarlierAnswersStay, ServedLives};
+//! The laws of a manager that is served by lines, and of what it prints.
+ghost use Rattle.serve_laws.specs.ServeLaws.{EarlierAnswersStay, LinesAreServed, ServedLives};
 ghost use Rattle.serve_laws.specs.ServeLaws.{KnowsWhatItWasTold, SameToldSameTexts};
-ghost use Rattle.serve_laws.specs.Says.{PacketsArePrinted, WrittenSaysYes};
+ghost use Rattle.serve_laws.specs.Says.{DecisionsArePrinted, PacketsArePrinted, WrittenSaysYes};
 ghost use Rattle.serve_laws.specs.Framed.{AnswersEndOnce};
 ghost use Rattle.serve_laws.specs.Live.{ServedIsManaging};
 ghost use Rattle.serve_laws.specs.LivePings.{LivePingsArrive, SomeProcessServes};
@@ -12,6 +12,13 @@ ghost use Rattle.serve_laws.specs.LivePings.{LivePingsArrive, SomeProcessServes}
 #[tactic(auto, using(crate::proofs::Behind::earlier_answers_stay))]
 pub fn earlier_answers_stay()
     ensures { EarlierAnswersStay }
+{}
+
+/// A process does with lines what it does with their meanings, in turn, whether it does what lines say or decides by
+/// itself.
+#[tactic(auto, using(crate::proofs::Behind::lines_are_served))]
+pub fn lines_are_served()
+    ensures { LinesAreServed }
 {}
 
 /// Each line has an answer: whole lines, none of which begins with a dot, and then the line of a dot.
@@ -67,6 +74,14 @@ pub fn some_process_serves()
 #[tactic(auto, using(crate::proofs::Said::packets_are_printed))]
 pub fn packets_are_printed()
     ensures { PacketsArePrinted }
+{}
+
+/// If a process decides by itself, an answer has the text that the line itself prints, then a line for each note, then a
+/// line for each packet that is sent, in these orders, then the line that says when the process is to be told the time
+/// next, and then the line of a dot.
+#[tactic(auto, using(crate::proofs::Said::decisions_are_printed))]
+pub fn decisions_are_printed()
+    ensures { DecisionsArePrinted }
 {}
 
 /// The line `written` prints `written yes` exactly when the manager's plan counts as written.

@@ -1,7 +1,7 @@
 -- What lines say is in its range.
-use Rattle.std.proofs.Common.{◌≡◌, ℕ, zero, suc, ◌≤◌, ◌/◌, ◌%◌, Bool, true, false, cond, leb, List, [], ◌∷◌, length, refl, arith}
+use Rattle.std.proofs.Common.{◌≡◌, ℕ, zero, suc, ◌≤◌, ◌-◌, ◌^◌, ◌/◌, ◌%◌, Bool, true, false, cond, leb, List, [], ◌∷◌, length, refl, arith}
 use Rattle.std.proofs.lemmas.Bool.{cond_both, leb-true}
-use Rattle.std.specs.Prelude.{◌==◌, ◌&&◌, IfSome, Option, Some, None, Result, Ok, Err, codes, nat_lt}
+use Rattle.std.specs.Prelude.{◌==◌, ◌&&◌, IfSome, Option, Some, None, Result, Ok, Err, codes, nat_lt, option_map}
 use Rattle.std.specs.Option.{option_map_or}
 use Rattle.std.specs.Str.{bytes_eq}
 use Rattle.std.specs.Result.{result_ok}
@@ -16,8 +16,11 @@ use Rattle.schedule_file.specs.ManagerWords.{asked_by, generation_of, shown_by}
 use Rattle.schedule_file.specs.declared.command.Ask.TheVariants.{Poll}
 use Rattle.serve_lines.specs.declared.serve_line.ServeLine.{ServeLine}
 use Rattle.serve_lines.specs.declared.serve_line.ServeLine.TheVariants.{Ask, Floor, Packet, Timeout, GiveUp, Managers, Wrong}
-use Rattle.serve_lines.specs.ServeLine.{bare_of, line_in, line_of, most_bytes, of_one, packet_in, packet_of, show_of, transaction_of}
-use Rattle.serve_lines.specs.Read.{IsRead, ReadLinesAreInRange}
+use Rattle.serve_lines.specs.declared.manage_line.ManageLine.TheVariants.{Told, Wrong as WrongTold}
+use Rattle.serve_lines.specs.declared.manage_line.ManageWord.TheVariants.{Packet as PacketSaid, Look, Leave, Managers as ManagersSaid}
+use Rattle.serve_lines.specs.ServeLine.{bare_of, line_in, line_of, most_bytes, of_one, packet_behind, packet_in, packet_of, show_of, transaction_of}
+use Rattle.serve_lines.specs.ManageLine.{behind_time, line_in as told_in, manage_line_of, time_of, word_of}
+use Rattle.serve_lines.specs.Read.{IsPacket, IsRead, IsSaid, IsTold, ReadLinesAreInRange, ToldLinesAreInRange}
 
 either : {A : Type 0} (Q : A → Type 0) (b : Bool) (x y : Option A) → IfSome x Q → IfSome y Q → IfSome (cond b x y) Q
 either Q true x y h g = h
@@ -58,11 +61,23 @@ packet_long word =
     (λ _. cond_both (length word / 2 == 256) (decode_pairs 0 word) (Err InvalidStringLength) (λ r. IfSome (result_ok r) IsLong)
     (λ same. pairs_long word (decode_pairs 0 word) refl (grind (arith, same))) (λ _. tt))
 
-packet_range : (word hex between lid : List ℕ) → IfSome (packet_in word hex between lid) IsRead
+IsFrom : List ℕ × ℕ → Type 0
+IsFrom packet = IsPacket packet.0 packet.1
+
+packet_range : (word hex between lid : List ℕ) → IfSome (packet_in word hex between lid) IsFrom
+unfolding IsFrom
 packet_range word hex between lid =
-    tested IsRead (bytes_eq word (codes "packet") && bytes_eq between (codes "from")) _ (λ _.
-    then_some IsLong IsRead (packet_of hex) _ (packet_long hex) (λ bytes long.
-    mapped (λ n. n ≤ 0xFFFF) IsRead (lid_of lid) (λ from. Packet bytes from) (number_range 0xFFFF lid) (λ from h. (long, h))))
+    tested IsFrom (bytes_eq word (codes "packet") && bytes_eq between (codes "from")) _ (λ _.
+    then_some IsLong IsFrom (packet_of hex) _ (packet_long hex) (λ bytes long.
+    mapped (λ n. n ≤ 0xFFFF) IsFrom (lid_of lid) (λ from. (bytes, from)) (number_range 0xFFFF lid) (λ from h. (long, h))))
+
+-- what packets are in range makes lines in range
+behind_range : {A : Type 0} (Q : A → Type 0) (f : List ℕ × ℕ → A) → ((packet : List ℕ × ℕ) → IsPacket packet.0 packet.1 → Q (f packet))
+    → (word hex between : List ℕ) (rest : List (List ℕ)) → IfSome (option_map f (packet_behind word hex between rest)) Q
+unfolding IsFrom
+behind_range Q f h word hex between [] = tt
+behind_range Q f h word hex between (lid ∷ []) = mapped IsFrom Q (packet_in word hex between lid) f (packet_range word hex between lid) h
+behind_range Q f h word hex between (lid ∷ more ∷ rest) = tt
 
 -- lines --------------------------------------------------------------------------------------------------
 
@@ -89,16 +104,41 @@ words_range : (words : List (List ℕ)) → IfSome (line_in words) IsRead
 words_range [] = tt
 words_range (word ∷ []) = bare_range word
 words_range (word ∷ arg ∷ []) = one_range word arg
-words_range (word ∷ hex ∷ between ∷ []) = tt
-words_range (word ∷ hex ∷ between ∷ lid ∷ []) = packet_range word hex between lid
-words_range (word ∷ hex ∷ between ∷ lid ∷ more ∷ rest) = tt
+words_range (word ∷ hex ∷ between ∷ rest) = behind_range IsRead (λ packet. Packet packet.0 packet.1) (λ packet h. h) word hex between rest
 
-or_wrong : (o : Option ServeLine) → IfSome o IsRead → IsRead (option_map_or (λ said. said) o Wrong)
-or_wrong None h = tt
-or_wrong (Some said) h = h
+or_else : {A : Type 0} (Q : A → Type 0) (o : Option A) (other : A) → IfSome o Q → Q other → Q (option_map_or (λ said. said) o other)
+or_else Q None other h k = k
+or_else Q (Some said) other h k = h
 
 pub read_lines_are_in_range : ReadLinesAreInRange
 unfolding line_of
 read_lines_are_in_range line =
     cond_both (nat_lt most_bytes (length line)) Wrong (option_map_or (λ said. said) (line_in (words line)) Wrong) IsRead (λ _. tt)
-    (λ _. or_wrong (line_in (words line)) (words_range (words line)))
+    (λ _. or_else IsRead (line_in (words line)) Wrong (words_range (words line)) tt)
+
+-- lines with the time --------------------------------------------------------------------------------------
+
+word_range : (word : List ℕ) → IfSome (word_of word) IsSaid
+word_range word =
+    either IsSaid (bytes_eq word (codes "look")) (Some Look) _ tt
+    (either IsSaid (bytes_eq word (codes "leave")) (Some Leave) _ tt
+    (either IsSaid (bytes_eq word (codes "managers")) (Some ManagersSaid) _ tt
+    (mapped (λ _. Unit {0}) IsSaid (shown_by word) _ (always _) (λ what _. tt))))
+
+said_range : (words : List (List ℕ)) → IfSome (behind_time words) IsSaid
+said_range [] = tt
+said_range (word ∷ []) = word_range word
+said_range (word ∷ hex ∷ []) = tt
+said_range (word ∷ hex ∷ between ∷ rest) = behind_range IsSaid (λ packet. PacketSaid packet.0 packet.1) (λ packet h. h) word hex between rest
+
+told_range : (words : List (List ℕ)) → IfSome (told_in words) IsTold
+told_range [] = tt
+told_range (time ∷ rest) =
+    then_some (λ n. n ≤ 2 ^ 64 - 1) IsTold (time_of time) _ (number_range (2 ^ 64 - 1) time) (λ ms h.
+    mapped IsSaid IsTold (behind_time rest) (λ said. Told ms said) (said_range rest) (λ said k. (omega (arith, h), k)))
+
+pub told_lines_are_in_range : ToldLinesAreInRange
+unfolding manage_line_of
+told_lines_are_in_range line =
+    cond_both (nat_lt most_bytes (length line)) WrongTold (option_map_or (λ told. told) (told_in (words line)) WrongTold) IsTold (λ _. tt)
+    (λ _. or_else IsTold (told_in (words line)) WrongTold (told_range (words line)) tt)

@@ -1,2 +1,3 @@
+pub mod ManageLine
 pub mod Read
 pub mod ServeLine

@@ -46,12 +46,19 @@ of_one word arg =
     else if bytes_eq word (codes "timeout") then option_map Timeout (transaction_of arg)
     else None
 
--- the meaning of the four words `packet`, a packet, `from` and the LID that the packet came from; None for other words
-abbrev pub packet_in : List ℕ → List ℕ → List ℕ → List ℕ → Option ServeLine
+-- the packet and the LID that it came from, as the four words `packet`, the packet, `from` and the LID name them; None
+-- for other words
+abbrev pub packet_in : List ℕ → List ℕ → List ℕ → List ℕ → Option (List ℕ × ℕ)
 packet_in word hex between lid =
     if bytes_eq word (codes "packet") && bytes_eq between (codes "from")
-    then option_and_then (λ bytes. option_map (λ from. Packet bytes from) (lid_of lid)) (packet_of hex)
+    then option_and_then (λ bytes. option_map (λ from. (bytes, from)) (lid_of lid)) (packet_of hex)
     else None
+
+-- the packet and the LID that three words and those after them name; None if these are not the words of a packet
+abbrev pub packet_behind : List ℕ → List ℕ → List ℕ → List (List ℕ) → Option (List ℕ × ℕ)
+packet_behind word hex between [] = None
+packet_behind word hex between (lid ∷ []) = packet_in word hex between lid
+packet_behind word hex between (lid ∷ more ∷ rest) = None
 
 -- lines ------------------------------------------------------------------------------------------
 
@@ -60,9 +67,8 @@ abbrev pub line_in : List (List ℕ) → Option ServeLine
 line_in [] = Some Empty
 line_in (word ∷ []) = bare_of word
 line_in (word ∷ arg ∷ []) = of_one word arg
-line_in (word ∷ hex ∷ between ∷ []) = None
-line_in (word ∷ hex ∷ between ∷ lid ∷ []) = packet_in word hex between lid
-line_in (word ∷ hex ∷ between ∷ lid ∷ more ∷ rest) = None
+line_in (word ∷ hex ∷ between ∷ rest) =
+    option_map (λ packet. Packet packet.0 packet.1) (packet_behind word hex between rest)
 
 -- the greatest number of bytes that a line may have, without its line feed
 abbrev pub most_bytes : ℕ

@@ -1,11 +1,12 @@
 //! Parsing of lines.
 ghost use Rattle.std.specs.Prelude.{◌≡◌, ◌∷◌};
 ghost use Rattle.text_words.specs.Text.{words};
-ghost use Rattle.serve_lines.specs.ServeLine.{bare_of, line_in, line_of, most_bytes, of_one, packet_in, packet_of};
-ghost use Rattle.serve_lines.specs.ServeLine.{hex_number, transaction_of};
+ghost use Rattle.serve_lines.specs.ServeLine.{bare_of, line_in, line_of, most_bytes, of_one, packet_behind};
+ghost use Rattle.serve_lines.specs.ServeLine.{hex_number, packet_in, packet_of, transaction_of};
 
 use crate::serve_line::ServeLine;
 use schedule_file::{Ask, asked_by, generation_of, lid_of, shown_by};
+use smp_bytes::Lid;
 use text_words::{is_word, number, split_word};
 
 /// The greatest number of bytes that a line may have, without its line feed.
@@ -39,19 +40,25 @@ fn said_by(line: &[u8]) -> Option<ServeLine>
     let Some((other, rest)) = split_word(rest) else {
         return of_one(word, one);
     };
-    behind_three(word, one, other, rest)
+    let (bytes, from) = packet_behind(word, one, other, rest)?;
+    Some(ServeLine::Packet(bytes, from))
 }
 
-/// Parses the line that has the words `word`, `one` and `other`, and then those of `rest`. Returns `None` if the
-/// grammar has no such line.
-fn behind_three(word: &[u8], one: &[u8], other: &[u8], rest: &[u8]) -> Option<ServeLine>
-    ensures { result ≡ line_in (word.now ∷ one.now ∷ other.now ∷ words rest.now) }
+/// Parses the words `word`, `hex` and `between`, and then those of `rest`, as a packet and the LID that it came from.
+/// Returns `None` if these are not four words, `packet`, the packet in hex digits, `from` and the LID.
+pub(crate) fn packet_behind(
+    word: &[u8],
+    hex: &[u8],
+    between: &[u8],
+    rest: &[u8],
+) -> Option<([u8; 256], Lid)>
+    ensures { result ≡ packet_behind word.now hex.now between.now (words rest.now) }
 {
-    let (last, rest) = split_word(rest)?;
+    let (lid, rest) = split_word(rest)?;
     if split_word(rest).is_some() {
         return None;
     }
-    packet_in(word, one, other, last)
+    packet_in(word, hex, between, lid)
 }
 
 /// Parses the line that has the one word `word`. Returns `None` if the grammar has no such line.
@@ -84,16 +91,16 @@ fn of_one(word: &[u8], arg: &[u8]) -> Option<ServeLine>
     }
 }
 
-/// Parses a line that has four words: `packet`, the packet in hex digits, `from`, and the LID that the packet came
-/// from. Returns `None` if the grammar has no such line.
-fn packet_in(word: &[u8], hex: &[u8], between: &[u8], lid: &[u8]) -> Option<ServeLine>
+/// Parses the four words `packet`, the packet in hex digits, `from`, and the LID that the packet came from. Returns
+/// `None` for other words.
+fn packet_in(word: &[u8], hex: &[u8], between: &[u8], lid: &[u8]) -> Option<([u8; 256], Lid)>
     ensures { result ≡ packet_in word.now hex.now between.now lid.now }
 {
     if !is_word(word, "packet") || !is_word(between, "from") {
         return None;
     }
     let bytes = packet_of(hex)?;
-    Some(ServeLine::Packet(bytes, lid_of(lid)?))
+    Some((bytes, lid_of(lid)?))
 }
 
 /// Parses the 256 bytes of a packet, each written as two hex digits of either case. Returns `None` unless `word` is 512

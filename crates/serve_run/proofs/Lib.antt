@@ -1,4 +1,6 @@
 pub mod Calls
 pub mod Going
 pub mod Kept
+pub mod Seats
+pub mod Taken
 pub mod Turns

@@ -5,17 +5,16 @@ use Rattle.std.specs.Option.{option_map_or}
 use Rattle.hex.specs.Hex.{encode_lower}
 use Rattle.smp_bytes.specs.Text.{guid_text, port_text}
 use Rattle.schedule_file.specs.declared.command.Ask.{Ask as Asking}
-use Rattle.schedule_lines.specs.ManagerAsks.{after_asked, asked_fault, emptied, text_of}
+use Rattle.schedule_lines.specs.ManagerAsks.{after_asked, asked_fault, text_of}
 use Rattle.schedule_lines.specs.Refusals.{manager_line}
 use Rattle.schedule_lines.specs.Lines.{trap_text}
 use Rattle.schedule_lines.specs.Outcome.{Outcome, and_then, quiet, shows}
-use Rattle.serve_lines.specs.ServeLine.{lines_told}
 use Rattle.serve_lines.specs.declared.serve_line.ServeLine.{ServeLine}
 use Rattle.serve_lines.specs.declared.serve_line.ServeLine.TheVariants.{Ask, Floor, Packet, Timeout, GiveUp, Show, Managers, Empty, Wrong}
 use Rattle.attr_codec.specs.declared.sm_info.SmInfo.{SmInfo}
 use Rattle.sm_state.specs.State.{state_of_number, state_word}
 use Rattle.sm_state.specs.declared.election.SeenManager.{SeenManager}
-use Rattle.sm_manager.specs.Manager.{Manager, after_raise_floor, outstanding}
+use Rattle.sm_manager.specs.Manager.{Manager, after_raise_floor, outstanding, emptied}
 use Rattle.sm_manager.specs.Packets.{Called, after_packet, after_timeout, done, refused, noted_trap}
 use Rattle.sm_manager.specs.declared.fault.ManagerFault.{ManagerFault}
 use Rattle.sm_manager.specs.declared.outgoing.Outgoing.{Outgoing}
@@ -114,7 +113,3 @@ served m line = and_then (given_out (after_line m line)) (shows end_line)
 abbrev pub served_all : Manager → List ServeLine → Outcome Manager
 served_all m [] = quiet m
 served_all m (line ∷ later) = and_then (served m line) (λ now. served_all now later)
-
--- what is printed if the manager `m` reads `bytes`
-abbrev pub served_by : Manager → List ℕ → List ℕ
-served_by m bytes = (served_all m (lines_told [] bytes)).text

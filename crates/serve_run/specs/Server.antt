@@ -1,20 +1,19 @@
--- How serving a manager that is controlled by lines ends: at the end of the input, or with a fault.
+-- How serving a manager by lines ends: at the end of the input, or with a fault.
 use Rattle.std.specs.Prelude.{◌≡◌, ◌⊎◌, ◌≤◌, ◌+◌, ◌^◌, ◌-◌, ℕ, Bool, true, false, List, [], length, Option, Result, Ok, Err, IsTrue}
 use Rattle.std.specs.Io.KnownBytes.{Consumes, IsAtEnd}
 use Rattle.byte_io.specs.Source.{SourceState}
 use Rattle.schedule_lines.specs.Prints.{Prints, PrintsUnless}
 use Rattle.schedule_lines.specs.declared.run_fault.RunFault.{RunFault}
 use Rattle.schedule_lines.specs.declared.run_fault.RunFault.TheVariants as runs
-use Rattle.sm_manager.specs.Manager.{Manager}
 use Rattle.serve_run.specs.declared.server.Server.{Server}
 use Rattle.serve_run.specs.declared.serve_fault.ServeFault.{ServeFault}
 use Rattle.serve_run.specs.declared.serve_fault.ServeFault.TheVariants.{Read, Write, Memory}
 use Rattle.serve_run.specs.Kept.{ServerValue, after_bytes}
-use Rattle.serve_run.specs.Served.{served_by}
+use Rattle.serve_run.specs.Seat.{Seat, seat_of, served_by}
 
 -- the code's server as a value
 abbrev pub value_of : Server → ServerValue
-value_of s = record { manager = s.manager; begun = s.begun.items }
+value_of s = record { seat = seat_of s.seated; begun = s.begun.items }
 
 -- the fault of serving that a fault in handling a line becomes
 abbrev pub fault_of_run : RunFault → ServeFault
@@ -26,21 +25,21 @@ pub record IsReadToEnd {S : Type 0} (state : S → SourceState) (old new : S) (b
   pub read : Consumes (state old).left (state new).left bytes
   pub at_end : IsAtEnd (state new).left
 
--- all bytes of the source were read, and the text that the manager `m` gives for these bytes (`served_by`) is
+-- all bytes of the source were read, and the text that the manager `seat` gives for these bytes (`served_by`) is
 -- printed, as `prints` says
-pub record HasServed {S : Type 0} (state : S → SourceState) (old new : S) (m : Manager)
+pub record HasServed {S : Type 0} (state : S → SourceState) (old new : S) (seat : Seat)
     (prints : List ℕ → Type 0) : Type 0 where
   pub bytes : List ℕ
   pub read : IsReadToEnd state old new bytes
-  pub printed : prints (served_by m bytes)
+  pub printed : prints (served_by seat bytes)
 
--- some bytes were read, and the text that the manager `m` gives for these bytes (`served_by`) is printed, as `prints`
+-- some bytes were read, and the text that the manager `seat` gives for these bytes (`served_by`) is printed, as `prints`
 -- says
-pub record HasServedSome {S : Type 0} (state : S → SourceState) (old new : S) (m : Manager)
+pub record HasServedSome {S : Type 0} (state : S → SourceState) (old new : S) (seat : Seat)
     (prints : List ℕ → Type 0) : Type 0 where
   pub bytes : List ℕ
   pub read : Consumes (state old).left (state new).left bytes
-  pub printed : prints (served_by m bytes)
+  pub printed : prints (served_by seat bytes)
 
 -- the source has failed, or `count`, the number of bytes that were read, plus the number of interruptions meanwhile
 -- is at least 2^64 - 1
@@ -48,21 +47,21 @@ abbrev pub CannotBeRead : SourceState → SourceState → ℕ → Type 0
 CannotBeRead old new count =
     IsTrue new.has_failed ⊎ (2 ^ 64 - 1 + old.interruptions ≤ count + new.interruptions)
 
--- the text that the manager `m` gives for the bytes that were read is printed, as `prints` says, and no more bytes
+-- the text that the manager `seat` gives for the bytes that were read is printed, as `prints` says, and no more bytes
 -- can be read
-pub record FailsToRead {S : Type 0} (state : S → SourceState) (old new : S) (m : Manager)
+pub record FailsToRead {S : Type 0} (state : S → SourceState) (old new : S) (seat : Seat)
     (prints : List ℕ → Type 0) : Type 0 where
-  pub served : HasServedSome state old new m prints
+  pub served : HasServedSome state old new seat prints
   pub why : CannotBeRead (state old) (state new) (length served.bytes)
 
 -- serving stopped for the given fault. If no more bytes can be read, the text that the manager gives for the bytes
 -- that were read is printed, as `whole` says. If memory ran out, this text is printed as `some` says. Otherwise a
 -- write failed
-abbrev pub StopsServing : {S : Type 0} → (S → SourceState) → S → S → Manager → (List ℕ → Type 0) → (List ℕ → Type 0)
+abbrev pub StopsServing : {S : Type 0} → (S → SourceState) → S → S → Seat → (List ℕ → Type 0) → (List ℕ → Type 0)
     → Bool → ServeFault → Type 0
-StopsServing state old new m some whole sink_failed Read = FailsToRead state old new m whole
-StopsServing state old new m some whole sink_failed Memory = HasServedSome state old new m some
-StopsServing state old new m some whole sink_failed Write = IsTrue sink_failed
+StopsServing state old new seat some whole sink_failed Read = FailsToRead state old new seat whole
+StopsServing state old new seat some whole sink_failed Memory = HasServedSome state old new seat some
+StopsServing state old new seat some whole sink_failed Write = IsTrue sink_failed
 
 -- the result of a call that stopped for `fault`
 abbrev pub stopped : RunFault → Result (Unit {0}) RunFault

@@ -1,11 +1,15 @@
-//! A manager that is controlled by lines: what each line does and prints.
+//! A manager that is served by lines: what each line does and prints.
 #![tactic(auto)]
 
+mod decided;
 mod managers;
+mod notes;
 mod outgoing;
+mod seated;
 mod serve_fault;
 mod served;
 mod server;
 
+pub use seated::ServedManager;
 pub use serve_fault::ServeFault;
 pub use server::serve;

@@ -3,7 +3,7 @@ ghost use Rattle.std.specs.Prelude.{◌≡◌, OnOk};
 ghost use Rattle.std.specs.List.{flat_map};
 ghost use Rattle.byte_io.specs.Writes.{Writes};
 ghost use Rattle.hex.specs.Hex.{encode_lower};
-ghost use Rattle.schedule_lines.specs.ManagerAsks.{emptied};
+ghost use Rattle.sm_manager.specs.Manager.{emptied};
 ghost use Rattle.schedule_lines.specs.Prints.{PrintsUnless};
 ghost use Rattle.serve_run.specs.Served.{send_line, to_text};
 
@@ -26,7 +26,7 @@ pub(crate) fn send_all<W: Sink>(manager: &mut Manager, sink: &mut W) -> Result<(
 
 /// Writes the line of `outgoing`, a packet that is sent.
 #[tactic(auto, unfolding(crate::specs::Served::send_line))]
-fn write_outgoing<W: Sink>(sink: &mut W, outgoing: &Outgoing) -> Result<(), WriteFault>
+pub(crate) fn write_outgoing<W: Sink>(sink: &mut W, outgoing: &Outgoing) -> Result<(), WriteFault>
     ensures writes { Writes W.written W.has_failed result sink.old sink.new (send_line outgoing.now) }
 {
     sink.write(b"send ")?;
@@ -36,7 +36,7 @@ fn write_outgoing<W: Sink>(sink: &mut W, outgoing: &Outgoing) -> Result<(), Writ
 }
 
 /// Writes the bytes of `packet` as two lower-case hex digits each.
-fn write_hex<W: Sink>(sink: &mut W, packet: &[u8; 256]) -> Result<(), WriteFault>
+pub(crate) fn write_hex<W: Sink>(sink: &mut W, packet: &[u8; 256]) -> Result<(), WriteFault>
     ensures writes { Writes W.written W.has_failed result sink.old sink.new (encode_lower packet.now) }
 {
     let mut digits = [0; 512];

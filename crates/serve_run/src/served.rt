@@ -1,4 +1,5 @@
-//! Handling of one line. The line is answered, the queued packets are written, and the answer ends.
+//! Handling of one line for a manager that does what lines say. The line is answered, the queued packets are written,
+//! and the answer ends.
 ghost use Rattle.std.specs.Prelude.{OnOk, IsTrue, Some};
 ghost use Rattle.sm_manager.specs.Packets.{after_packet, after_timeout, noted_trap};
 ghost use Rattle.sm_manager.specs.Manager.{outstanding};
@@ -35,7 +36,7 @@ pub(crate) fn serve_line<W: Sink>(
 
 /// Prints the line that ends an answer, and flushes.
 #[tactic(auto, using(schedule_lines::proofs::Printing::wrote))]
-fn end_answer<W: Sink>(sink: &mut W) -> Result<(), RunFault>
+pub(crate) fn end_answer<W: Sink>(sink: &mut W) -> Result<(), RunFault>
     ensures prints { PrintsUnless W.written W.has_failed result sink.old sink.new end_line }
     ensures flushed { OnOk result (IsTrue (W.is_flushed sink.new)) }
 {
@@ -46,7 +47,7 @@ fn end_answer<W: Sink>(sink: &mut W) -> Result<(), RunFault>
 
 /// Prints `text`.
 #[tactic(auto, using(schedule_lines::proofs::Printing::wrote))]
-fn print<W: Sink>(sink: &mut W, text: &[u8]) -> Result<(), RunFault>
+pub(crate) fn print<W: Sink>(sink: &mut W, text: &[u8]) -> Result<(), RunFault>
     ensures prints { PrintsUnless W.written W.has_failed result sink.old sink.new text.now }
 {
     sink.write(text)?;

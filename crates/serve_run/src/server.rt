@@ -4,14 +4,14 @@ ghost use Rattle.std.specs.Io.KnownBytes.{Appends};
 ghost use Rattle.schedule_lines.specs.Prints.{PrintsSome};
 ghost use Rattle.serve_run.specs.Kept.{after_byte, after_bytes, kept_with};
 ghost use Rattle.serve_run.specs.Lives.{Lives};
+ghost use Rattle.serve_run.specs.Seat.{seat_of};
 ghost use Rattle.serve_run.specs.Server.{HasServed, ServesPiece, StopsServing, value_of};
 
+use crate::seated::ServedManager;
 use crate::serve_fault::ServeFault;
-use crate::served::serve_line;
 use byte_io::{ReadError, Sink, Source};
 use schedule_lines::RunFault;
-use serve_lines::{MOST_BYTES, read_line};
-use sm_manager::Manager;
+use serve_lines::MOST_BYTES;
 use std::alloc::{AllocError, Global};
 
 /// The greatest number of bytes that are read at a time.
@@ -21,12 +21,12 @@ const PIECE: usize = 4096;
 /// may have.
 #[derive(Drop)]
 pub(crate) struct Server {
-    manager: Manager,
+    seated: ServedManager,
     begun: Vec<u8>,
 }
 
-/// Serves `manager`: reads `lines` until they end, and handles each line. Answers each line, and flushes the answer,
-/// before more is read.
+/// Serves the manager `seated`: reads `lines` until they end, and handles each line. Answers each line, and flushes the
+/// answer, before more is read.
 ///
 /// Writes what `served_by` gives for all bytes that were read. Bytes after the last line feed are not a line. Keeps
 /// at most 601 bytes of the line that has begun.
@@ -38,20 +38,20 @@ pub(crate) struct Server {
 /// then unspecified.
 pub fn serve<S: Source, W: Sink>(
     alloc: Global,
-    manager: Manager,
+    seated: ServedManager,
     lines: &mut S,
     sink: &mut W,
 ) -> Result<(), ServeFault>
-    ensures served { OnOk result (HasServed S.state lines.old lines.new manager
+    ensures served { OnOk result (HasServed S.state lines.old lines.new (seat_of seated)
         (Appends (W.written sink.old) (W.written sink.new))) }
     ensures flushed { OnOk result (IsTrue (W.is_flushed sink.new)) }
     ensures sink_works { OnOk result (W.has_failed sink.new ≡ false) }
-    ensures stopped { IfErr result (StopsServing S.state lines.old lines.new manager
+    ensures stopped { IfErr result (StopsServing S.state lines.old lines.new (seat_of seated)
         (PrintsSome W.written W.has_failed sink.old sink.new)
         (Appends (W.written sink.old) (W.written sink.new)) (W.has_failed sink.new)) }
 {
     let mut server = Server {
-        manager,
+        seated,
         begun: Vec::new(alloc),
     };
     sink.flush()?;
@@ -120,9 +120,9 @@ impl Server {
             keep(&mut self.begun, byte)?;
             return Ok(());
         }
-        let line = read_line(&self.begun);
+        self.seated.answer(alloc, &self.begun, sink)?;
         self.begun.clear();
-        serve_line(alloc, &mut self.manager, line, sink)
+        Ok(())
     }
 }
 

@@ -1,1 +1,2 @@
 pub mod RunServe
+pub mod Seating

@@ -2,6 +2,8 @@
 #![tactic(auto)]
 
 mod no_files;
+mod seating;
 mod serving;
 
+pub use seating::Seating;
 pub use serving::run_serve;

@@ -7,6 +7,7 @@ ghost use Rattle.serve_task.specs.RunServe.{HasServedLines, IsServeFault, fault_
 ghost use Rattle.sm_cli.specs.Asked.{texts_for};
 
 use crate::no_files::NoFiles;
+use crate::seating::Seating;
 use byte_io::{Sink, Source};
 use lft_blocks::Planning;
 use record_file::FileFault;
@@ -16,8 +17,9 @@ use sm_manager::Manager;
 use sm_state::Conduct;
 use std::alloc::Global;
 
-/// Serves a manager by lines, as `serve` does. The manager begins without facts. The inputs must be the text that the
-/// manager's rule takes, if the rule takes a text, and the lines. The text is read first.
+/// Serves a manager by lines, as `serve` does. `seating` says whether it does what lines say or decides by itself. The
+/// manager begins without facts. The inputs must be the text that the manager's rule takes, if the rule takes a text,
+/// and the lines. The text is read first.
 ///
 /// Writes `served_by` of that manager and the lines. Writes nothing if the text is refused. If memory is refused or a
 /// write fails while the manager is served, how much was written is as `serve` says. Roots may be any GUIDs, since no
@@ -26,14 +28,15 @@ pub fn run_serve<S: Source, W: Sink>(
     alloc: Global,
     inputs: &mut [S],
     asked: Serving,
+    seating: Seating,
     sink: &mut W,
 ) -> Result<(), Fault>
     requires { length inputs.old ≡ texts_for asked.rule + 1 }
-    ensures done { OnOk result (HasServedLines S.state asked inputs.old inputs.new
+    ensures done { OnOk result (HasServedLines S.state asked seating inputs.old inputs.new
         (Appends (W.written sink.old) (W.written sink.new))) }
     ensures flushed { OnOk result (IsTrue (W.is_flushed sink.new)) }
     ensures sink_works { OnOk result (W.has_failed sink.new ≡ false) }
-    ensures refused { IfErr result (IsServeFault S.state asked inputs.old inputs.new
+    ensures refused { IfErr result (IsServeFault S.state asked seating inputs.old inputs.new
         (PrintsSome W.written W.has_failed sink.old sink.new)
         (Appends (W.written sink.old) (W.written sink.new)) (W.has_failed sink.new)) }
     ensures nothing_written { OnErr result ((result ≡ Err Fault.Write) ⊎ (result ≡ Err Fault.Memory)
@@ -52,7 +55,7 @@ pub fn run_serve<S: Source, W: Sink>(
         conduct,
         planning,
     );
-    match serve(alloc, manager, &mut lines[0], sink) {
+    match serve(alloc, seating.seat(alloc, manager), &mut lines[0], sink) {
         Ok(()) => Ok(()),
         Err(fault) => Err(fault_of_serving(first, fault)),
     }

@@ -5,6 +5,7 @@ pub mod Over
 pub mod PollAnswers
 pub mod Newest
 pub mod Refusals
+pub mod Taking
 pub mod Replies
 pub mod Sending
 pub mod StepsSent

@@ -157,6 +157,10 @@ taken_of m (packet ∷ later) = record { manager = record m { outgoing = later }
 abbrev pub after_take_outgoing : Manager → Taken
 after_take_outgoing m = taken_of m m.outgoing
 
+-- the manager with no packets queued
+abbrev pub emptied : Manager → Manager
+emptied m = record m { outgoing = [] }
+
 -- the TransactionIDs of a sweep's outstanding requests, in ascending order; none if there is no sweep
 abbrev pub transactions_of : Option Sweep → List ℕ
 transactions_of None = []

@@ -16,7 +16,7 @@ pub enum Activity {
 
 impl Activity {
     /// Returns whether a sweep runs.
-    pub(crate) fn is_sweeping(self) -> bool
+    pub fn is_sweeping(self) -> bool
         ensures { result ≡ is_sweeping self }
     {
         match self {

@@ -22,6 +22,7 @@ pub use comparison::Comparison;
 pub use meeting::Meeting;
 pub use policy::{Policy, later_by};
 pub use ports::Ports;
+pub use resting::is_master;
 pub use rival::Rival;
 pub use timing::Timing;
 pub use written::Written;

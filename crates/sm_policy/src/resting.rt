@@ -144,7 +144,7 @@ impl Policy {
 }
 
 /// Returns whether `state` is Master.
-pub(crate) fn is_master(state: SmState) -> bool
+pub fn is_master(state: SmState) -> bool
     ensures { result ≡ is_master state }
 {
     match state {

@@ -1,5 +1,5 @@
 use Rattle.cli_arguments.specs.CommandLine.{audit_shape, facts_shape, join_shape, next_shape, order_shape, plan_shape, program_app, run_shape}
-use Rattle.cli_arguments.specs.CommandLine.{serve_shape}
+use Rattle.cli_arguments.specs.CommandLine.{manage_shape, serve_shape}
 use Rattle.cli_arguments.proofs.command_line.command_line.Goals as goal
 
 pub returns : goal.returns
@@ -12,4 +12,5 @@ returns c =
     let five = c.with-command-5.ensures _ audit_shape four c.audit.ensures in
     let six = c.with-command-6.ensures _ (next_shape words) five c.next.ensures in
     let seven = c.with-command-7.ensures _ (run_shape words) six c.run.ensures in
-    c.with.ensures _ (serve_shape words) seven c.serve.ensures
+    let eight = c.with-command-8.ensures _ (serve_shape words) seven c.serve.ensures in
+    c.with.ensures _ (manage_shape words) eight c.manage.ensures

@@ -5,9 +5,9 @@ use Rattle.fabric_sim.specs.Simulation.{Simulation}
 use Rattle.schedule_world.specs.NamedPackets.{packet_out}
 use Rattle.schedule_lines.specs.Outcome.{Outcome}
 use Rattle.schedule_world.specs.World.{after_fabric, after_inject_all}
-use Rattle.schedule_lines.specs.ManagerAsks.{emptied}
+use Rattle.sm_manager.specs.Manager.{emptied}
 use Rattle.schedule_lines.proofs.Printing.{IsUnderWay, goes_on, is_over, stops_in}
-use Rattle.schedule_lines.proofs.Taking.{fewer_left, none_emptied, taken_emptied}
+use Rattle.sm_manager.proofs.Taking.{fewer_left, none_emptied, taken_emptied}
 use Rattle.schedule_world.proofs.Sending.{first_goes, none_goes}
 use Rattle.schedule_world.proofs.world.send_outgoing.Goals as goal
 

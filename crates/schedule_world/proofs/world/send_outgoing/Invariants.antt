@@ -1,6 +1,6 @@
 use Rattle.std.proofs.Common.{◌≡◌, length}
 use Rattle.schedule_world.specs.World.{after_inject_all}
-use Rattle.schedule_lines.specs.ManagerAsks.{emptied}
+use Rattle.sm_manager.specs.Manager.{emptied}
 use Rattle.schedule_lines.proofs.Printing.{IsUnderWay}
 use Rattle.schedule_world.proofs.world.send_outgoing.Given as goal
 

@@ -2,10 +2,10 @@ use Rattle.std.proofs.Common.{List, refl, sym, ap, subst, ◌∙◌}
 use Rattle.std.proofs.lemmas.Result.{err_from_is_err_and}
 use Rattle.std.specs.List.{flat_map}
 use Rattle.sm_manager.specs.declared.outgoing.Outgoing.{Outgoing}
-use Rattle.schedule_lines.specs.ManagerAsks.{emptied}
+use Rattle.sm_manager.specs.Manager.{emptied}
 use Rattle.schedule_lines.specs.Outcome.{shows}
 use Rattle.schedule_lines.proofs.Printing.{IsUnderWay, goes_on, is_over, wrote}
-use Rattle.schedule_lines.proofs.Taking.{fewer_left, first_is, none_emptied, none_is, taken_emptied}
+use Rattle.sm_manager.proofs.Taking.{fewer_left, first_is, none_emptied, none_is, taken_emptied}
 use Rattle.serve_run.specs.Served.{send_line}
 use Rattle.serve_run.proofs.Turns.{told}
 use Rattle.serve_run.proofs.outgoing.send_all.Goals as goal

@@ -1,5 +1,5 @@
 use Rattle.std.proofs.Common.{◌≡◌, length}
-use Rattle.schedule_lines.specs.ManagerAsks.{emptied}
+use Rattle.sm_manager.specs.Manager.{emptied}
 use Rattle.schedule_lines.proofs.Printing.{IsUnderWay}
 use Rattle.serve_run.specs.Served.{send_line}
 use Rattle.serve_run.proofs.Turns.{told}

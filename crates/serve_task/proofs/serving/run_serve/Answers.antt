@@ -4,9 +4,11 @@ use Rattle.lft_blocks.specs.Rule.{value_of}
 use Rattle.schedule_lines.specs.Prints.{PrintsSome}
 use Rattle.sm_cli.specs.Asked.{texts_for}
 use Rattle.sm_cli.proofs.HandedOn.{handed_on}
-use Rattle.sm_manager.specs.Manager.{Manager, new_manager}
+use Rattle.sm_manager.specs.Manager.{new_manager}
+use Rattle.serve_run.specs.Seat.{Seat}
 use Rattle.serve_run.specs.Server.{HasServed, StopsServing}
 use Rattle.serve_task.specs.RunServe.{fault_of_serving, manager_asked}
+use Rattle.serve_task.specs.Seating.{seat_for}
 use Rattle.serve_task.proofs.Parts.{inputs_are, inputs_of, inputs_were, one_behind, the_one}
 use Rattle.sm_state.specs.declared.conduct.Conduct.TheVariants.{Live}
 use Rattle.serve_task.proofs.serving.run_serve.Goals as goal
@@ -35,15 +37,16 @@ returns-in-Ok-clause-done g c =
     let back = c.split_at_mut-texts.result.1.now in
     let n = one_behind inputs front back (texts_for asked.rule) c.split_at_mut-texts.ensures.value
     (c.split_at_mut-texts.ensures.front_len ∙ c.texts-first.ensures) c.requires in
-    let is : c.new-manager.result ≡ manager_asked asked (value_of c.in_ok-rule.rule) =
+    let made : c.new-manager.result ≡ manager_asked asked (value_of c.in_ok-rule.rule) =
     c.new-manager.ensures ∙ ap (new_manager asked.guid asked.port asked.priority (Live asked.sm_key)) c.new-planning.ensures in
+    let is = c.seat.ensures ∙ ap (seat_for c.args.seating) made in
     let were = inputs_were inputs front back c.index-lines-0.result c.split_at_mut-texts.ensures.value n in
     record {
       were = were;
       are = inputs_are c.read_inputs.new.inputs back c.serve.new.lines n;
       rule = value_of c.in_ok-rule.rule;
       read = c.in_ok-rule.ensures.read;
-      so = subst (λ (m : Manager). HasServed g.S.Source.state were.lines c.serve.new.lines m
+      so = subst (λ (seat : Seat). HasServed g.S.Source.state were.lines c.serve.new.lines seat
           (Appends (g.W.Sink.written c.args.sink.now) (g.W.Sink.written c.serve.new.sink))) is c.in-Ok.ensures.served;
     }
 
@@ -55,8 +58,9 @@ returns-in-Err-clause-refused g c =
     let back = c.split_at_mut-texts.result.1.now in
     let n = one_behind inputs front back (texts_for asked.rule) c.split_at_mut-texts.ensures.value
     (c.split_at_mut-texts.ensures.front_len ∙ c.texts-first.ensures) c.requires in
-    let is : c.new-manager.result ≡ manager_asked asked (value_of c.in_ok-rule.rule) =
+    let made : c.new-manager.result ≡ manager_asked asked (value_of c.in_ok-rule.rule) =
     c.new-manager.ensures ∙ ap (new_manager asked.guid asked.port asked.priority (Live asked.sm_key)) c.new-planning.ensures in
+    let is = c.seat.ensures ∙ ap (seat_for c.args.seating) made in
     let were = inputs_were inputs front back c.index-lines-0.result c.split_at_mut-texts.ensures.value n in
     inr (record {
       were = were;
@@ -66,7 +70,7 @@ returns-in-Err-clause-refused g c =
       so = record {
         stopped = c.in-Err.fault;
         is = c.fault_of_serving.ensures ∙ ap (λ (lines : ℕ). fault_of_serving lines c.in-Err.fault) c.texts-first.ensures;
-        why = subst (λ (m : Manager). StopsServing g.S.Source.state were.lines c.serve.new.lines m
+        why = subst (λ (seat : Seat). StopsServing g.S.Source.state were.lines c.serve.new.lines seat
             (PrintsSome g.W.Sink.written g.W.Sink.has_failed c.args.sink.now c.serve.new.sink)
             (Appends (g.W.Sink.written c.args.sink.now) (g.W.Sink.written c.serve.new.sink)) (g.W.Sink.has_failed c.serve.new.sink)
             c.in-Err.fault) is c.in-Err.ensures.stopped;

@@ -1,8 +1,7 @@
 -- Packets taken from a manager's queue: the first, and then the others.
 use Rattle.std.proofs.Common.{◌≡◌, ◌∙◌, ◌<◌, List, [], ◌∷◌, None, Some, length, refl, sym, ap, arith}
 use Rattle.sm_manager.specs.declared.outgoing.Outgoing.{Outgoing}
-use Rattle.sm_manager.specs.Manager.{Manager, after_take_outgoing, taken_of}
-use Rattle.schedule_lines.specs.ManagerAsks.{emptied}
+use Rattle.sm_manager.specs.Manager.{Manager, after_take_outgoing, taken_of, emptied}
 
 first_of : (m : Manager) (queue : List Outgoing) (out : Outgoing) → (taken_of m queue).packet ≡ Some out
     → queue ≡ out ∷ (taken_of m queue).manager.outgoing

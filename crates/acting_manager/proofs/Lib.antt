@@ -1,0 +1,5 @@
+pub mod Called
+pub mod Collecting
+pub mod Dropped
+pub mod Reached
+pub mod Repeating

@@ -1,0 +1,8 @@
+use Rattle.std.proofs.Common.{◌≡◌}
+use Rattle.acting_manager.specs.Acting.{value_of}
+use Rattle.acting_manager.specs.Working.{one_sent, repeated}
+use Rattle.acting_manager.proofs.acting_manager.ActingManager.send_all.Given as goal
+
+-- what so many steps come to
+abbrev pub invariant-loop : goal.invariant-loop
+invariant-loop l = value_of l.self ≡ repeated l.counter one_sent (value_of l.initial.self)

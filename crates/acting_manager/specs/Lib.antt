@@ -1,0 +1,7 @@
+pub mod Acting
+pub mod ActingLaws
+pub mod Acts
+pub mod Heard
+pub mod Planned
+pub mod Reads
+pub mod Working

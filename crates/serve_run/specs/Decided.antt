@@ -1,0 +1,102 @@
+-- A manager that decides by itself and is told lines: what each line does, and what is printed.
+use Rattle.std.specs.Prelude.{ℕ, List, [], ◌∷◌, ◌++◌, Option, None, Some, codes, decimal}
+use Rattle.std.specs.List.{flat_map}
+use Rattle.hex.specs.Hex.{encode_lower}
+use Rattle.schedule_lines.specs.Lines.{answer_word}
+use Rattle.schedule_lines.specs.ManagerAsks.{text_of}
+use Rattle.schedule_lines.specs.Outcome.{Outcome, and_then, quiet, shows}
+use Rattle.serve_lines.specs.declared.manage_line.ManageLine.{ManageLine}
+use Rattle.serve_lines.specs.declared.manage_line.ManageLine.TheVariants.{Told, Empty, Wrong}
+use Rattle.serve_lines.specs.declared.manage_line.ManageWord.{ManageWord}
+use Rattle.serve_lines.specs.declared.manage_line.ManageWord.TheVariants.{Time, Packet, Look, Leave, Show, Managers}
+use Rattle.sm_state.specs.State.{state_word}
+use Rattle.sm_policy.specs.declared.act.Act.{Act}
+use Rattle.sm_policy.specs.declared.act.Act.TheVariants.{Wait, Poll, Announce, Sweep, Rediscover, HandOver, Yield, Judge, Write, Settle}
+use Rattle.sm_policy.specs.declared.ports.Ports.{Ports}
+use Rattle.acting_manager.specs.Acting.{Acting}
+use Rattle.acting_manager.specs.Working as working
+use Rattle.acting_manager.specs.Working.{after_told, given_away, wake_of}
+use Rattle.acting_manager.specs.declared.note.Note.{Note}
+use Rattle.acting_manager.specs.declared.note.Note.TheVariants.{State, Paused, GivenUp, Swept, Wrote, Settled, Did, Refused}
+use Rattle.serve_run.specs.Served.{end_line, seen_line, send_line}
+
+-- texts ------------------------------------------------------------------------------------------
+
+-- the word for what a manager does
+abbrev pub act_word : Act → List ℕ
+act_word Wait = codes "wait"
+act_word Poll = codes "poll"
+act_word Announce = codes "announce"
+act_word Sweep = codes "sweep"
+act_word Rediscover = codes "rediscover"
+act_word HandOver = codes "handover"
+act_word Yield = codes "yield"
+act_word Judge = codes "judge"
+act_word Write = codes "write"
+act_word Settle = codes "settle"
+
+-- the request has no answer, or one that is refused
+abbrev pub unanswered_text : List ℕ → List ℕ
+unanswered_text request = codes "unanswered " ++ encode_lower request
+
+-- nothing is left to write, but for what these ports need
+abbrev pub settled_text : Ports → List ℕ
+settled_text ports =
+    codes "settled inactive " ++ decimal ports.inactive ++ codes " foreign " ++ decimal ports.foreign
+
+-- what a note says
+abbrev pub note_text : Note → List ℕ
+note_text (State state) = codes "state " ++ state_word state
+note_text Paused = codes "paused"
+note_text (GivenUp request) = unanswered_text request
+note_text (Swept whole) = codes "swept " ++ answer_word whole
+note_text (Wrote whole) = codes "written " ++ answer_word whole
+note_text (Settled ports) = settled_text ports
+note_text (Did act) = act_word act
+note_text (Refused act) = codes "refused " ++ act_word act
+
+-- the line of a note
+unfoldable pub note_line : Note → List ℕ
+note_line note = codes "note " ++ note_text note ++ codes "\n"
+
+-- when the manager is to be told the time next, in decimal; `never` if it waits for packets alone, or has left
+abbrev pub wake_text : Option ℕ → List ℕ
+wake_text None = codes "never"
+wake_text (Some time) = decimal time
+
+-- the line that says when the manager is to be told the time next
+unfoldable pub wake_line : Option ℕ → List ℕ
+wake_line wake = codes "wake " ++ wake_text wake ++ codes "\n"
+
+-- lines ------------------------------------------------------------------------------------------
+
+-- the outcome of a line that has the time `time`, before what the manager has to give out. What a line shows changes
+-- nothing, and the time is then not told
+abbrev pub after_word : Acting → ℕ → ManageWord → Outcome Acting
+after_word a time Time = quiet (after_told time working.Time a)
+after_word a time (Packet bytes from) = quiet (after_told time (working.Packet bytes (Some from)) a)
+after_word a time Look = quiet (after_told time working.Look a)
+after_word a time Leave = quiet (after_told time working.Leave a)
+after_word a time (Show what) = shows (text_of what None a.manager) a
+after_word a time Managers = shows (flat_map seen_line a.manager.seen) a
+
+-- the outcome of a line, before what the manager has to give out
+abbrev pub after_manage : Acting → ManageLine → Outcome Acting
+after_manage a (Told time what) = after_word a time what
+after_manage a Empty = quiet a
+after_manage a Wrong = shows (codes "syntax\n") a
+
+-- what the manager has to give out: its notes, the oldest one first, and then the packets that are ready to be sent
+abbrev pub given_out : Acting → Outcome Acting
+given_out a = shows (flat_map note_line a.notes ++ flat_map send_line a.ready) (given_away a)
+
+-- the whole outcome of a line: what it does, what the manager has then to give out, when the manager is to be told the
+-- time next, and the line that ends the answer
+unfoldable pub decided : Acting → ManageLine → Outcome Acting
+decided a line =
+    and_then (and_then (after_manage a line) given_out) (λ now. shows (wake_line (wake_of now) ++ end_line) now)
+
+-- the outcome of each of the lines in turn
+abbrev pub decided_all : Acting → List ManageLine → Outcome Acting
+decided_all a [] = quiet a
+decided_all a (line ∷ later) = and_then (decided a line) (λ now. decided_all now later)

@@ -1,0 +1,113 @@
+//! The lines of what a manager that decides by itself notes, and of when it is to be told the time next.
+ghost use Rattle.std.specs.Prelude.{◌≡◌, ◌++◌};
+ghost use Rattle.byte_io.specs.Writes.{Writes};
+ghost use Rattle.schedule_lines.specs.Lines.{answer_word};
+ghost use Rattle.serve_run.specs.Decided.{act_word, note_line, note_text, settled_text, unanswered_text};
+ghost use Rattle.serve_run.specs.Decided.{wake_line, wake_text};
+
+use crate::outgoing::write_hex;
+use acting_manager::Note;
+use byte_io::{Sink, WriteFault, write_number};
+use sm_policy::{Act, Ports};
+use smp_bytes::Smp;
+
+/// Writes the line of `note`.
+#[tactic(auto, unfolding(crate::specs::Decided::note_line))]
+pub(crate) fn write_note<W: Sink>(sink: &mut W, note: &Note) -> Result<(), WriteFault>
+    ensures writes { Writes W.written W.has_failed result sink.old sink.new (note_line note.now) }
+{
+    sink.write(b"note ")?;
+    write_noted(sink, note)?;
+    sink.write(b"\n")
+}
+
+/// Writes what `note` says.
+fn write_noted<W: Sink>(sink: &mut W, note: &Note) -> Result<(), WriteFault>
+    ensures writes { Writes W.written W.has_failed result sink.old sink.new (note_text note.now) }
+{
+    match note {
+        Note::State(state) => {
+            sink.write(b"state ")?;
+            sink.write(state.word().as_bytes())
+        }
+        Note::Paused => sink.write(b"paused"),
+        Note::GivenUp(request) => write_unanswered(sink, request),
+        Note::Swept(whole) => write_answer(sink, b"swept ", *whole),
+        Note::Wrote(whole) => write_answer(sink, b"written ", *whole),
+        Note::Settled(ports) => write_settled(sink, *ports),
+        Note::Did(act) => sink.write(act_word(*act).as_bytes()),
+        Note::Refused(act) => {
+            sink.write(b"refused ")?;
+            sink.write(act_word(*act).as_bytes())
+        }
+    }
+}
+
+/// Writes that `request` has no answer, or one that is refused.
+fn write_unanswered<W: Sink>(sink: &mut W, request: &Smp) -> Result<(), WriteFault>
+    ensures writes { Writes W.written W.has_failed result sink.old sink.new (unanswered_text request.now) }
+{
+    sink.write(b"unanswered ")?;
+    write_hex(sink, request.bytes())
+}
+
+/// Writes that nothing is left to write, and the numbers of `ports` that still need something.
+fn write_settled<W: Sink>(sink: &mut W, ports: Ports) -> Result<(), WriteFault>
+    ensures writes { Writes W.written W.has_failed result sink.old sink.new (settled_text ports) }
+{
+    sink.write(b"settled inactive ")?;
+    write_number(sink, u64::from(ports.inactive))?;
+    sink.write(b" foreign ")?;
+    write_number(sink, u64::from(ports.foreign))
+}
+
+/// Writes `front`, and then `yes` if `answer` is true, otherwise `no`.
+fn write_answer<W: Sink>(sink: &mut W, front: &[u8], answer: bool) -> Result<(), WriteFault>
+    ensures writes { Writes W.written W.has_failed result sink.old sink.new
+        (front.now ++ answer_word answer) }
+{
+    sink.write(front)?;
+    if answer {
+        sink.write(b"yes")
+    } else {
+        sink.write(b"no")
+    }
+}
+
+/// Returns the word for `act`, which a manager does.
+fn act_word(act: Act) -> &'static str
+    ensures { result.now ≡ act_word act }
+{
+    match act {
+        Act::Wait => "wait",
+        Act::Poll => "poll",
+        Act::Announce => "announce",
+        Act::Sweep => "sweep",
+        Act::Rediscover => "rediscover",
+        Act::HandOver => "handover",
+        Act::Yield => "yield",
+        Act::Judge => "judge",
+        Act::Write => "write",
+        Act::Settle => "settle",
+    }
+}
+
+/// Writes the line that says when a manager is to be told the time next: at `wake`, or never if `wake` is `None`.
+#[tactic(auto, unfolding(crate::specs::Decided::wake_line))]
+pub(crate) fn write_wake<W: Sink>(sink: &mut W, wake: Option<u64>) -> Result<(), WriteFault>
+    ensures writes { Writes W.written W.has_failed result sink.old sink.new (wake_line wake) }
+{
+    sink.write(b"wake ")?;
+    write_time(sink, wake)?;
+    sink.write(b"\n")
+}
+
+/// Writes the time `wake` in decimal, or `never` if `wake` is `None`.
+fn write_time<W: Sink>(sink: &mut W, wake: Option<u64>) -> Result<(), WriteFault>
+    ensures writes { Writes W.written W.has_failed result sink.old sink.new (wake_text wake) }
+{
+    match wake {
+        None => sink.write(b"never"),
+        Some(time) => write_number(sink, time),
+    }
+}
