@@ -15,6 +15,7 @@ COMMANDS = {
     "next": f"{PLANS} --last-order",
     "run": PLANS,
     "serve": f"--sm-key {PLANS}",
+    "manage": f"--sm-key {PLANS} --every --poll --timeout --tries --outstanding --strict --newest",
     "help": "",
 }
 RULES = "updown spread balance"

@@ -1,9 +1,7 @@
 /*
  * Packets between the port and the process that decides: byte for byte as printed and as received, except for the
  * TransactionID of a request. Linux keeps only half of that, so requests are numbered here, and answers get their own
- * numbers back.
- *
- * Printed packets wait in a queue for their turn in a window. Answers to others go out at once and outside it.
+ * numbers back. Which requests go out when, and which are sent again, the process says.
  */
 #include <errno.h>
 #include <fcntl.h>
@@ -13,35 +11,22 @@
 #include <infiniband/umad.h>
 #include "seat.h"
 
-/* The kernel gives up a request first. SMInfo may take longer than the rest: a manager answers late while it plans. */
-enum { GRACE_MS = 500, SM_INFO_TIMES = 3, AT_ONCE = 64, CLOCK_SHIFT = 12, IS_SM = 2 };
-/* States of a port. */
-enum { INITIALIZE = 2, ARMED = 3 };
+/* SMInfo may take longer than the rest: a manager answers late while it plans. */
+enum { SM_INFO_TIMES = 3, AT_ONCE = 64, CLOCK_SHIFT = 12, IS_SM = 2, MOST_KEPT = 4 * MOST_OUT };
 
-struct packet {
-	uint16_t lid;
-	uint8_t bytes[PACKET];
-};
-
-/* A request that is out. */
+/* A request that went out. */
 struct out {
 	struct packet packet;	/* as it goes out, except for its number */
 	uint8_t tid[8];		/* as the manager gave it */
 	uint32_t number;
-	int tries;
-	double deadline;
 };
 
 static int umad = -1, directed, routed, issm = -1;
-static struct packet *queue;
-static size_t head, tail, room;
-static struct out outs[MOST_OUT];
+static struct out outs[MOST_KEPT];	/* the oldest first */
 static int out_count, is_acknowledged;
 static uint32_t next_number;
 static char silent[MOST_SILENT][SILENT_TEXT];
 static size_t silent_count;
-static unsigned not_active, end_ports, own_lid;
-static unsigned managed_by[NO_LID + 1];	/* by LID: the end ports whose MasterSMLID it is */
 
 /* Becomes the port's only subnet manager: the open file says so to the kernel. */
 void be_manager(void)
@@ -140,11 +125,6 @@ static void send_out(const struct packet *packet, int timeout_ms)
 		note(WARNING, "cannot send: %s", strerror(errno ? errno : -fault));
 }
 
-static int digit(int letter)
-{
-	return letter <= '9' ? letter - '0' : letter - 'a' + 10;
-}
-
 /* Puts the management key of the port to which a packet goes into it, if keys were given: into a request, and into a
    TrapRepress, which agents check too. */
 static void put_key(struct packet *packet)
@@ -156,89 +136,72 @@ static void put_key(struct packet *packet)
 	put(bytes + 24, 8, is_directed(bytes) ? key_of_path(bytes + 128 + 1, bytes[7]) : key_of_lid(packet->lid));
 }
 
-static void add_to_queue(const struct packet *packet)
-{
-	if (tail == room && head > room / 2) {
-		memmove(queue, queue + head, (tail - head) * sizeof *queue);
-		tail -= head;
-		head = 0;
-	} else if (tail == room) {
-		room = room ? 2 * room : 1024;
-		queue = more(queue, room, sizeof *queue);
-	}
-	queue[tail++] = *packet;
-}
-
-void queue_packet(const char *hex, unsigned lid)
-{
-	struct packet packet = { .lid = lid };
-	int i;
-
-	for (i = 0; i < PACKET; i++)
-		packet.bytes[i] = digit(hex[2 * i]) << 4 | digit(hex[2 * i + 1]);
-	if (is_answer(packet.bytes)) {
-		put_key(&packet);
-		send_out(&packet, 0);
-	} else {
-		add_to_queue(&packet);
-	}
-}
-
 int handover_is_acknowledged(void)
 {
 	return is_acknowledged;
 }
 
-static void try_out(struct out *out)
+/* Returns the place of the request that went out under a number of the manager, or -1. */
+static int place_of_tid(const uint8_t *tid)
 {
-	int timeout = options.timeout_ms * (get(out->packet.bytes + 16, 2) == SM_INFO ? SM_INFO_TIMES : 1);
+	int i;
 
-	out->deadline = now() + (timeout + GRACE_MS) / 1000.0;
-	carried.again += out->tries++ > 0;
-	send_out(&out->packet, timeout);
+	for (i = 0; i < out_count; i++)
+		if (!memcmp(outs[i].tid, tid, sizeof outs[i].tid))
+			return i;
+	return -1;
 }
 
-/* Sends what is queued, as far as there is room. After a pause, another manager may be master: then the policy is first
-   to look at it. */
-static void fill_window(void)
+static void forget(int place)
 {
-	while (!pause_seen() && head < tail && out_count < options.outstanding) {
-		struct out *out = &outs[out_count++];
+	out_count--;
+	memmove(outs + place, outs + place + 1, (out_count - place) * sizeof *outs);
+}
 
-		out->packet = queue[head++];
-		out->tries = 0;
-		out->number = next_number++;
-		memcpy(out->tid, out->packet.bytes + 8, sizeof out->tid);
-		put(out->packet.bytes + 8, 8, out->number);	/* the kernel keeps the low half */
-		put_key(&out->packet);
-		carried.sets += out->packet.bytes[3] == SET;
-		try_out(out);
+/* Keeps a request that goes out for the first time, under a number of its own, and returns it. */
+static struct out *keep_out(const struct packet *packet)
+{
+	struct out *out;
+
+	if (out_count == MOST_KEPT)
+		forget(0);	/* the process waits for it no longer */
+	out = &outs[out_count++];
+	out->packet = *packet;
+	out->number = next_number++;
+	memcpy(out->tid, packet->bytes + 8, sizeof out->tid);
+	put(out->packet.bytes + 8, 8, out->number);	/* the kernel keeps the low half */
+	put_key(&out->packet);
+	carried.sets += packet->bytes[3] == SET;
+	return out;
+}
+
+/* Sends a request that the process printed, for the first time or again. */
+static void send_request(const struct packet *packet)
+{
+	int place = place_of_tid(packet->bytes + 8);
+	struct out *out = place < 0 ? keep_out(packet) : &outs[place];
+	int is_info = get(packet->bytes + 16, 2) == SM_INFO;
+
+	carried.again += place >= 0;
+	send_out(&out->packet, options.timeout_ms * (is_info ? SM_INFO_TIMES : 1));
+}
+
+void send_packet(const struct packet *packet)
+{
+	struct packet copy = *packet;
+
+	if (!is_answer(packet->bytes)) {
+		send_request(packet);
+		return;
 	}
-	if (head == tail)
-		head = tail = 0;
-}
-
-int is_at_rest(void)
-{
-	return head == tail && !out_count;
+	put_key(&copy);
+	send_out(&copy, 0);
 }
 
 void drop_all(void)
 {
-	head = tail = 0;
 	out_count = 0;
 	is_acknowledged = 0;
-}
-
-/* Gives up the queued requests, none of which has gone out, and those that are queued because of that. */
-static void give_up_queued(void)
-{
-	struct packet packet;
-
-	while (head < tail) {
-		packet = queue[head++];
-		tell("timeout %016llx", (unsigned long long) get(packet.bytes + 8, 8));
-	}
 }
 
 void begin_silent(void)
@@ -256,12 +219,14 @@ const char *silent_request(size_t place)
 	return silent[place];
 }
 
-/* Notes a request without an answer, with its path in the form that smpquery -D takes. */
-static void note_silent(const uint8_t *packet)
+void note_silent(const uint8_t *packet)
 {
 	char *text = silent[silent_count];
-	int i, length = 0;
+	int i, length = 0, place = place_of_tid(packet + 8);
 
+	if (place >= 0)
+		forget(place);
+	carried.given_up++;
 	if (silent_count == MOST_SILENT)
 		return;
 	silent_count++;
@@ -270,33 +235,6 @@ static void note_silent(const uint8_t *packet)
 		length += snprintf(text + length, SILENT_TEXT - length, ",%u", packet[128 + i]);
 	snprintf(text + length, SILENT_TEXT - length, " %s 0x%04x modifier %u", packet[3] == SET ? "Set" : "Get",
 		 (unsigned) get(packet + 16, 2), (unsigned) get(packet + 20, 4));
-}
-
-/* Tells the manager that a request has no answer. A later answer finds no entry. */
-static void give_up(int place)
-{
-	struct out out = outs[place];
-
-	outs[place] = outs[--out_count];
-	carried.given_up++;
-	note_silent(out.packet.bytes);
-	heard_news();
-	tell("timeout %016llx", (unsigned long long) get(out.tid, 8));
-}
-
-void give_up_all(void)
-{
-	while (out_count)
-		give_up(out_count - 1);
-	give_up_queued();
-}
-
-static void no_answer(int place)
-{
-	if (outs[place].tries < options.tries)
-		try_out(&outs[place]);
-	else
-		give_up(place);
 }
 
 static int place_of(const uint8_t *packet)
@@ -309,8 +247,8 @@ static int place_of(const uint8_t *packet)
 	return -1;
 }
 
-/* Returns what the process says to a received packet. */
-static const char *give(const uint8_t *packet, unsigned lid)
+/* Tells the process of a received packet. */
+static void give(const uint8_t *packet, unsigned lid)
 {
 	static const char digits[] = "0123456789abcdef";
 	char hex[2 * PACKET + 1];
@@ -321,8 +259,7 @@ static const char *give(const uint8_t *packet, unsigned lid)
 		hex[2 * i + 1] = digits[packet[i] & 15];
 	}
 	hex[2 * PACKET] = 0;
-	heard_news();
-	return tell("packet %s from %u", hex, is_directed(packet) ? NO_LID : lid);
+	tell("packet %s from %u", hex, is_directed(packet) ? NO_LID : lid);
 }
 
 /* Says again that a manager is here, if the port has lost that (IsSM): other managers would not ask this one. ibsim
@@ -339,40 +276,6 @@ static void keep_manager(const uint8_t *packet)
 	announce_manager();
 }
 
-void begin_ports(void)
-{
-	not_active = end_ports = own_lid = 0;
-	memset(managed_by, 0, sizeof managed_by);
-}
-
-unsigned ports_not_active(void)
-{
-	return not_active;
-}
-
-unsigned ports_of_others(void)
-{
-	return end_ports - managed_by[own_lid];
-}
-
-/* Counts a port that a sweep reads: if it is Initialize or Armed, and if it has a LID, so that it is an end port, whose
-   MasterSMLID it has. A sweep reads each port once. */
-static void count_port(const uint8_t *packet)
-{
-	const uint8_t *info = packet + ATTRIBUTE;
-	unsigned port_state = info[32] & 15, lid = get(info + 16, 2);
-
-	if (get(packet + 16, 2) != PORT_INFO || get(packet + 4, 2) & 0x7fff)
-		return;
-	not_active += port_state == INITIALIZE || port_state == ARMED;
-	if (!lid)
-		return;
-	if (is_directed(packet) && !packet[7])
-		own_lid = lid;
-	end_ports++;
-	managed_by[get(info + 18, 2)]++;
-}
-
 /* Notes which port a request by a directed route reached, and its LIDs, for its key. */
 static void note_port(const uint8_t *request, const uint8_t *packet)
 {
@@ -384,12 +287,6 @@ static void note_port(const uint8_t *request, const uint8_t *packet)
 		note_reached(path, request[7], get(info + 20, 8));
 	if (get(packet + 16, 2) == PORT_INFO)
 		note_lids(path, request[7], get(info + 16, 2), info[34] & 7);
-}
-
-/* Returns whether an answer is to a poll: sweeps number their requests from 2^32 on, and controls have a modifier. */
-static int is_poll(const uint8_t *packet)
-{
-	return !get(packet + 8, 4) && get(packet + 16, 2) == SM_INFO && !get(packet + 20, 4);
 }
 
 static int answers(const uint8_t *packet, const uint8_t *request)
@@ -410,7 +307,7 @@ static void check_own_port(const uint8_t *packet)
 		    (unsigned long long) own_port.guid, (unsigned long long) get(info + 20, 8), info[36]);
 }
 
-/* Passes an answer to the manager. If the manager refuses it, as for a status other than 0, the request is given up. */
+/* Passes an answer to the process. */
 static void on_answer(uint8_t *packet, unsigned lid)
 {
 	int place = place_of(packet);
@@ -432,54 +329,38 @@ static void on_answer(uint8_t *packet, unsigned lid)
 	check_own_port(packet);
 	keep_manager(packet);
 	note_port(out.packet.bytes, packet);
-	if (out.packet.bytes[3] == GET)
-		count_port(packet);
-	if (is_poll(packet))
-		heard_poll((packet[ATTRIBUTE + 20] & 15) == MASTER);
-	outs[place] = outs[--out_count];
-	if (strncmp(give(packet, lid), "refused ", 8))
-		return;
-	carried.refused++;
-	note_silent(out.packet.bytes);
-	tell("timeout %016llx", (unsigned long long) get(out.tid, 8));
+	forget(place);
+	give(packet, lid);
 }
 
-/* Notes a trap. If this manager is master, passes on a trap that came by LIDs, which the process then represses. */
+/* Passes on a trap, which the process represses if it is master. */
 static void on_trap(const uint8_t *packet, unsigned lid)
 {
 	carried.traps++;
-	if (heard_trap(get(packet + ATTRIBUTE + 4, 2), lid) && !is_directed(packet))
-		give(packet, lid);
+	heard_trap(get(packet + ATTRIBUTE + 4, 2), lid);
+	give(packet, lid);
 }
 
 /* Passes on a request of another manager. */
 static void on_request(const uint8_t *packet, unsigned lid)
 {
 	carried.requests++;
+	if (packet[3] == SET && get(packet + 16, 2) == SM_INFO)
+		is_acknowledged |= get(packet + 20, 4) == ACKNOWLEDGE;
 	give(packet, lid);
-	if (packet[3] != SET || get(packet + 16, 2) != SM_INFO)
-		return;
-	is_acknowledged |= get(packet + 20, 4) == ACKNOWLEDGE;
-	if (get(packet + 20, 4) == HANDOVER)
-		heard_handover();
 }
 
-/* Takes a packet, or an unanswered request that the kernel returns with a status. */
+/* Takes a packet. A request that the kernel returns with a status has no answer: the process knows when. */
 static void sort_in(uint8_t *packet, unsigned lid, int status)
 {
-	int place;
-
-	if (status) {
-		place = place_of(packet);
-		if (place >= 0 && !pause_seen())	/* after one, its deadline tells */
-			no_answer(place);
-	} else if (packet[3] & RESPONSE) {
+	if (status)
+		return;
+	if (packet[3] & RESPONSE)
 		on_answer(packet, lid);
-	} else if (packet[3] == TRAP) {
+	else if (packet[3] == TRAP)
 		on_trap(packet, lid);
-	} else if (packet[3] != TRAP_REPRESS) {
+	else if (packet[3] != TRAP_REPRESS)
 		on_request(packet, lid);
-	}
 }
 
 /* Receives a packet, and returns whether there was one. */
@@ -505,14 +386,9 @@ static int receive(int wait_ms)
 
 void carry(int wait_ms)
 {
-	int i, count;
+	int count;
 
-	fill_window();
-	/* Takes all that is there before anything counts as late: the process may have planned for long. */
+	/* Takes all that is there before the time is told: the process may have planned for long. */
 	for (count = 0; count < AT_ONCE && receive(count ? 0 : wait_ms); count++)
-		fill_window();
-	for (i = 0; count < AT_ONCE && i < out_count && !pause_seen(); i++)
-		if (outs[i].deadline < now())
-			no_answer(i--);
-	fill_window();
+		;
 }

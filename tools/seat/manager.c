@@ -1,4 +1,4 @@
-/* The process of `ibsm serve` that decides: a line is written to it, and its answer is read up to the line with a
+/* The process of `ibsm manage` that decides: a line is written to it, and its answer is read up to the line with a
    dot. A process that hangs is killed. */
 #include <errno.h>
 #include <poll.h>
@@ -14,14 +14,19 @@
 /* While an answer is waited for, it is looked each LOOK_MS milliseconds whether the process does anything. It hangs if
    IDLE_LOOKS in a row found that it had used no processor time, or if it has not answered after ANSWER_LOOKS. After a
    signal it gets LAST_LOOKS, and once its input is closed END_LOOKS. */
+#define MOST_STEP 2.0	/* seconds that a look may take */
 enum { LOOK_MS = 100, IDLE_LOOKS = 50, ANSWER_LOOKS = 3000, LAST_LOOKS = 30, END_LOOKS = 20 };
-enum { LONGEST_LINE = 600, MOST_WORDS = 16, USAGE_STATUS = 2, REFUSED_STATUS = 3, NOT_FOUND = 127 };
+enum { LONGEST_LINE = 600, MOST_WORDS = 32, USAGE_STATUS = 2, REFUSED_STATUS = 3, NOT_FOUND = 127 };
 
 static pid_t process;
 static int to = -1, from = -1, is_gone = 1, has_answered;
-static char *answer, *input;
+static char *answer, *notes, *input;
 static double used_before;	/* processor time of the process before it was told the last line */
-static size_t answer_length, answer_room, input_begin, input_end, input_room;
+static size_t answer_length, answer_room, notes_length, notes_room, input_begin, input_end, input_room;
+static struct packet *printed;	/* the packets that the answer has */
+static size_t printed_count, printed_room;
+static unsigned long long wake;
+static double waited;	/* seconds in which an answer was waited for */
 
 int manager_is_gone(void)
 {
@@ -58,6 +63,7 @@ static void become(char **words, const int *in, const int *out)
 	_exit(NOT_FOUND);
 }
 
+/* Adds an option with a text, unless the text is NULL. */
 static void add_option(char **words, int *count, char *name, char *value)
 {
 	if (!value)
@@ -66,9 +72,16 @@ static void add_option(char **words, int *count, char *name, char *value)
 	words[(*count)++] = value;
 }
 
-void start_manager(void)
+/* Adds an option with a number, whose text is kept in the given place. */
+static void add_number(char **words, int *count, char *name, unsigned long value, char *text, size_t room)
 {
-	char guid[17], port[12], priority[12], *words[MOST_WORDS] = { seat.program, "serve" };
+	snprintf(text, room, "%lu", value);
+	add_option(words, count, name, text);
+}
+
+void start_manager(uint32_t newest)
+{
+	char guid[17], port[12], priority[12], numbers[6][24], *words[MOST_WORDS] = { seat.program, "manage" };
 	int in[2], out[2], count = 2;
 
 	snprintf(guid, sizeof guid, "%016llx", (unsigned long long) own_port.guid);
@@ -79,6 +92,14 @@ void start_manager(void)
 	add_option(words, &count, "--routing", seat.routing);
 	add_option(words, &count, "--roots", seat.roots);
 	add_option(words, &count, "--order", seat.order);
+	add_number(words, &count, "--every", 1000UL * seat.sweep_seconds, numbers[0], sizeof numbers[0]);
+	add_number(words, &count, "--poll", seat.poll_ms, numbers[1], sizeof numbers[1]);
+	add_number(words, &count, "--timeout", options.timeout_ms, numbers[2], sizeof numbers[2]);
+	add_number(words, &count, "--tries", options.tries, numbers[3], sizeof numbers[3]);
+	add_number(words, &count, "--outstanding", options.outstanding, numbers[4], sizeof numbers[4]);
+	add_number(words, &count, "--newest", newest, numbers[5], sizeof numbers[5]);
+	if (!seat.partial)
+		words[count++] = "--strict";
 	words[count++] = guid;
 	words[count++] = port;
 	words[count++] = priority;
@@ -125,11 +146,11 @@ void stop_manager(void)
 	status = status_at_end();
 	process = 0;
 	if (WIFEXITED(status) && (WEXITSTATUS(status) == USAGE_STATUS || WEXITSTATUS(status) == REFUSED_STATUS))
-		end(WEXITSTATUS(status), "%s serve takes none of these options, or not these files", seat.program);
+		end(WEXITSTATUS(status), "%s manage takes none of these options, or not these files", seat.program);
 	if (WIFEXITED(status) && WEXITSTATUS(status) == NOT_FOUND)
 		end(NO_FABRIC, "there is no program %s: build it by ./ibsm, or name one by --ibsm", seat.program);
 	if (!is_ended())
-		note(WARNING, "the process of %s serve has ended with %s %d", seat.program,
+		note(WARNING, "the process of %s manage has ended with %s %d", seat.program,
 		     WIFSIGNALED(status) ? "signal" : "status",
 		     WIFSIGNALED(status) ? WTERMSIG(status) : WEXITSTATUS(status));
 }
@@ -175,17 +196,34 @@ static int is_too_long(double used)
 	return seat.child_seconds && used - used_before > seat.child_seconds;
 }
 
+/* Counts the time since a moment, which becomes now, as waited for the process: it may take long, and that is no pause.
+   A longer step is one: the seat stood still. */
+static void count_waiting(double *since)
+{
+	double time = now(), step = time - *since;
+
+	if (step < MOST_STEP)
+		waited += step;
+	*since = time;
+}
+
+unsigned long long clock_ms(void)
+{
+	return (now() - waited) * 1000;
+}
+
 /* Waits until the process has printed something or is gone. Returns 0 if it hangs, or does not answer soon after a signal
    has ended the program. */
 static int wait_for_output(void)
 {
 	struct pollfd file = { .fd = from, .events = POLLIN };
 	int looks, idle = 0, last = 0, ready;
-	double used = time_used(), before;
+	double used = time_used(), before, began = now();
 
 	for (looks = 0; !hangs(looks, idle) && !is_too_long(used) && last < LAST_LOOKS; looks++) {
-		pause_seen();	/* the process may take long: that is no pause */
+		notify_alive();
 		ready = poll(&file, 1, LOOK_MS);
+		count_waiting(&began);
 		if (ready > 0)
 			return 1;
 		if (ready < 0 && errno != EINTR)
@@ -196,7 +234,7 @@ static int wait_for_output(void)
 		last += is_ended();
 	}
 	if (!is_ended())
-		note(WARNING, "the process of %s serve %s, and is killed", seat.program,
+		note(WARNING, "the process of %s manage %s, and is killed", seat.program,
 		     is_too_long(used) ? "takes longer than --child-time for an answer" : "hangs");
 	kill(process, SIGKILL);
 	return 0;
@@ -234,39 +272,72 @@ static char *read_line(void)
 	}
 }
 
-static void take_line(const char *line)
+static int digit(int letter)
 {
-	size_t length = strlen(line);
-	const char *lid;
-
-	if (!strncmp(line, "send ", 5)) {
-		lid = strstr(line, " to ");
-		queue_packet(line + 5, lid ? strtoul(lid + 4, NULL, 10) : NO_LID);
-		return;
-	}
-	if (answer_room < answer_length + length + 2) {
-		answer_room = 2 * (answer_length + length + 2);
-		answer = more(answer, answer_room, 1);
-	}
-	memcpy(answer + answer_length, line, length);
-	answer_length += length;
-	answer[answer_length++] = '\n';
-	answer[answer_length] = 0;
+	return letter <= '9' ? letter - '0' : letter - 'a' + 10;
 }
 
-const char *tell(const char *format, ...)
+void read_packet(const char *hex, uint8_t *bytes)
+{
+	int i;
+
+	for (i = 0; i < PACKET; i++)
+		bytes[i] = digit(hex[2 * i]) << 4 | digit(hex[2 * i + 1]);
+}
+
+/* Keeps a packet that the process prints. */
+static void take_packet(const char *hex)
+{
+	const char *lid = strstr(hex, " to ");
+	struct packet *packet;
+
+	if (printed_count == printed_room) {
+		printed_room = 2 * printed_room + MOST_OUT;
+		printed = more(printed, printed_room, sizeof *printed);
+	}
+	packet = &printed[printed_count++];
+	packet->lid = lid ? strtoul(lid + 4, NULL, 10) : NO_LID;
+	read_packet(hex, packet->bytes);
+}
+
+/* Adds a line to a text. */
+static void add_line(char **text, size_t *length, size_t *room, const char *line)
+{
+	size_t count = strlen(line);
+
+	if (*room < *length + count + 2) {
+		*room = 2 * (*length + count + 2);
+		*text = more(*text, *room, 1);
+	}
+	memcpy(*text + *length, line, count);
+	*length += count;
+	(*text)[(*length)++] = '\n';
+	(*text)[*length] = 0;
+}
+
+static void take_line(const char *line)
+{
+	if (!strncmp(line, "send ", 5))
+		take_packet(line + 5);
+	else if (!strncmp(line, "note ", 5))
+		add_line(&notes, &notes_length, &notes_room, line + 5);
+	else if (!strncmp(line, "wake ", 5))
+		wake = strcmp(line, "wake never") ? strtoull(line + 5, NULL, 10) : NEVER;
+	else
+		add_line(&answer, &answer_length, &answer_room, line);
+}
+
+/* Writes a line to the process, behind the time, and takes its answer. */
+static void tell_by(const char *format, va_list values)
 {
 	char line[LONGEST_LINE + 2], *told;
-	va_list values;
-	int length;
+	int length = snprintf(line, sizeof line, "%llu ", clock_ms());
 
-	va_start(values, format);
-	length = vsnprintf(line, sizeof line - 1, format, values);
-	va_end(values);
-	if (length < 0 || length > LONGEST_LINE)
-		end(NO_FABRIC, "a line to %s serve is longer than %d letters", seat.program, LONGEST_LINE);
+	length += vsnprintf(line + length, sizeof line - 1 - length, format, values);
+	if (length > LONGEST_LINE)
+		end(NO_FABRIC, "a line to %s manage is longer than %d letters", seat.program, LONGEST_LINE);
 	line[length++] = '\n';
-	answer_length = 0;
+	answer_length = notes_length = printed_count = 0;
 	used_before = seat.child_seconds ? time_used() : 0;
 	write_line(line, length);
 	while (!is_gone) {
@@ -280,5 +351,52 @@ const char *tell(const char *format, ...)
 			take_line(told);
 		}
 	}
+}
+
+/* Writes a word to the process, behind the time, and takes its answer. */
+static void tell_word(const char *format, ...)
+{
+	va_list values;
+
+	va_start(values, format);
+	tell_by(format, values);
+	va_end(values);
+}
+
+const char *shown(const char *word)
+{
+	tell_word("%s", word);
 	return answer_length ? answer : "";
+}
+
+/* Sends what the answer has, and then looks at its notes: these may ask the process. */
+static void act_on_answer(void)
+{
+	char *told = notes_length ? strdup(notes) : NULL;
+	size_t i;
+
+	if (notes_length && !told)
+		end(NO_MEMORY, "out of memory");
+	if (seat.dry_run && told)
+		end_dry_run_if(told);
+	for (i = 0; i < printed_count; i++)
+		send_packet(&printed[i]);
+	if (told)
+		heard_notes(told);
+	free(told);
+}
+
+void tell(const char *format, ...)
+{
+	va_list values;
+
+	va_start(values, format);
+	tell_by(format, values);
+	va_end(values);
+	act_on_answer();
+}
+
+unsigned long long wake_time(void)
+{
+	return wake;
 }

@@ -1,8 +1,8 @@
 /*
- * seat: the port, the clock and the policy of a subnet manager whose decisions are those of `ibsm serve`.
+ * seat: the port and the clock of a subnet manager whose decisions are those of `ibsm manage`.
  *
- * It carries packets between the two, byte for byte, and says when to sweep, to write and to poll. The only packets that
- * it makes itself are refusals of requests for subnet administration: it is none, and while it is master no host has one.
+ * It carries packets between the two, byte for byte, and tells the process the time. The only packets that it makes itself
+ * are refusals of requests for subnet administration: it is none, and while it is master no host has one.
  * The manual page, seat.1, has the options and exit statuses.
  */
 #include <errno.h>
@@ -16,18 +16,16 @@
 
 enum { WAIT_MS = 20, MOST_STARTS = 3 };
 #define SHORT_LIFE 5.0	/* seconds; a process that ends sooner will do so again */
-#define LONG_STEP 2.0	/* seconds; who does nothing for longer stood still, and was deaf */
 
 const char *tool = "seat";
 struct seat_options seat = { .sweep_seconds = 10, .poll_ms = 1000 };
 struct own_port own_port;
 struct carried carried;
 static volatile sig_atomic_t ended_by, hung_up;
-static double seen_running, pause_length;
 
 static const char usage_text[] =
 " [OPTION]...\n"
-"Runs `ibsm serve` as subnet manager at a port: carries its packets, and says when it sweeps, writes and polls.\n"
+"Runs `ibsm manage` as subnet manager at a port: carries its packets, and tells it the time.\n"
 "It is no subnet administration: while it is master, no host has one, whatever else runs, so IPoIB and rdma_cm do not\n"
 "work. Only OpenSM as master, with `send` or `round --direct`, keeps it. A whole plan is written at once, not by steps:\n"
 "meanwhile packets that arrived before can be lost or go round.\n"
@@ -40,7 +38,7 @@ static const char usage_text[] =
 "  -f, --roots FILE       with spread: the switches from which it counts distances\n"
 "  -o, --order FILE       with spread or balance: the order by which it grows\n"
 "  -i, --ibsm PROGRAM     the program; else the one beside this one, that of this checkout, or ibsm on the path\n"
-"  -s, --sweep S          as master, a sweep each S seconds, 0 for none but by traps and SIGHUP (10)\n"
+"  -s, --sweep S          as master, a sweep each S seconds, 1 to 60 (10)\n"
 "  -m, --poll MS          as standby, the master is polled each MS milliseconds (1000)\n"
 "  -a, --after FILE       number sweeps above the newest of this recording or store, and by the clock\n"
 "  -d, --dry-run          sweep once, print the plan, and write nothing\n"
@@ -71,26 +69,6 @@ static const char usage_text[] =
 int is_ended(void)
 {
 	return ended_by != 0;
-}
-
-double pause_seen(void)
-{
-	double time = now(), step = time - seen_running, longest = LONG_STEP;
-
-	/* Others wait longer too where answers take longer. */
-	if (longest < 3 * options.timeout_ms / 1000.0)
-		longest = 3 * options.timeout_ms / 1000.0;
-	if (step > longest)
-		pause_length += step;
-	seen_running = time;
-	notify_alive();
-	return pause_length;
-}
-
-void end_pause(void)
-{
-	pause_length = 0;
-	seen_running = now();
 }
 
 void note(enum level level, const char *format, ...)
@@ -167,7 +145,7 @@ static void take_option(int letter)
 	case 'f': seat.roots = optarg; break;
 	case 'o': seat.order = optarg; break;
 	case 'i': seat.program = optarg; break;
-	case 's': seat.sweep_seconds = number_in(optarg, "--sweep", 0, 86400); break;
+	case 's': seat.sweep_seconds = number_in(optarg, "--sweep", 1, 60); break;
 	case 'm': seat.poll_ms = number_in(optarg, "--poll", 1, 600000); break;
 	case 'a': options.after = optarg; break;
 	case 'd': seat.dry_run = 1; break;
@@ -213,18 +191,34 @@ static void start(void)
 
 	short_lives = started && now() - started < SHORT_LIFE ? short_lives + 1 : 0;
 	if (short_lives == MOST_STARTS)
-		end(NO_FABRIC, "%s serve ends soon, each time", seat.program);
+		end(NO_FABRIC, "%s manage ends soon, each time", seat.program);
 	drop_all();
 	let_pass();
 	started = now();
-	start_manager();
-	begin_policy();
-	tell("state");	/* waits until the process answers */
-	end_pause();
-	if (seat.dry_run || manager_is_gone())
+	start_manager(begin_notes());
+	shown("state");	/* waits until the process answers */
+	if (manager_is_gone())
 		return;
-	be_manager();
+	if (!seat.dry_run)
+		be_manager();
 	notify("READY=1");
+	tell("%s", "");
+}
+
+void tell_time_if_due(void)
+{
+	notify_alive();
+	if (clock_ms() >= wake_time())
+		tell("%s", "");
+}
+
+/* Returns for how long a packet is waited, in milliseconds: until the process is to be told the time, but not for long,
+   since a signal may come. */
+static int wait_ms(void)
+{
+	unsigned long long clock = clock_ms(), wake = wake_time();
+
+	return wake <= clock ? 0 : wake - clock < WAIT_MS ? (int) (wake - clock) : WAIT_MS;
 }
 
 int main(int count, char **texts)
@@ -235,12 +229,14 @@ int main(int count, char **texts)
 	note(INFO, "%s, GUID %016llx, priority %d", own_port.name, (unsigned long long) own_port.guid, seat.priority);
 	start();
 	while (!is_ended() && status_of_once() < 0) {
-		carry(WAIT_MS);
+		carry(wait_ms());
 		if (hung_up) {
 			hung_up = 0;
-			heard_hangup();
+			note(INFO, "a sweep is asked for");
+			tell("look");
 		}
-		policy();
+		tell_time_if_due();
+		look_at_time();
 		if (manager_is_gone() && !is_ended()) {
 			stop_manager();
 			start();

@@ -1,8 +1,9 @@
-/* What the parts of seat share: a port, and a process of `ibsm serve` that decides what goes out by it. */
+/* What the parts of seat share: a port, and a process of `ibsm manage` that decides what goes out by it, and when. */
 #ifndef SEAT_H
 #define SEAT_H
 
 #include <inttypes.h>
+#include <limits.h>
 #include <time.h>
 #include "../record/record.h"
 
@@ -19,7 +20,7 @@ struct seat_options {
 
 /* Counts of what was carried since the start. */
 struct carried {
-	unsigned long sent, again, answered, given_up, late, refused, requests, traps, repressed, pointers;
+	unsigned long sent, again, answered, given_up, late, requests, traps, repressed, pointers;
 	unsigned long sets, hosts_refused;
 };
 
@@ -31,10 +32,8 @@ extern struct carried carried;
 void note(enum level level, const char *format, ...) __attribute__((format(printf, 2, 3)));
 /* Returns whether a signal has ended the program. */
 int is_ended(void);
-/* Notes that the program runs, and returns the seconds that it stood still for, stopped or starved, since end_pause, or
-   0. Whoever waits for long calls it all the while. */
-double pause_seen(void);
-void end_pause(void);
+/* Tells the process the time if it wants to be told it by now. */
+void tell_time_if_due(void);
 
 /* notify.c: tells systemd a line, if it runs this program as a service that tells. */
 void notify(const char *format, ...) __attribute__((format(printf, 1, 2)));
@@ -45,13 +44,28 @@ void notify_alive(void);
    be looked for on the path. */
 char *the_program(void);
 
+/* A packet as it goes out or came. */
+struct packet {
+	uint16_t lid;	/* NO_LID if it goes by the path that it carries */
+	uint8_t bytes[PACKET];
+};
+
 /* manager.c: the process that decides. */
-void start_manager(void);
+/* Starts it. It numbers its sweeps above `newest`. */
+void start_manager(uint32_t newest);
 void stop_manager(void);
 int manager_is_gone(void);
-/* Writes a line to the process. Returns its answer, kept until the next call, without packets: queue_packet gets
-   those. */
-const char *tell(const char *format, ...) __attribute__((format(printf, 1, 2)));
+/* Writes a line to the process, behind the time. Sends the packets of its answer, and looks at its notes. */
+void tell(const char *format, ...) __attribute__((format(printf, 1, 2)));
+/* Asks the process what a word shows, and returns it, kept until the next line. */
+const char *shown(const char *word);
+/* Returns the time that the process is told, in milliseconds. It stands still while the process is waited for. */
+unsigned long long clock_ms(void);
+/* Returns when the process wants to be told the time next, or NEVER. */
+unsigned long long wake_time(void);
+#define NEVER ULLONG_MAX
+/* Reads a packet's hex digits. */
+void read_packet(const char *hex, uint8_t *bytes);
 
 /* carry.c: packets. */
 void open_seat(void);
@@ -64,15 +78,12 @@ void be_no_manager(void);
 void announce_manager(void);
 /* Waits, and drops what comes, until no request of an earlier process can be answered any more. */
 void let_pass(void);
-/* Queues a packet in hex digits for a LID, or for NO_LID if it goes by the path that it carries. */
-void queue_packet(const char *hex, unsigned lid);
-/* Sends, receives for `wait_ms` at most, and gives up what is late. */
+/* Sends a packet that the process printed. */
+void send_packet(const struct packet *packet);
+/* Receives for `wait_ms` at most, and passes on what comes. */
 void carry(int wait_ms);
-/* Returns whether nothing is queued or out. */
-int is_at_rest(void);
+/* Forgets the requests that are out. */
 void drop_all(void);
-/* Gives up all requests, those that are queued, which have not gone out, and those that are out. */
-void give_up_all(void);
 /* Returns whether another manager has acknowledged a HANDOVER since drop_all. */
 int handover_is_acknowledged(void);
 /* Unanswered requests since a sweep began, as texts; at most MOST_SILENT are kept. */
@@ -80,6 +91,8 @@ enum { MOST_SILENT = 20, SILENT_TEXT = 120 };
 void begin_silent(void);
 size_t silent_requests(void);
 const char *silent_request(size_t place);
+/* Notes a request without an answer, with its path in the form that smpquery -D takes. */
+void note_silent(const uint8_t *packet);
 
 /* administration.c: requests of hosts. */
 /* Takes requests for subnet administration at a port. Returns a number less than 0 if another process has them. */
@@ -88,33 +101,24 @@ void close_administration(int umad);
 /* As master, refuses a received request. */
 void refuse(int umad, uint8_t *buffer);
 
-/* Begins the counts of ports anew. */
-void begin_ports(void);
-/* Returns how many ports a sweep has read as Initialize or Armed since the counts began. */
-unsigned ports_not_active(void);
-/* Returns how many end ports a sweep has read whose MasterSMLID is not the LID of the own port: their traps go to another
-   manager. */
-unsigned ports_of_others(void);
-
-/* policy.c: when the process is told what. */
-void begin_policy(void);
-void policy(void);
+/* notes.c: what the process says that it did. */
+/* Begins anew, for a new process. Returns the generation above which it numbers its sweeps. */
+uint32_t begin_notes(void);
+/* Looks at the notes of an answer, a line each: says them, writes the status file, and announces the manager. */
+void heard_notes(const char *notes);
+/* Prints the plan and ends, if one of these notes is that a sweep is over. */
+void end_dry_run_if(const char *notes);
 /* Returns whether the process is master, as far as it has told. */
 int is_master(void);
 /* With --once, returns the exit status once the subnet is up or cannot be brought up, and before that -1. */
 int status_of_once(void);
-/* As master, hands over to the greatest standby that the last sweep saw, and waits until it takes over, but not for
-   long. */
+/* Notes a trap. */
+void heard_trap(unsigned number, unsigned lid);
+/* Looks, with --once, whether the master is waited for in vain. */
+void look_at_time(void);
+/* As master, hands over to the greatest master or standby that the last sweep saw, and waits until it takes over, but not
+   for long. */
 void leave(void);
-/* Notes that the process got a line other than the policy's own. */
-void heard_news(void);
-/* Notes a trap, and returns whether this manager is master and so gets the trap. */
-int heard_trap(unsigned number, unsigned lid);
-void heard_hangup(void);
-/* Notes what the answer to a poll says: whether its sender is master. */
-void heard_poll(int is_master);
-/* Notes that a HANDOVER came. */
-void heard_handover(void);
 
 /* others.c: the managers that the last sweep saw. */
 struct other {

@@ -44,11 +44,10 @@ static void print_managers(FILE *file)
 static void print_counts(FILE *file)
 {
 	fprintf(file, " \"packets\": {\"sent\": %lu, \"sent_again\": %lu, \"answered\": %lu, \"given_up\": %lu, "
-		"\"refused\": %lu, \"late\": %lu, \"asked_by_others\": %lu, \"traps\": %lu, \"repressed\": %lu, "
-		"\"pointers_set\": %lu, \"sets\": %lu, \"hosts_refused\": %lu}\n",
-		carried.sent, carried.again, carried.answered, carried.given_up, carried.refused, carried.late,
-		carried.requests, carried.traps, carried.repressed, carried.pointers, carried.sets,
-		carried.hosts_refused);
+		"\"late\": %lu, \"asked_by_others\": %lu, \"traps\": %lu, \"repressed\": %lu, \"pointers_set\": %lu, "
+		"\"sets\": %lu, \"hosts_refused\": %lu}\n",
+		carried.sent, carried.again, carried.answered, carried.given_up, carried.late, carried.requests,
+		carried.traps, carried.repressed, carried.pointers, carried.sets, carried.hosts_refused);
 }
 
 static void print_status(FILE *file, const struct standing *status)

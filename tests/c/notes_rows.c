@@ -1,7 +1,7 @@
 /*
- * Drives the policy of seat (policy.c, changes.c, others.c) by a script on standard input, with a clock, a port and a
- * process of its own. tests/policy.rows has the script's lines. Each thing that the policy does is a line of output,
- * with the seconds since the start.
+ * Drives what seat makes of the notes of its process (notes.c, changes.c, others.c) by a script on standard input, with a
+ * clock, a port and a process of its own. tests/notes.rows has the script's lines. Each thing that is done is a line of
+ * output, with the seconds since the start.
  */
 #include <stdarg.h>
 #include <stdlib.h>
@@ -9,7 +9,6 @@
 #include "../../tools/seat/seat.h"
 
 enum { LONGEST = 4096, MOST_ANSWERS = 16, CLOCK = 1700000000, BEGIN = 1000 };
-#define STEP 0.25	/* seconds between two looks of the policy */
 #define WAIT 0.03125	/* seconds that it waits for packets */
 
 /* What the process answers to a line that begins with a word. */
@@ -17,16 +16,16 @@ struct answer {
 	char word[32], text[LONGEST];
 };
 
-const char *tool = "policy_rows", *called = "policy_rows";
+const char *tool = "notes_rows", *called = "notes_rows";
 struct seat_options seat = { .sweep_seconds = 10, .poll_ms = 1000 };
 struct options options;
 struct own_port own_port = { .guid = 0x101, .number = 1, .name = "port 1" };
 struct carried carried;
 static struct answer answers[MOST_ANSWERS];
 static double clock_now = BEGIN;
-static int busy, gone, silent, answered, acknowledged, is_hushed;
-static unsigned not_active, of_others;
-static double paused;
+static int gone, silent, acknowledged, is_hushed;
+static unsigned long long wake = NEVER;
+static char told_by_leave[LONGEST];	/* the notes of the answer to `leave` */
 
 static void act(const char *format, ...) __attribute__((format(printf, 1, 2)));
 
@@ -56,16 +55,6 @@ time_t time(time_t *at)
 	if (at)
 		*at = value;
 	return value;
-}
-
-double pause_seen(void)
-{
-	return paused;
-}
-
-void end_pause(void)
-{
-	paused = 0;
 }
 
 /* What is said. */
@@ -98,25 +87,41 @@ void *more(void *old, size_t count, size_t size)
 }
 
 /* The process. */
-const char *tell(const char *format, ...)
+const char *shown(const char *word)
+{
+	size_t i;
+
+	for (i = 0; i < MOST_ANSWERS; i++)
+		if (!strcmp(word, answers[i].word))
+			return answers[i].text;
+	return "";
+}
+
+void tell(const char *format, ...)
 {
 	char line[LONGEST];
 	va_list values;
-	size_t i, length;
 
 	va_start(values, format);
 	vsnprintf(line, sizeof line, format, values);
 	va_end(values);
-	/* What only asks is no action. */
-	if (strcmp(line, "state") && strcmp(line, "progress") && strcmp(line, "silent") && strcmp(line, "managers") &&
-	    strcmp(line, "plan") && strcmp(line, "facts") && strcmp(line, "written"))
-		act("tell %s", line);
-	for (i = 0; i < MOST_ANSWERS; i++) {
-		length = strlen(answers[i].word);
-		if (length && !strncmp(line, answers[i].word, length) && (!line[length] || line[length] == ' '))
-			return answers[i].text;
-	}
-	return "";
+	act("tell %s", line);
+	heard_notes(told_by_leave);
+}
+
+unsigned long long wake_time(void)
+{
+	return wake;
+}
+
+void tell_time_if_due(void)
+{
+}
+
+void read_packet(const char *hex, uint8_t *bytes)
+{
+	(void) hex;
+	memset(bytes, 0, PACKET);
 }
 
 int manager_is_gone(void)
@@ -125,20 +130,9 @@ int manager_is_gone(void)
 }
 
 /* The port. */
-int is_at_rest(void)
-{
-	return !busy;
-}
-
 void drop_all(void)
 {
 	act("drop");
-}
-
-void give_up_all(void)
-{
-	act("give up");
-	busy = 0;
 }
 
 int handover_is_acknowledged(void)
@@ -165,12 +159,17 @@ void carry(int wait_ms)
 {
 	(void) wait_ms;
 	clock_now += WAIT;
-	if (answered)
-		heard_news();
 }
 
 void begin_silent(void)
 {
+	silent = 0;
+}
+
+void note_silent(const uint8_t *packet)
+{
+	(void) packet;
+	silent++;
 }
 
 size_t silent_requests(void)
@@ -183,23 +182,10 @@ const char *silent_request(size_t place)
 	return place ? "another request" : "a request";
 }
 
-void begin_ports(void)
-{
-}
-
-unsigned ports_not_active(void)
-{
-	return not_active;
-}
-
-unsigned ports_of_others(void)
-{
-	return of_others;
-}
-
 void write_status(const struct standing *status)
 {
-	(void) status;
+	act("status %s sweeps %lu generation %d whole %d writings %lu written %d settled %d", status->state, status->sweeps,
+	    (int) (status->generation - CLOCK), status->is_whole, status->writings, status->is_written, status->is_settled);
 }
 
 uint32_t newest_in(const char *name)
@@ -221,50 +207,62 @@ static void set_answer(const char *word, char *text)
 			*text = '\n';
 }
 
-static void run(double seconds)
+/* Ends each of the notes by a line feed; they are separated by `|`. */
+static void end_each(char *notes)
 {
-	double until = clock_now + seconds;
+	char *at;
 
-	for (; clock_now < until && status_of_once() < 0; clock_now += STEP)
-		policy();
+	strcat(notes, "|");
+	for (at = notes; (at = strchr(at, '|')); *at = '\n')
+		;
+}
+
+static void hear(char *notes)
+{
+	end_each(notes);
+	if (seat.dry_run)
+		end_dry_run_if(notes);
+	heard_notes(notes);
 	if (status_of_once() >= 0)
-		act("status %d", status_of_once());
+		act("exit %d", status_of_once());
+}
+
+static void wait(double seconds)
+{
+	clock_now += seconds;
+	look_at_time();
+	if (status_of_once() >= 0)
+		act("exit %d", status_of_once());
 }
 
 static void set_number(const char *name, double value)
 {
 	if (!strcmp(name, "priority"))
 		seat.priority = value;
-	else if (!strcmp(name, "sweep"))
-		seat.sweep_seconds = value;
-	else if (!strcmp(name, "poll"))
-		seat.poll_ms = value;
 	else if (!strcmp(name, "partial"))
 		seat.partial = value;
 	else if (!strcmp(name, "once"))
 		seat.once = value;
 	else if (!strcmp(name, "dry-run"))
 		seat.dry_run = value;
+	else if (!strcmp(name, "verbose"))
+		options.verbose = value;
 	else if (!strcmp(name, "hush"))
 		is_hushed = value;
-	else if (!strcmp(name, "busy"))
-		busy = value;
 	else if (!strcmp(name, "gone"))
 		gone = value;
-	else if (!strcmp(name, "answered"))
-		answered = value;
 	else if (!strcmp(name, "acknowledged"))
 		acknowledged = value;
-	else if (!strcmp(name, "unanswered"))
-		silent = value;
-	else if (!strcmp(name, "not-active"))
-		not_active = value;
-	else if (!strcmp(name, "of-others"))
-		of_others = value;
-	else if (!strcmp(name, "pause"))
-		paused = value;
 	else
 		abort();
+}
+
+/* Has it leave, and the process note this. */
+static void leave_with(const char *notes)
+{
+	snprintf(told_by_leave, sizeof told_by_leave - 1, "%s", notes);
+	end_each(told_by_leave);
+	leave();
 }
 
 static void take(char *line)
@@ -278,24 +276,20 @@ static void take(char *line)
 		set_answer(word, line + at);
 	else if (sscanf(line, "set %31s %lf", name, &value) == 2)
 		set_number(name, value);
-	else if (sscanf(line, "run %lf", &value) == 1)
-		run(value);
+	else if (sscanf(line, "wait %lf", &value) == 1)
+		wait(value);
 	else if (sscanf(line, "trap %u %u", &number, &lid) == 2)
-		act("passed on %d", heard_trap(number, lid));
-	else if (sscanf(line, "polled %u", &number) == 1)
-		heard_poll(number);
+		heard_trap(number, lid);
 	else if (sscanf(line, "after %31s", name) == 1)
 		options.after = strdup(name);
-	else if (!strcmp(line, "begin"))
-		begin_policy();
-	else if (!strcmp(line, "news"))
-		heard_news();
-	else if (!strcmp(line, "hangup"))
-		heard_hangup();
-	else if (!strcmp(line, "handed"))
-		heard_handover();
+	else if (sscanf(line, "leave %n", &at) == 0 && at)
+		leave_with(line + at);
 	else if (!strcmp(line, "leave"))
 		leave();
+	else if (sscanf(line, "note %n", &at) == 0 && at)
+		hear(line + at);
+	else if (!strcmp(line, "begin"))
+		act("newest %d", (int) (begin_notes() - CLOCK));
 	else
 		abort();
 }
