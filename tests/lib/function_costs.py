@@ -54,6 +54,13 @@ COUNTED = {
         "sweep::sweep::Sweep::accept", "sm_manager::manager::Manager::on_packet", "plan_steps::carried::port_read",
         "subnet_view::wire_lookup::wire",
     ),
+    "manage by adapters": (
+        "acting_manager::acting_manager::ActingManager::handle_packet", "request_window::window::Window::answer",
+        "request_window::window::Window::send", "acting_manager::reads::Reads::read",
+        "sm_manager::manager::Manager::on_packet", "acting_manager::judging::planned",
+        "acting_manager::plans::is_same_plan",
+    ),
+    "manage by lines": ("serve_run::notes::write_wake", "acting_manager::acting_manager::ActingManager::work"),
     "serve by lines": ("byte_io::to_write::ToWriteSink::write", "byte_io::to_write::ToWriteSink::flush"),
 }
 # What an instance of a generic function has behind its name.

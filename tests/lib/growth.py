@@ -381,17 +381,27 @@ def scheduled(
     return "run", *options, topology, costs.put(f"schedule{len(costs.files)}of{hosts}", lambda: text)
 
 
-def served(costs: Costs, hosts: int, line: str, times: int, *options: str) -> Words:
+def brought_up(costs: Costs, command: str, hosts: int, line: str, times: int, options: Sequence[str]) -> Words:
     """Makes the lines for a manager of six switches in two levels, with `hosts` adapters at each of the four lower
-    ones: it sweeps and writes, and then gets `line` `times` times."""
+    ones: it brings the subnet up, and then gets `line` `times` times."""
     fabric = sample_fabrics.two_levels(4, 2, hosts)
-    words = "serve", *options, *served_lines.seat(fabric)
+    words = command, *options, *served_lines.seat(fabric)
     first = costs.put("".join((*words, str(hosts))), lambda: "".join(
         f"{it}\n" for it in served_lines.bringing_up(costs.program, costs.folder, words, fabric)
     ))
     line = line.replace("PACKET", served_lines.ASKED).replace("TRAP", served_lines.TRAPPED)
     text = "".join(f"{it}\n" for it in line.split("/") * times)
     return *words, "<", costs.put(f"lines{len(costs.files)}", lambda: (costs.folder / first).read_text() + text)
+
+
+def served(costs: Costs, hosts: int, line: str, times: int, *options: str) -> Words:
+    """Makes the lines for a manager that does what lines say."""
+    return brought_up(costs, "serve", hosts, line, times, options)
+
+
+def managed(costs: Costs, hosts: int, line: str, times: int, *options: str) -> Words:
+    """Makes the lines for a manager that decides by itself."""
+    return brought_up(costs, "manage", hosts, line, times, options)
 
 
 def served_order(costs: Costs, count: int) -> str:
@@ -415,11 +425,17 @@ def from_roots(costs: Costs, switches: int) -> Words:
     return *SPREAD, "--roots", roots(costs, switches // 10)
 
 
-# The live conduct of managers, lines by which a switch sends a trap twice, and lines that a served manager answers from
-# what it has at hand.
+# The live conduct of managers, lines by which a switch sends a trap twice, lines that a served manager answers from
+# what it has at hand, and such lines for a manager that decides by itself: a time that goes back is the last one, and
+# no sweep is due then. And all options of such a manager but `--roots`, which does not go with `--order`.
 LIVE = " live 1"
 TRAPS = "traps/CUT/drain 100/PLUG/drain 100/resend"
 SHOWS = "state/progress/silent/written/managers/floor 1/timeout/poll/handover/yield/rediscover/PACKET/TRAP"
+MANAGED_SHOWS = "0/0 state/0 progress/0 silent/0 written/0 managers/0 look/0 PACKET/0 TRAP"
+MANAGED_OPTIONS = (
+    "--sm-key", "5", "--lmc", "1", "--every", "60000", "--poll", "1", "--strict", "--timeout", "200", "--tries", "2",
+    "--outstanding", "16", "--newest", "1000",
+)
 
 
 def scheduled_live(costs: Costs, hosts: int, line: str, times: int) -> Words:
@@ -543,10 +559,15 @@ GROWING = (
     Row("serve by lines", lambda c, n: served(c, 5, SHOWS, n, "--sm-key", "5"), 500, LINEAR),
     Row("serve by plans from roots",
         lambda c, n: served(c, 5, "plan", n, *SPREAD, "--roots", served_order(c, 2)), 50, LINEAR),
+    Row("manage by adapters", lambda c, n: managed(c, n, "0 facts/0 plan/0 leave", 1), 30, LINEAR),
+    Row("manage by adapters, with all options",
+        lambda c, n: managed(c, n, "0", 1, *MANAGED_OPTIONS, *SPREAD, "--order", served_order(c, 6)), 30, LINEAR),
+    Row("manage by lines",
+        lambda c, n: managed(c, 5, MANAGED_SHOWS, n, *SPREAD, "--roots", served_order(c, 2)), 500, LINEAR),
 )
 
-# Lines of a schedule, of one with live managers, and then lines of `serve`, that cost the same in a fabric of any size,
-# except for a search among its ports.
+# Lines of a schedule, of one with live managers, and then lines of `serve` and of `manage`, that cost the same in a
+# fabric of any size, except for a search among its ports.
 STEADY = (
     ("a poll that is answered", "poll B LID/drain 100"),
     ("a poll over a path", "poll B/drain 100"),
@@ -566,6 +587,7 @@ STEADY = (
 )
 STEADY_LIVE = (("a live poll that is answered", "poll B LID/drain 100"), ("traps", TRAPS))
 STEADY_SERVED = (("lines of serve", SHOWS),)
+STEADY_MANAGED = (("lines of manage", MANAGED_SHOWS),)
 
 
 def check_all(program: pathlib.Path, folder: pathlib.Path, noted: Noted) -> tuple[str, int]:
@@ -604,13 +626,15 @@ def steady_runs(costs: Costs) -> list[Steady]:
     few, many, hosts = (250, 500, 25) if costs.counter.is_exact else (1000, 8000, 25)
     return [
         (title, [[words(costs, size, line, times) for times in (few, many)] for size in (hosts, 4 * hosts)])
-        for words, lines in ((scheduled, STEADY), (scheduled_live, STEADY_LIVE), (served, STEADY_SERVED))
+        for words, lines in (
+            (scheduled, STEADY), (scheduled_live, STEADY_LIVE), (served, STEADY_SERVED), (managed, STEADY_MANAGED),
+        )
         for title, line in lines
     ]
 
 
 def check_steady(costs: Costs, steady: Sequence[Steady]) -> None:
-    """Checks that what a line of a schedule or of `serve` costs does not grow with the fabric."""
+    """Checks that what a line of a schedule, of `serve` or of `manage` costs does not grow with the fabric."""
     costs.take(words for _, rows in steady for both in rows for words in both)
     for title, rows in steady:
         one, two = (costs.known[more] - costs.known[less] for less, more in rows)

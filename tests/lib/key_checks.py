@@ -12,7 +12,7 @@ import live_checks
 import sample_fabrics
 from bench import Bench
 from sample_fabrics import Port
-from seat_checks import between_switches, held, packets_of, seated, until
+from seat_checks import SELDOM, between_switches, held, packets_of, seated, until
 from tool_room import Room
 
 # The key of ports without a key of their own.
@@ -181,7 +181,7 @@ def seat_with_keys(bench: Bench) -> None:
     script.write_text(f'#!/bin/sh\n{bench.program} "$@" | tee -a kept.printed\n')
     script.chmod(0o755)
     keys, log = Keys(bench), bench.path / "seat.packets"
-    with seated(bench, "H1", "-p", 5, "-s", 0, *keys.words, program=script, packets="seat.packets") as seat:
+    with seated(bench, "H1", "-p", 5, *SELDOM, *keys.words, program=script, packets="seat.packets") as seat:
         bench.check(seat.settles(), "a seat with keys: SUBNET UP")
         (name, port), _ = between_switches(bench)
         bench.tell(f'Unlink "{name}"[{port}]')

@@ -1,5 +1,5 @@
-"""Agents of a fabric, written for the tests of `serve`: what each answers to a directed request, and what it then
-holds."""
+"""Agents of a fabric, written for the tests of `serve` and `manage`: what each answers to a directed request, and what
+it then holds."""
 from __future__ import annotations
 
 import random
@@ -29,21 +29,26 @@ class Agents:
     def __init__(self, fabric: Fabric, seat: Port, images: random.Random | None = None) -> None:
         self.fabric, self.seat, self.images = fabric, seat, images
         self.read, self.sets = {}, []
-        self.lids, self.tops, self.tables = {}, {}, {}
+        self.lids, self.masters, self.tops, self.tables = {}, {}, {}, {}
         self.states = {}
         for name in fabric.nodes:
             for port in range(fabric.ports(name) + 1):
                 wired = (name, port) in fabric.peers
                 self.states[name, port] = ACTIVE if port == 0 else INITIALIZE if wired else DOWN
 
-    def answer(self, packet: bytes) -> bytes | None:
-        """Returns the answer to a directed request from the seat, as it arrives back there, or None if it is lost."""
+    def answer(self, packet: bytes, seat: Port | None = None) -> bytes | None:
+        """Returns the answer to a directed request from a seat, as it arrives back there, or None if it is lost. The
+        seat is the agents' own one if none is given."""
         if packet[1] != DIRECTED or packet[3] not in (GET, SET):
             return None
-        hops = packet[7]
-        at, back = self.seat, bytearray(64)
-        (name, _), came_by = at, at[1]
-        for hop in range(1, hops + 1):
+        way = self.way(packet, seat or self.seat)
+        return way and self.answer_at(packet, *way)
+
+    def way(self, packet: bytes, seat: Port) -> tuple[str, int, bytes] | None:
+        """Returns the node that a directed request from a seat comes to, the port by which it comes there, and the
+        path back, or None if it is lost."""
+        (name, came_by), back = seat, bytearray(64)
+        for hop in range(1, packet[7] + 1):
             if hop > 1 and not self.fabric.is_switch(name):
                 return None
             far = self.fabric.peers.get((name, packet[128 + hop]))
@@ -51,13 +56,24 @@ class Agents:
                 return None
             (name, came_by) = far
             back[hop] = came_by
-        data = self.told(name, came_by, packet)
+        return name, came_by, bytes(back)
+
+    def answer_at(self, packet: bytes, name: str, came_by: int, back: bytes) -> bytes | None:
+        """Returns the answer of a node to a directed request that came by a port, with the path back, or None if the
+        node does not answer."""
+        status = self.refusal(name, came_by, packet)
+        data = packet[64:128] if status else self.told(name, came_by, packet)
         if data is None:
             return None
-        self.note(name, came_by, packet, data)
+        if not status:
+            self.note(name, came_by, packet, data)
         head = bytearray(packet[:64])
-        head[3], head[4], head[6] = ANSWER, 0x80, 0
-        return bytes(head) + data + packet[128:192] + bytes(back)
+        head[3], head[4], head[5], head[6] = ANSWER, 0x80, status, 0
+        return bytes(head) + data + packet[128:192] + back
+
+    def refusal(self, name: str, came_by: int, packet: bytes) -> int:
+        """Returns the status of an answer: 0, since these agents take each Set."""
+        return 0
 
     def note(self, name: str, came_by: int, packet: bytes, data: bytes) -> None:
         """Notes what was reported first, and what was set."""
@@ -112,9 +128,11 @@ class Agents:
             if is_set:
                 if not is_switch or port == 0:
                     self.lids[name, port] = field(packet, 64 + 16, 2), packet[64 + 34] & 7
+                    self.masters[name, port] = packet[64 + 18 : 64 + 20]
                 self.states[name, port] = packet[64 + 32] & 15 or self.states[name, port]
             lid, lmc = self.lids.get((name, port), (0, 0))
             data[16:18] = lid.to_bytes(2, "big")
+            data[18:20] = self.masters.get((name, port), bytes(2))
             data[28] = came_by
             data[32] = data[32] & 0xF0 | self.states[name, port]
             data[34] = data[34] & 0xF8 | lmc

@@ -1,5 +1,5 @@
 """Whether `tests/at-scale` measures what each command and each option of the command line costs, and each line of a
-schedule and of `serve`."""
+schedule, of `serve` and of `manage`."""
 from __future__ import annotations
 
 import os
@@ -22,8 +22,10 @@ COMMAND = re.compile(r"^  ([a-z-]+)  ", re.M)
 # An option with its help, up to the next one.
 OPTION = re.compile(r"^ +(?:-\w, )?(--[a-z-]+)(.*(?:\n {10}.*)*)", re.M)
 # The section of docs/FORMATS.md that has the lines which a command reads, and a row of its tables.
-LINES_OF = {"run": "Schedule", "serve": "Lines of serve"}
+LINES_OF = {"run": "Schedule", "serve": "Lines of serve", "manage": "Lines of manage"}
 LINE = re.compile(r"^\| (`.*?) \|", re.M)
+# What stands in front of the word that says what a line is: for `manage`, the time. Its tables without it are of notes.
+FRONT, NOTHING = {"manage": r"MS\b ?"}, r"(?=\w)"
 
 
 def help_of(program: str | os.PathLike[str], *words: str) -> str:
@@ -47,12 +49,22 @@ def asked_for(program: str | os.PathLike[str]) -> Iterator[str]:
 
 
 def lines() -> Iterator[str]:
-    """Yields the first word of each line that a command reads, as `line of command: word`."""
+    """Yields the word that says what a line is, of each line that a command reads, as `line of command: word`. A line
+    that has the time alone has no such word."""
     text = (ROOT / "docs/FORMATS.md").read_text()
     for command, title in LINES_OF.items():
         section = text.partition(f"\n## {title}\n")[2].partition("\n## ")[0]
+        form = re.compile("`" + FRONT.get(command, NOTHING) + r"(\w*).*?`")
         for names in LINE.findall(section):
-            yield from (f"line of {command}: {word}" for word in re.findall(r"`(\w+).*?`", names))
+            yield from (f"line of {command}: {word}" for word in form.findall(names))
+
+
+def words_in(command: str, text: str) -> Iterator[str]:
+    """Yields the word that says what a line is, of each line of a text that a command reads."""
+    at = 1 if command in FRONT else 0
+    for line in text.splitlines():
+        if line.strip():
+            yield (line.split() + [""])[at]
 
 
 def check_all(program: str | os.PathLike[str], runs: Iterable[Sequence[str]], folder: pathlib.Path) -> None:
@@ -65,8 +77,8 @@ def check_all(program: str | os.PathLike[str], runs: Iterable[Sequence[str]], fo
             if option.startswith("--"):
                 measured |= {f"{command} {option}", f"{option} {word}"}
         if command in LINES_OF:
-            firsts = {line.split()[0] for line in (folder / words[-1]).read_text().splitlines() if line.strip()}
-            measured |= {f"line of {command}: {word}" for word in firsts}
+            read = words_in(command, (folder / words[-1]).read_text())
+            measured |= {f"line of {command}: {word}" for word in read}
     check(len(asked) > 60, f"few commands, options and lines are found: {asked}")
     for name in asked:
         check(

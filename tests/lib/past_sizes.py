@@ -269,6 +269,27 @@ def check_serving(room: Room) -> None:
     room.prints(state + told + state, "serve", *served_lines.WHO, "<", "asked")
 
 
+def check_deciding(room: Room) -> None:
+    """Checks that a manager that decides by itself answers more than 65,536 requests for its SMInfo, and then gives up
+    as many sweeps, each of which lacks its only answer: the wait until the next one grows to ten seconds."""
+    time, lines, told = 1000, ["1000"], [f"note sweep\nsend {served_lines.first_request(1)}\nwake 1500\n.\n"]
+    for count in range(1, LINES + 1):
+        lines.append(f"1000 {served_lines.ASKED}")
+        told.append(f"send {served_lines.tells(1 + count)} to 7\nwake 1500\n.\n")
+    for sweep in range(1, LINES + 1):
+        if sweep > 1:
+            lines.append(f"{time}")
+            told.append(f"note sweep\nsend {served_lines.first_request(sweep)}\nwake {time + 500}\n.\n")
+        time += 500
+        lines.append(f"{time}")
+        state = "note state master\n" if sweep == 1 else ""
+        told.append(f"note unanswered {served_lines.first_request(sweep)}\n{state}note swept no\n")
+        time += min(1000 * 2 ** min(sweep - 1, 4), 10000)
+        told.append(f"wake {time}\n.\n")
+    room.put("decided", "".join(f"{line}\n" for line in lines))
+    room.prints("".join(told), "manage", "--tries", "1", "--strict", *served_lines.WHO, "<", "decided")
+
+
 def padded(text: str, count: int) -> bytes:
     """Returns `count` lines, each the same comment."""
     return (text.ljust(PADDED - 1, "-") + "\n").encode() * count
@@ -279,6 +300,6 @@ def check_all(program: pathlib.Path, folder: pathlib.Path, noted: Noted) -> None
     room = Room(program, folder, noted)
     for part in (
         check_tree, check_ranges, check_findings, check_lanes, check_cells, check_switches, check_managers,
-        check_writing, check_rooted_run, check_lines, check_serving,
+        check_writing, check_rooted_run, check_lines, check_serving, check_deciding,
     ):
         part(room)

@@ -262,10 +262,11 @@ def port_of_another(bench: Bench) -> None:
                 break
             took = until(lambda: seat.count("SUBNET UP") == 1 + number, SOON)
             bench.check(took is not None and seat.settles(), f"the plan is written again after {took or -1:.1f} s")
-            bench.check(seat.count(" 1 ports name another master") == number, "since the seat has seen that")
+            bench.check(seat.count("name another master still") == 0, "and none is left")
             ruled_by(bench, f"again{number}", "H1")
         time.sleep(STEADY)
         bench.check(seat.count("SUBNET UP") == 4 and seat.state() == "master", "it is not written a fourth time")
+        bench.check(seat.count(" 1 ports name another master still") == 1, "and the log says so, once")
         bench.record("-q", "-g", 1, "-T", "left", "left.reports", seat="H3")
         bench.check(master_lids(bench, "left") == {own, other}, f"H6 names itself still: {master_lids(bench, 'left')}")
 
@@ -302,7 +303,7 @@ def left_to_a_seat(bench: Bench) -> None:
         bench.check(settled_anew(greater, since - 1), "the master has swept since")
         began = time.monotonic()
         bench.check(greater.end() == 0, f"SIGTERM: status 0 after {time.monotonic() - began:.1f} s")
-        heir = f"HANDOVER to {port_guid(bench, 'H2'):016x}, priority 3\n"
+        heir = f"YIELDS to {port_guid(bench, 'H2'):016x}, priority 3\n"
         bench.check(heir in greater.said(), f"the other takes over: {greater.said().splitlines()[-4:]}")
         took = until(lambda: "SUBNET UP" in lesser.said(), SOON)
         took = time.monotonic() - began
@@ -324,19 +325,20 @@ def left_to_a_dead_seat(bench: Bench) -> None:
             status = greater.end()
             took = time.monotonic() - began
             bench.check(status == 0 and took < LEFT, f"SIGTERM while it is stopped: status {status} after {took:.1f} s")
-            bench.check(greater.count("does not take over") == 1, f"it is said: {greater.said().splitlines()[-3:]}")
+            bench.check(greater.count("nobody takes over") == 1, f"it is said: {greater.said().splitlines()[-3:]}")
 
 
 def left_to_opensm(bench: Bench) -> None:
     """Checks that a seat that is ended hands over to a lesser OpenSM."""
     with seated(bench, "H1", "-p", 8, "-s", 2) as seat, opensm(bench, "H2", 3, "-R", "updn") as (_, log):
         bench.check(until(lambda: state_in(log()) == "standby") is not None, "OpenSM, priority 3, stands by")
-        bench.check(until(lambda: seat.status()["managers"] and seat.settles()) is not None, "and is seen")
+        is_seen = until(lambda: seat.state() and seat.status()["managers"] and seat.settles()) is not None
+        bench.check(is_seen, "and is seen")
         before = held(bench, "before", "H3")
         time.sleep(STEADY)
         began = time.monotonic()
         bench.check(seat.end() == 0, f"SIGTERM: status 0 after {time.monotonic() - began:.1f} s")
-        heir = f"HANDOVER to {port_guid(bench, 'H2'):016x}, priority 3\n"
+        heir = f"YIELDS to {port_guid(bench, 'H2'):016x}, priority 3\n"
         bench.check(heir in seat.said(), f"OpenSM takes over: {seat.said().splitlines()[-4:]}")
         bench.check(until(lambda: "SUBNET UP" in log(), SOON) is not None, "and has written")
         bench.check(state_in(log()) == "master", f"it is {state_in(log())}")

@@ -172,6 +172,13 @@ def triangle() -> Fabric:
     return fabric
 
 
+def star(hosts: int) -> Fabric:
+    """Returns a switch with adapters."""
+    fabric = Fabric()
+    fabric.hosts(fabric.switches(1) * hosts)
+    return fabric
+
+
 def random_fabric(count: int, degree: int, hosts: int, seed: int = 7) -> Fabric:
     """Returns a random tree with more cables up to the mean degree, and adapters at random switches."""
     fabric, chance = Fabric(), random.Random(seed)

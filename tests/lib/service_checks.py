@@ -13,16 +13,17 @@ from collections.abc import Iterator
 
 import sample_fabrics
 from bench import Bench
-from seat_checks import Seat, held, port_guid, seated, until
+from seat_checks import SELDOM, Seat, held, port_guid, seated, until
 
 TIMING = ("-m", 200, "-r", 1)
-# Answers a seat's lines as one that knows nothing, and works without end from the first sweep on, if it is called so.
+# Answers a seat's lines as one that knows nothing, and works without end once it is told the time, if it is called so.
 BUSY = """#!/usr/bin/env python3
 import sys
 for line in iter(sys.stdin.readline, ""):
-    while line.startswith("sweep") and sys.argv[0].endswith("busy"):
+    words = line.split()[1:]
+    while not words and sys.argv[0].endswith("busy"):
         pass
-    print("state discovering\\n." if line.startswith("state") else ".", flush=True)
+    print("state discovering" if words else "note state discovering", "wake never", ".", sep="\\n", flush=True)
 """
 # What is in a program that was compiled without its proofs: it cannot run in a limited address space.
 SANITIZED = b"AddressSanitizer"
@@ -60,7 +61,7 @@ def once(bench: Bench) -> None:
         status = bench.run(*words, "-p", 5, simulated=True)
         bench.check(status == 1 and "NOT UP: another manager is master" in bench.said, f"beside it: status {status}")
         status = bench.run(*words, "-p", 9, simulated=True)
-        lines = [line for line in bench.said.splitlines() if "HANDOVER to" in line]
+        lines = [line for line in bench.said.splitlines() if "YIELDS to" in line]
         bench.check(
             status == 0 and len(lines) == 1 and f"{port_guid(bench, 'H2'):016x}, priority 8" in lines[0],
             f"above it: status {status}, and it hands over at its end: {lines} {bench.said.splitlines()[-4:]}",
@@ -105,7 +106,7 @@ def watched(bench: Bench) -> None:
     for name in (str(bench.path / "notify"), f"@tools-test-{os.getpid()}"):
         heard = Heard(name)
         variables = {"NOTIFY_SOCKET": name, "WATCHDOG_USEC": "1000000"}
-        with seated(bench, "H1", "-p", 5, "-s", 0, *TIMING, variables=variables) as seat:
+        with seated(bench, "H1", "-p", 5, *SELDOM, *TIMING, variables=variables) as seat:
             bench.check(seat.settles(), "SUBNET UP")
             bench.check(len(heard.times("READY=1")) == 1, f"it is ready, once: {heard.lines[:3]}")
             words = pathlib.Path(f"/proc/{seat.children()[0]}/environ").read_bytes()
@@ -202,7 +203,7 @@ def names(bench: Bench) -> None:
                 greater.end()
             bench.check(until(lambda: one.state() == "master", 40) is not None and one.settles(), "it gets it back")
             called = f"node H1 ({port_guid(bench, 'H1'):016x})"
-            bench.check(greater.count(f"HANDOVER to {called}, priority 3\n") == 1, f"from it by {called}")
+            bench.check(greater.count(f"YIELDS to {called}, priority 3\n") == 1, f"from it by {called}")
         bench.check(held(bench, "named.again", "H4") == before, "tables are as they were")
 
 

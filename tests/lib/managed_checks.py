@@ -1,0 +1,166 @@
+"""What `tests/test-serve` checks of `ibsm manage`: its lines, by rows, and what its options do."""
+from __future__ import annotations
+
+import os
+from collections.abc import Sequence
+
+import sample_fabrics
+from built_program import check
+from live_agents import Agents
+from sample_fabrics import Fabric
+from served_lines import (
+    ASKED, ASKS, FIRST_TIME, MASTER, REPRESS, TRAPPED, WHO, first_request, managed_up, seat, tells,
+)
+from served_process import MOST, Served
+
+Program = str | os.PathLike[str]
+
+# Lines that are wrong for a manager that decides by itself: they are no lines, they lack the time, or it is no number
+# of 64 bits.
+NO_TIMES = "-1", "+1", "1.5", "1e3", "0x10", "ten", "18446744073709551616", "1" + 40 * "0", "\u0661", '"1"', "1\r"
+WRONG = (
+    *NO_TIMES, *(f"{word} state" for word in NO_TIMES), "state", "look", "leave", "managers", ASKED, "sweep",
+    *(f"0 {word}" for word in (
+        "sweep", "write", "handover", "yield", "rediscover", "poll", "timeout", "floor 1", "poll 5", "0", "Look",
+        "look\r", "look now", "leave 1", "state 0", "managers 1", "facts A", f"packet {ASKS}", f"packet {ASKS} to 7",
+        f"packet {ASKS} from", f"packet {ASKS} from 65536", f"packet {ASKS} from 7 7", f"packet {ASKS[2:]} from 7",
+        f"packet {ASKS}00 from 7", f"packet g{ASKS[1:]} from 7", f"{ASKED} 0", "state".ljust(MOST - 1), "look " * 200,
+    )),
+    "0".ljust(MOST + 1), " " * (MOST + 1), "#" * (MOST + 1), "0 #" * MOST,
+)
+# What asks a manager that decides by itself, and changes nothing: at any time.
+ASKING = {
+    "state": "state discovering\n", "progress": "progress never\n", "silent": "silent never\n",
+    "written": "written no\n", "managers": "", "facts": "", "plan": "",
+}
+LATEST = (1 << 64) - 1
+FIRST, SECOND = first_request(1), first_request(2)
+GIVEN_UP = f"note unanswered {FIRST}\n"
+# Lines told to a manager that decides by itself, the answers without the time at which it is to be told the time next,
+# and that time: at first it is to be told at once.
+MANAGED_ROWS = [
+    ("", "", 0),
+    (" \t # nothing", "", 0),
+    *((line, "syntax\n", 0) for line in WRONG),
+    *((f"{time} {word}", told, 0) for time in (0, 5000, LATEST) for word, told in ASKING.items()),
+    ("0001000  # a time, with zeros in front", f"note sweep\nsend {FIRST}\n", 1500),
+    *((f"{time} state", "state discovering\n", 1500) for time in (0, LATEST)),
+    # A time that goes back is the last one.
+    ("999", "", 1500),
+    ("0", "", 1500),
+    ("1".ljust(MOST), "", 1500),
+    ("", "", 1500),
+    # What is no packet, and answers to nothing that was asked.
+    (f"1000 packet {'02' + ASKS[2:]} from 7", "", 1500),
+    (f"1000 packet {'00' * 256} from 0", "", 1500),
+    (f"1000 packet {SECOND[:6]}81{SECOND[8:]} from 65535", "", 1500),
+    (f"1000 packet {tells(9)} from 7", "", 1500),
+    (f"0 {ASKED}", f"send {tells(2)} to 7\n", 1500),
+    (f"1000 packet {ASKS.upper()} from 65535", f"send {tells(3)} to 65535\n", 1500),
+    # Not a master, which would repress it. That it asks for a sweep shows only later.
+    (f"1000 {TRAPPED}", "", 1500),
+    ("1000 look", "", 1500),
+    ("1499", "", 1500),
+    ("1500", f"send {FIRST}\n", 2000),
+    ("2200", f"send {FIRST}\n", 2700),
+    ("2700", f"send {FIRST}\n", 3200),
+    ("3199", "", 3200),
+    ("3200", f"{GIVEN_UP}note state master\nnote swept no\n", 4200),
+    ("3200 state", "state master\n", 4200),
+    ("3200 progress", "progress done unanswered 1 toofar 0\n", 4200),
+    ("3200 silent", "silent 0\n", 4200),
+    # It has waited long enough since its sweep began: the trap asks for one, as the answer to nothing does not.
+    (f"3300 packet {tells(9)} from 7", "", 4200),
+    (f"3300 {TRAPPED}", f"note sweep\nsend {REPRESS} to 9\nsend {SECOND}\n", 3800),
+    ("3300 facts", "floor 2\n", 3800),
+    # It leaves once its sweep is over, and is there still.
+    ("3300 leave", "", 3800),
+    ("3300 leave", "", 3800),
+    *((f"{time}", f"send {SECOND}\n", time + 500) for time in (3800, 4300, 4800)),
+    ("5300", f"note unanswered {SECOND}\n", None),
+    ("5300 look", "", None),
+    (f"{LATEST} {ASKED}", f"send {tells(5, state=MASTER)} to 7\n", None),
+    (f"{LATEST} {TRAPPED}", f"send {REPRESS} to 9\n", None),
+    (f"{LATEST} leave", "", None),
+    (f"{LATEST}", "", None),
+]
+
+
+def waking(answer: str, wake: int | None) -> str:
+    """Returns the answer of a manager that decides by itself, up to the dot."""
+    return f"{answer}wake {'never' if wake is None else wake}\n"
+
+
+def told_first(program: Program, lines: Sequence[str], *options: str) -> list[str]:
+    """Returns the answers of a new manager that decides by itself to lines."""
+    served = Served(program, [*WHO, *options], command="manage")
+    told = [served.ask(line.encode()).decode() for line in lines]
+    served.end()
+    return told
+
+
+def settled(program: Program, fabric: Fabric, *options: str) -> tuple[list[str], int, int, int]:
+    """Has a new manager that decides by itself bring a subnet up. Returns the lines, the last time, when it is then to
+    be told the time, and how many requests were out at most."""
+    served, most = Served(program, [*seat(fabric), *options], command="manage"), [0, 0]
+    answers = []
+
+    def ask(line: str) -> list[str]:
+        answers.append(served.ask(line.encode()).decode().splitlines())
+        most[0] += sum(it.startswith("send ") for it in answers[-1]) - ("packet" in line)
+        most[1] = max(most)
+        return answers[-1]
+
+    lines = managed_up(ask, Agents(fabric, ("H1", 1)))
+    served.end()
+    return lines, int(lines[-1].split()[0]), int(answers[-1][-1].split()[1]), most[1]
+
+
+def check_paces(program: Program) -> None:
+    """Checks what each number in the options of `manage` does, at both ends of its range and between."""
+    one, some, many = (sample_fabrics.two_levels(1, 1, hosts) for hosts in (1, 9, 66))
+    for wait in 1, 2, 255, 256, 500, 65535, 65536, 600000:
+        answers = told_first(program, ["1000", f"{1000 + wait - 1}", f"{1000 + wait}"], "--timeout", str(wait))
+        wanted = [waking(f"note sweep\nsend {FIRST}\n", 1000 + wait), waking("", 1000 + wait)]
+        wanted.append(waking(f"send {FIRST}\n", 1000 + 2 * wait))
+        check(answers == wanted, f"--timeout {wait}: {answers}")
+    for count in 1, 2, 4, 100, 101:
+        times = [str(1000 + 500 * it) for it in range(count + 1)]
+        answers = told_first(program, times, "--tries", str(count))
+        sent = [f"send {FIRST}\n" in it for it in answers]
+        check(sent == [True] * count + [False] and GIVEN_UP in answers[-1], f"--tries {count}: {sent}")
+    for newest in 0, 1, 255, 65535, (1 << 31) - 1, (1 << 31), (1 << 32) - 2:
+        answers = told_first(program, ["1000", "1000 facts"], "--newest", str(newest))
+        wanted = [waking(f"note sweep\nsend {first_request(newest + 1)}\n", 1500)]
+        wanted.append(waking(f"floor {newest + 1}\n" if newest else "", 1500))
+        check(answers == wanted, f"--newest {newest}: {answers}")
+    for every in 1000, 1001, 4096, 10000, 59999, 60000:
+        _, last, wake, _ = settled(program, one, "--every", str(every))
+        check(wake == last + every, f"--every {every}: from {last} to {wake}")
+    for count in 1, 2, 5, 64:
+        _, _, _, most = settled(program, some if count < 9 else many, "--outstanding", str(count))
+        check(most == count, f"--outstanding {count}: {most} are out")
+    usual = settled(program, some)
+    for words in ("--every", "10000"), ("--poll", "1000"), ("--timeout", "500"), ("--tries", "4"), ("--newest", "0"):
+        check(settled(program, some, *words) == usual, f"{' '.join(words)} is not what holds without it")
+    check(settled(program, some, "--outstanding", "4", "--strict") == usual and usual[3] == 4, "four requests are out")
+    # What is known is written after the fourth sweep that lacks answers, except by a manager that is strict.
+    times = [str(1000 + 500 * it) for it in range(60)]
+    for words in (), ("--strict",):
+        text = "".join(told_first(program, times, "--tries", "1", *words))
+        places = [text.find(it) for it in ("note write\n", "note written yes\n")]
+        swept = text[: places[0]].count("note swept no\n")
+        check(
+            places == [-1, -1] if words else 0 < places[0] < places[1] and swept == 4,
+            f"sweeps that lack answers {words}: {swept} before a writing at {places}",
+        )
+
+
+def check_pauses(program: Program) -> None:
+    """Checks what a manager that decides by itself takes for a pause."""
+    for late, noted in (2000, ""), (2001, "note paused\n"), (LATEST - FIRST_TIME - 500, "note paused\n"):
+        answers = told_first(program, [f"{FIRST_TIME}", f"{FIRST_TIME + 500 + late}"])
+        wanted = waking(f"{noted}send {FIRST}\n", min(FIRST_TIME + 1000 + late, LATEST))
+        check(answers[1] == wanted, f"told {late} milliseconds late: {answers[1]!r}, and not {wanted!r}")
+
+
