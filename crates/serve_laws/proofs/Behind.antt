@@ -58,10 +58,12 @@ abbrev told_behind : List ℕ → Outcome Seat → Outcome Seat
 told_behind text o = record { now = o.now; text = text ++ o.text }
 
 obeyed : (m : Manager) (lines : List (List ℕ)) → lines_served (Obeying m) lines ≡ seated Obeying (served_all m (map line_of lines))
+unfolding line_served
 obeyed m [] = refl
 obeyed m (line ∷ lines) = let o = served m (line_of line) in ap (told_behind o.text) (obeyed o.now lines)
 
 decided_so : (a : Acting) (lines : List (List ℕ)) → lines_served (Deciding a) lines ≡ seated Deciding (decided_all a (map manage_line_of lines))
+unfolding line_served
 decided_so a [] = refl
 decided_so a (line ∷ lines) = let o = decided a (manage_line_of line) in ap (told_behind o.text) (decided_so o.now lines)
 

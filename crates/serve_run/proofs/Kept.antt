@@ -1,5 +1,5 @@
 -- The bytes that are kept of a line that has begun say what the line says.
-use Rattle.std.proofs.Common.{◌≡◌, ◌∙◌, ℕ, ◌+◌, ◌<◌, ◌≤◌, Bool, true, false, cond, List, [], ◌∷◌, ◌++◌, length, length-append, append_assoc, refl, sym, ap, arith, leb-false}
+use Rattle.std.proofs.Common.{◌≡◌, ◌∙◌, ℕ, ◌<◌, ◌≤◌, Bool, true, false, cond, List, [], ◌∷◌, ◌++◌, length, length-append, append_assoc, refl, sym, ap, arith, leb-false}
 use Rattle.std.specs.Prelude.{◌==◌, nat_le}
 use Rattle.std.proofs.lemmas.Bool.{cond_both, leb-true}
 use Rattle.schedule_lines.specs.Outcome.{Outcome, and_then, quiet}
@@ -27,6 +27,7 @@ long_tells_wrong line h = grind (arith, h)
 
 long_the_same : (seat : Seat) (one other : List ℕ) → most_bytes < length one → most_bytes < length other
     → line_served seat one ≡ line_served seat other
+unfolding line_served
 long_the_same (Obeying m) one other h k =
     ap (λ line. seated Obeying (served m line)) (long_is_wrong one h ∙ sym (long_is_wrong other k))
 long_the_same (Deciding a) one other h k =

@@ -1,5 +1,5 @@
 -- A manager of either kind does what a manager of its kind does.
-use Rattle.std.proofs.Common.{◌≡◌, ℕ, Bool, List, Option, Result, Ok, Err, ap}
+use Rattle.std.proofs.Common.{ℕ, Bool, List, Option, Result, Ok, Err, ap}
 use Rattle.schedule_lines.specs.Outcome.{Outcome}
 use Rattle.schedule_lines.specs.declared.run_fault.RunFault.{RunFault}
 use Rattle.serve_run.specs.Lives.{Lives}

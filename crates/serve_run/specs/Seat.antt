@@ -25,7 +25,7 @@ abbrev pub seated : {S : Type 0} → (S → Seat) → Outcome S → Outcome Seat
 seated kind o = record { now = kind o.now; text = o.text }
 
 -- the outcome of a line, which is given without its line feed
-abbrev pub line_served : Seat → List ℕ → Outcome Seat
+unfoldable pub line_served : Seat → List ℕ → Outcome Seat
 line_served (Obeying m) line = seated Obeying (served m (line_of line))
 line_served (Deciding a) line = seated Deciding (decided a (manage_line_of line))
 

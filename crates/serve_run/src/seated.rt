@@ -22,7 +22,7 @@ pub enum ServedManager {
 
 impl ServedManager {
     /// Handles `line`, a line without its line feed: answers the line, and flushes.
-    #[tactic(auto, using(crate::proofs::Seats::lives_seated))]
+    #[tactic(auto, using(crate::proofs::Seats::lives_seated), unfolding(crate::specs::Seat::line_served))]
     pub(crate) fn answer<W: Sink>(
         &mut self,
         alloc: Global,

@@ -1,5 +1,5 @@
 //! Serving a manager: lines are read, and each line is handled before the next one is read.
-ghost use Rattle.std.specs.Prelude.{◌≡◌, ◌<◌, IfErr, OnOk, IsTrue, false, length};
+ghost use Rattle.std.specs.Prelude.{◌≡◌, ◌<◌, [], IfErr, OnOk, IsTrue, false, length};
 ghost use Rattle.std.specs.Io.KnownBytes.{Appends};
 ghost use Rattle.schedule_lines.specs.Prints.{PrintsSome};
 ghost use Rattle.serve_run.specs.Kept.{after_byte, after_bytes, kept_with};
@@ -54,16 +54,35 @@ pub fn serve<S: Source, W: Sink>(
         seated,
         begun: Vec::new(alloc),
     };
-    sink.flush()?;
-    for _ in 0..u64::MAX {
-        if !server.serve_piece(alloc, lines, sink)? {
-            return Ok(());
-        }
-    }
-    Err(ServeFault::Read)
+    server.serve_all(alloc, lines, sink)
 }
 
 impl Server {
+    /// Reads `lines` until they end, and handles each line. No line must have begun.
+    fn serve_all<S: Source, W: Sink>(
+        &mut self,
+        alloc: Global,
+        lines: &mut S,
+        sink: &mut W,
+    ) -> Result<(), ServeFault>
+        requires { self.old.begun.items ≡ [] }
+        ensures served { OnOk result (HasServed S.state lines.old lines.new (seat_of self.old.seated)
+            (Appends (W.written sink.old) (W.written sink.new))) }
+        ensures flushed { OnOk result (IsTrue (W.is_flushed sink.new)) }
+        ensures sink_works { OnOk result (W.has_failed sink.new ≡ false) }
+        ensures stopped { IfErr result (StopsServing S.state lines.old lines.new (seat_of self.old.seated)
+            (PrintsSome W.written W.has_failed sink.old sink.new)
+            (Appends (W.written sink.old) (W.written sink.new)) (W.has_failed sink.new)) }
+    {
+        sink.flush()?;
+        for _ in 0..u64::MAX {
+            if !self.serve_piece(alloc, lines, sink)? {
+                return Ok(());
+            }
+        }
+        Err(ServeFault::Read)
+    }
+
     /// Reads some bytes, and handles the lines that end in them. Returns whether more bytes may come. Returns an
     /// error if a read or a write fails, or if memory runs out. `sink` must be flushed, so that no output is held
     /// back while bytes are read.
