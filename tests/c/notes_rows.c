@@ -23,7 +23,7 @@ struct own_port own_port = { .guid = 0x101, .number = 1, .name = "port 1" };
 struct carried carried;
 static struct answer answers[MOST_ANSWERS];
 static double clock_now = BEGIN;
-static int gone, silent, acknowledged, is_hushed;
+static int gone, silent, is_hushed;
 static unsigned long long wake = NEVER;
 static char told_by_leave[LONGEST];	/* the notes of the answer to `leave` */
 
@@ -133,11 +133,6 @@ int manager_is_gone(void)
 void drop_all(void)
 {
 	act("drop");
-}
-
-int handover_is_acknowledged(void)
-{
-	return acknowledged;
 }
 
 void announce_manager(void)
@@ -251,8 +246,8 @@ static void set_number(const char *name, double value)
 		is_hushed = value;
 	else if (!strcmp(name, "gone"))
 		gone = value;
-	else if (!strcmp(name, "acknowledged"))
-		acknowledged = value;
+	else if (!strcmp(name, "wake"))
+		wake = value;
 	else
 		abort();
 }

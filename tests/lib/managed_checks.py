@@ -148,12 +148,28 @@ def check_paces(program: Program) -> None:
     times = [str(1000 + 500 * it) for it in range(60)]
     for words in (), ("--strict",):
         text = "".join(told_first(program, times, "--tries", "1", *words))
-        places = [text.find(it) for it in ("note write\n", "note written yes\n")]
+        places = [text.find(it) for it in ("note write new\n", "note written yes\n")]
         swept = text[: places[0]].count("note swept no\n")
         check(
             places == [-1, -1] if words else 0 < places[0] < places[1] and swept == 4,
             f"sweeps that lack answers {words}: {swept} before a writing at {places}",
         )
+
+
+def check_refusals(program: Program) -> None:
+    """Checks that an answer which its manager refuses is noted as none, and what no generation is left for."""
+    refused = f"{FIRST[:6]}81801c{FIRST[12:]}"
+    told = told_first(program, ["1000", f"1100 packet {refused} from 65535"])
+    wanted = waking(f"{GIVEN_UP}note state master\nnote swept no\n", 2100)
+    check(told[1] == wanted, f"an answer with a status: {told[1]}")
+    # The last generation has a fact, from the node itself, whose port does not answer; there is none above it.
+    last = first_request((1 << 32) - 1)
+    agents = Agents(sample_fabrics.star(1), ("H1", 1))
+    lines = ["1000", f"1000 packet {agents.answer(bytes.fromhex(last)).hex()} from 65535", "1500", "2500", "4500"]
+    told = told_first(program, lines, "--newest", str((1 << 32) - 2), "--tries", "1")
+    check("note state master\nnote swept no\nwake 2500\n" in told[2], f"a sweep of the last generation: {told}")
+    wanted = [waking("note refused sweep\n", 4500), waking("note refused sweep\n", 8500)]
+    check(told[3:] == wanted, f"after the last generation: {told[3:]}")
 
 
 def check_pauses(program: Program) -> None:

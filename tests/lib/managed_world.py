@@ -23,11 +23,10 @@ INVALID_FIELD = 0x1C
 SWEEPS = 1 << 32
 # In milliseconds: how long a trap waits to be repressed, and how often it is sent.
 REPEATED, TIMES = 5000, 3
+# In milliseconds: how long a manager that has left is still told what comes, and asked.
+LINGERS = 1000
 # In milliseconds: how soon after a note something happens that waits for it.
 SOON = 150
-# In milliseconds: how long the packets of a manager that has left are still carried, since what it handed over may be
-# acknowledged then.
-LINGERS = 1000
 # The most switches on a way by LIDs.
 FAR = 64
 # At how many lines with nothing but the time, told at one time, a manager must be done: five phases of a writing are

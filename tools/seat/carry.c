@@ -23,7 +23,7 @@ struct out {
 
 static int umad = -1, directed, routed, issm = -1;
 static struct out outs[MOST_KEPT];	/* the oldest first */
-static int out_count, is_acknowledged;
+static int out_count;
 static uint32_t next_number;
 static char silent[MOST_SILENT][SILENT_TEXT];
 static size_t silent_count;
@@ -136,11 +136,6 @@ static void put_key(struct packet *packet)
 	put(bytes + 24, 8, is_directed(bytes) ? key_of_path(bytes + 128 + 1, bytes[7]) : key_of_lid(packet->lid));
 }
 
-int handover_is_acknowledged(void)
-{
-	return is_acknowledged;
-}
-
 /* Returns the place of the request that went out under a number of the manager, or -1. */
 static int place_of_tid(const uint8_t *tid)
 {
@@ -201,7 +196,6 @@ void send_packet(const struct packet *packet)
 void drop_all(void)
 {
 	out_count = 0;
-	is_acknowledged = 0;
 }
 
 void begin_silent(void)
@@ -345,8 +339,6 @@ static void on_trap(const uint8_t *packet, unsigned lid)
 static void on_request(const uint8_t *packet, unsigned lid)
 {
 	carried.requests++;
-	if (packet[3] == SET && get(packet + 16, 2) == SM_INFO)
-		is_acknowledged |= get(packet + 20, 4) == ACKNOWLEDGE;
 	give(packet, lid);
 }
 

@@ -8,7 +8,6 @@
 enum { LINK_STATE_CHANGED = 128, CAPABILITIES_CHANGED = 144 };
 enum { LEAVING_MS = 20 };	/* for which a packet is waited meanwhile */
 enum { MOST_FAILURES = 4 };	/* in a row, with --once */
-#define ACKNOWLEDGED 1.0	/* seconds that a manager may take to acknowledge a handover, after its answer to it */
 #define LEAVING 3.0	/* seconds that a manager may take to take over from one that ends */
 #define YIELDING 15.0	/* seconds that a master over which this manager wins may take to hand over, with --once */
 
@@ -225,10 +224,23 @@ static void keep_plan(void)
 	note_cables(shown("facts"));
 }
 
-static void heard_write(void)
+/* Says why a plan that was written before is written again. */
+static void say_cause(const char *cause)
+{
+	unsigned not_active, of_others;
+
+	if (!strcmp(cause, "again"))
+		note(INFO, "the same plan is written again: it may not stand any more");
+	else if (sscanf(cause, "inactive %u foreign %u", &not_active, &of_others) == 2)
+		note(INFO, "the same plan is written again: %u ports are in Initialize or Armed, %u name another master",
+		     not_active, of_others);
+}
+
+static void heard_write(const char *cause)
 {
 	if (!status.is_whole)
 		note(WARNING, "what is known is planned all the same, since --partial says so");
+	say_cause(cause);
 	began = now();
 	keep_plan();
 	status.is_settled = 0;
@@ -346,8 +358,8 @@ static void heard_note(const char *told)
 		heard_settled(not_active, of_others);
 	else if (!strcmp(told, "sweep"))
 		heard_sweep();
-	else if (!strcmp(told, "write"))
-		heard_write();
+	else if ((rest = behind(told, "write ")))
+		heard_write(rest);
 	else if (!strcmp(told, "handover"))
 		say_heir("HANDOVER", "standby");
 	else if (!strcmp(told, "yield"))
@@ -430,12 +442,10 @@ void leave(void)
 	be_no_manager();	/* or else its first sweep would find a master here, and it would stand by again */
 	has_handed_over = 0;
 	tell("leave");
-	while (has_handed_over && !handover_is_acknowledged() && now() < until && !manager_is_gone()) {
+	while (wake_time() != NEVER && now() < until && !manager_is_gone()) {
 		carry(LEAVING_MS);
 		tell_time_if_due();
-		if (wake_time() == NEVER && until > now() + ACKNOWLEDGED)	/* not every manager acknowledges it */
-			until = now() + ACKNOWLEDGED;
 	}
-	if (is_master() && has_handed_over && !handover_is_acknowledged())
+	if (is_master() && has_handed_over)
 		note(NOTICE, "nobody takes over");
 }

@@ -7,7 +7,7 @@
 #include <time.h>
 #include "../record/record.h"
 
-enum { SM_INFO = 0x20, MASTER = 3, HANDOVER = 1, ACKNOWLEDGE = 2, NO_LID = 0xffff };
+enum { SM_INFO = 0x20, MASTER = 3, HANDOVER = 1, NO_LID = 0xffff };
 enum class { LID_ROUTED_CLASS = 0x01, ADMINISTRATION_CLASS = 0x03, DIRECTED_CLASS = 0x81 };
 enum method { GET = 1, SET = 2, TRAP = 5, TRAP_REPRESS = 7, RESPONSE = 0x80 };
 enum administration_method { GET_TABLE = 0x12, GET_TRACE_TABLE = 0x13, GET_MULTI = 0x14, DELETE = 0x15 };
@@ -84,8 +84,6 @@ void send_packet(const struct packet *packet);
 void carry(int wait_ms);
 /* Forgets the requests that are out. */
 void drop_all(void);
-/* Returns whether another manager has acknowledged a HANDOVER since drop_all. */
-int handover_is_acknowledged(void);
 /* Unanswered requests since a sweep began, as texts; at most MOST_SILENT are kept. */
 enum { MOST_SILENT = 20, SILENT_TEXT = 120 };
 void begin_silent(void);

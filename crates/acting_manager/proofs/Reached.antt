@@ -12,13 +12,14 @@ use Rattle.sm_manager.specs.Packets.{after_packet}
 use Rattle.sm_manager.specs.Writing.{is_written}
 use Rattle.sm_manager.specs.declared.outgoing.Outgoing.{Outgoing}
 use Rattle.sm_state.specs.Standing.{one_more}
-use Rattle.sm_policy.specs.Judged.{judged, wrote}
+use Rattle.sm_policy.specs.Judged.{cause_of, judged, wrote}
 use Rattle.sm_policy.specs.Policy.{Decision, is_sweeping}
 use Rattle.sm_policy.specs.Resting.{rested}
 use Rattle.sm_policy.specs.Swept.{swept}
 use Rattle.sm_policy.specs.declared.act.Act.{Act}
 use Rattle.sm_policy.specs.declared.act.Act.TheVariants as act
 use Rattle.sm_policy.specs.declared.activity.Activity.{Activity}
+use Rattle.sm_policy.specs.declared.write_cause.WriteCause.{WriteCause}
 use Rattle.sm_policy.specs.declared.activity.Activity.TheVariants as activity
 use Rattle.request_window.specs.Window.{after_answer, after_drop_out, after_drop_queued, after_overdue, after_send, late_in}
 use Rattle.request_window.specs.declared.late.Late.{Late}
@@ -96,7 +97,8 @@ repeats (suc n) step each a = then (repeats n step each a) (each (repeated n ste
 
 hands_in : (request : Outgoing) (packet : List ℕ) (is_taken : Bool) → Calls (handed_in request packet is_taken)
 hands_in request packet is_taken a =
-    cond_both is_taken _ _ (λ (b : Acting). Goes a.manager a.newest b.manager b.newest) (λ _. none a.manager a.newest) (λ _. one a.manager a.newest (Call.Timeout (number_in transaction_id request.packet)))
+    cond_both is_taken _ _ (λ (b : Acting). Goes a.manager a.newest b.manager b.newest) (λ _. none a.manager a.newest)
+    (λ _. one a.manager a.newest (Call.Timeout (number_in transaction_id request.packet)))
 
 answers : (request : Option Outgoing) (packet : List ℕ) (from : Option ℕ) → Calls (answered request packet from)
 answers None packet from a = none a.manager a.newest
@@ -109,7 +111,9 @@ responds packet from a =
     answers (after_answer packet a.window).request packet from (record a { window = (after_answer packet a.window).window })
 
 requests : (packet : List ℕ) (from : Option ℕ) → Calls (requested packet from)
-requests packet from a = cond_both _ _ _ (λ (m : Manager). Goes a.manager a.newest m a.newest) (λ _. one a.manager a.newest (Call.Packet packet from)) (λ _. none a.manager a.newest)
+requests packet from a =
+    cond_both _ _ _ (λ (m : Manager). Goes a.manager a.newest m a.newest) (λ _. one a.manager a.newest (Call.Packet packet from))
+    (λ _. none a.manager a.newest)
 
 asks : (packet : List ℕ) (from : Option ℕ) → Calls (asked packet from)
 asks packet from a =
@@ -122,18 +126,18 @@ hears_by packet from None a =
 
 -- acts -------------------------------------------------------------------------------------------
 
-writes_if : (what : Act) (plan : Option PlanValue) → Calls (about_plan what plan)
-writes_if act.Write (Some plan) a = one a.manager a.newest Call.WriteSteps
-writes_if act.Write None a = none a.manager a.newest
-writes_if act.Settle plan a = one a.manager a.newest Call.Handover
-writes_if act.Wait plan a = none a.manager a.newest
-writes_if act.Poll plan a = none a.manager a.newest
-writes_if act.Announce plan a = none a.manager a.newest
-writes_if act.Sweep plan a = none a.manager a.newest
-writes_if act.Rediscover plan a = none a.manager a.newest
-writes_if act.HandOver plan a = none a.manager a.newest
-writes_if act.Yield plan a = none a.manager a.newest
-writes_if act.Judge plan a = none a.manager a.newest
+writes_if : (what : Act) (cause : WriteCause) (plan : Option PlanValue) → Calls (about_plan what cause plan)
+writes_if act.Write cause (Some plan) a = one a.manager a.newest Call.WriteSteps
+writes_if act.Write cause None a = none a.manager a.newest
+writes_if act.Settle cause plan a = one a.manager a.newest Call.Handover
+writes_if act.Wait cause plan a = none a.manager a.newest
+writes_if act.Poll cause plan a = none a.manager a.newest
+writes_if act.Announce cause plan a = none a.manager a.newest
+writes_if act.Sweep cause plan a = none a.manager a.newest
+writes_if act.Rediscover cause plan a = none a.manager a.newest
+writes_if act.HandOver cause plan a = none a.manager a.newest
+writes_if act.Yield cause plan a = none a.manager a.newest
+writes_if act.Judge cause plan a = none a.manager a.newest
 
 notes_unplanned : (plan : Option PlanValue) → Calls (noted_unplanned plan)
 notes_unplanned None a = none a.manager a.newest
@@ -150,7 +154,8 @@ does act.Yield a = one a.manager a.newest Call.Yield
 does act.Judge a =
     let plan = planned a.manager in
     let d = judged a.time (comparison_of a.kept plan) a.reads.ports a.policy in
-    then (notes_unplanned plan a) (writes_if d.act plan (record (noted_unplanned plan a) { policy = d.policy }))
+    let cause = cause_of (comparison_of a.kept plan) a.reads.ports a.policy in
+    then (notes_unplanned plan a) (writes_if d.act cause plan (record (noted_unplanned plan a) { policy = d.policy }))
 does act.Write a = none a.manager a.newest
 does act.Settle a = none a.manager a.newest
 
@@ -172,7 +177,8 @@ leaves_in activity.Hands a = none a.manager a.newest
 
 acts : Calls acted
 acts a =
-    cond_both a.is_leaving _ _ (λ (b : Acting). Goes a.manager a.newest b.manager b.newest) (λ _. leaves_in a.policy.activity a) (λ _. acts_in a.policy.activity a)
+    cond_both a.is_leaving _ _ (λ (b : Acting). Goes a.manager a.newest b.manager b.newest) (λ _. leaves_in a.policy.activity a)
+    (λ _. acts_in a.policy.activity a)
 
 acts_if_idle : Calls acted_if_idle
 acts_if_idle a =

@@ -15,7 +15,8 @@ abbrev pub after_all_told : List (ℕ × Told) → Acting → Acting
 after_all_told [] a = a
 after_all_told (told ∷ later) a = after_all_told later (after_told told.0 told.1 a)
 
--- whatever a manager that decides by itself is told, and when: its manager is what some calls leave of the one that it had
+-- whatever a manager that decides by itself is told, and when: its manager is what some calls leave of the one that it
+-- had
 abbrev pub ActsAreCalls : Type 0
 ActsAreCalls = (a : Acting) (told : List (ℕ × Told)) → IsReached a.manager (after_all_told told a).manager
 

@@ -1,5 +1,6 @@
 -- What a manager does when it decides: it asks its own manager to sweep, write, poll, hand over, and so on.
-use Rattle.std.specs.Prelude.{ℕ, Bool, true, false, ◌&&◌, List, [], ◌∷◌, ◌++◌, ◌==◌, if◌then◌else◌, Option, Some, None, is_none}
+use Rattle.std.specs.Prelude.{ℕ, Bool, true, false, ◌&&◌, List, [], ◌∷◌, ◌++◌, ◌==◌, if◌then◌else◌}
+use Rattle.std.specs.Prelude.{Option, Some, None, is_none}
 use Rattle.attr_codec.specs.declared.sm_info.SmInfo.{SmInfo}
 use Rattle.lft_blocks.specs.Plan.{PlanValue}
 use Rattle.sm_state.specs.Election.{greatest_in}
@@ -15,7 +16,7 @@ use Rattle.sm_manager.specs.Writing.{is_written}
 use Rattle.sm_manager.specs.declared.fault.ManagerFault.{ManagerFault}
 use Rattle.sm_manager.specs.declared.progress.Progress.{Progress}
 use Rattle.sm_manager.specs.declared.progress.Progress.TheVariants.{Done}
-use Rattle.sm_policy.specs.Judged.{failed, judged, writing, wrote}
+use Rattle.sm_policy.specs.Judged.{cause_of, failed, judged, writing, wrote}
 use Rattle.sm_policy.specs.Policy.{Decision, polled}
 use Rattle.sm_policy.specs.Resting.{handed, handing, rested}
 use Rattle.sm_policy.specs.Swept.{swept}
@@ -23,13 +24,14 @@ use Rattle.sm_policy.specs.declared.act.Act.{Act}
 use Rattle.sm_policy.specs.declared.act.Act.TheVariants as act
 use Rattle.sm_policy.specs.declared.activity.Activity.{Activity}
 use Rattle.sm_policy.specs.declared.activity.Activity.TheVariants as activity
+use Rattle.sm_policy.specs.declared.write_cause.WriteCause.{WriteCause}
 use Rattle.sm_policy.specs.declared.rival.Rival.{Rival}
 use Rattle.sm_policy.specs.declared.rival.Rival.TheVariants.{Lesser, Greater}
 use Rattle.acting_manager.specs.Acting.{Acting, noted}
 use Rattle.acting_manager.specs.Planned.{comparison_of, planned}
 use Rattle.acting_manager.specs.Reads.{no_reads}
 use Rattle.acting_manager.specs.declared.note.Note.{Note}
-use Rattle.acting_manager.specs.declared.note.Note.TheVariants.{Did, Refused, Settled, Swept, Wrote}
+use Rattle.acting_manager.specs.declared.note.Note.TheVariants.{Did, Refused, Settled, Swept, Writes, Wrote}
 
 -- with a note of what was done, if it was
 abbrev pub noted_if : Bool → Act → Acting → Acting
@@ -106,33 +108,33 @@ rival_seen m = rival_of (info_of m.standing) (greatest_in Master (info_of m.stan
 
 -- plans ------------------------------------------------------------------------------------------
 
--- a writing of `plan` was asked for, with the given fault
-abbrev pub writing_with : Option ManagerFault → PlanValue → Acting → Acting
-writing_with fault plan a =
-    noted_as (is_none fault) act.Write (record a {
+-- a writing of `plan` was asked for, for this cause, with the given fault
+abbrev pub writing_with : Option ManagerFault → WriteCause → PlanValue → Acting → Acting
+writing_with fault cause plan a =
+    noted (if is_none fault then Writes cause else Refused act.Write) (record a {
       manager = after_call a.manager Call.WriteSteps;
       policy = writing a.time (is_none fault) a.policy;
       kept = Some plan;
       is_void = false;
     })
 
--- `plan`, the plan of the manager's facts, is written
-abbrev pub writing_on : PlanValue → Acting → Acting
-writing_on plan a = writing_with (writing_fault a.manager) plan a
+-- `plan`, the plan of the manager's facts, is written for this cause
+abbrev pub writing_on : WriteCause → PlanValue → Acting → Acting
+writing_on cause plan a = writing_with (writing_fault a.manager) cause plan a
 
 -- nothing is left to write
 abbrev pub settling : Acting → Acting
 settling a = handing_over (noted (Settled a.reads.ports) a)
 
--- what is done about the given plan
-abbrev pub about_plan : Act → Option PlanValue → Acting → Acting
-about_plan act.Write (Some plan) a = writing_on plan a
-about_plan act.Settle plan a = settling a
-about_plan what plan a = a
+-- what is done about the given plan, which is written for this cause if it is
+abbrev pub about_plan : Act → WriteCause → Option PlanValue → Acting → Acting
+about_plan act.Write cause (Some plan) a = writing_on cause plan a
+about_plan act.Settle cause plan a = settling a
+about_plan what cause plan a = a
 
 -- the given plan was judged
-abbrev pub judged_on : Option PlanValue → Decision → Acting → Acting
-judged_on plan d a = about_plan d.act plan (record a { policy = d.policy })
+abbrev pub judged_on : Option PlanValue → WriteCause → Decision → Acting → Acting
+judged_on plan cause d a = about_plan d.act cause plan (record a { policy = d.policy })
 
 -- with a note if there is no plan
 abbrev pub noted_unplanned : Option PlanValue → Acting → Acting
@@ -142,7 +144,9 @@ noted_unplanned (Some plan) a = a
 -- the given plan is judged
 abbrev pub judging_of : Option PlanValue → Acting → Acting
 judging_of plan a =
-    judged_on plan (judged a.time (comparison_of a.kept plan) a.reads.ports a.policy) (noted_unplanned plan a)
+    judged_on plan (cause_of (comparison_of a.kept plan) a.reads.ports a.policy)
+    (judged a.time (comparison_of a.kept plan) a.reads.ports a.policy)
+    (noted_unplanned plan a)
 
 -- the plan of the manager's facts is judged
 abbrev pub judging_on : Acting → Acting
@@ -176,7 +180,7 @@ writing_over a = decided (wrote a.time (is_written a.manager) a.policy) (noted (
 
 -- the request of a handover is no longer out
 abbrev pub handing_on : Acting → Acting
-handing_on a = record a { policy = handed a.time a.policy }
+handing_on a = record a { policy = handed a.policy }
 
 -- what the manager does while no request is out or waits for its turn, by what it is about
 abbrev pub acted_in : Activity → Acting → Acting

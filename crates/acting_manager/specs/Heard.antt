@@ -1,9 +1,11 @@
 -- What a packet that reaches a manager does, besides the work that follows. InfiniBand Architecture Specification,
 -- Volume 1: subnet management, traps (128, 144), SMInfo (HANDOVER).
-use Rattle.std.specs.Prelude.{ℕ, ◌^◌, Bool, true, false, ◌&&◌, ◌||◌, not, List, nat_lt, ◌==◌, if◌then◌else◌, Option, Some, None, is_none}
+use Rattle.std.specs.Prelude.{ℕ, ◌^◌, Bool, true, false, ◌&&◌, ◌||◌, not, List, nat_lt, ◌==◌}
+use Rattle.std.specs.Prelude.{if◌then◌else◌, Option, Some, None, is_none}
 use Rattle.smp_bytes.specs.Field.{Field, bytes_in, number_in}
 use Rattle.smp_bytes.specs.Header.{set, sm_info}
-use Rattle.smp_bytes.specs.Packet.{attribute_data, attribute_id, attribute_modifier, fault_of, is_response, method, transaction_id}
+use Rattle.smp_bytes.specs.Packet.{attribute_data, attribute_id, attribute_modifier, fault_of}
+use Rattle.smp_bytes.specs.Packet.{is_response, method, transaction_id}
 use Rattle.smp_bytes.specs.declared.smp_fault.SmpFault.{SmpFault}
 use Rattle.attr_codec.specs.SmInfo.{sm_info_in}
 use Rattle.sm_state.specs.State.{number_of_state}
@@ -51,8 +53,8 @@ policy_after packet p = if answers_poll packet then polled (says_master packet) 
 abbrev pub told : List ℕ → Acting → Acting
 told packet a = record a { policy = policy_after packet a.policy; reads = after_read packet a.reads }
 
--- the answer `packet` to `request` was handed to the manager, which takes it or not: if the manager refuses it, as for a
--- status other than 0, the request is given up
+-- the answer `packet` to `request` was handed to the manager, which takes it or not: if the manager refuses it, as for
+-- a status other than 0, the request is given up
 abbrev pub handed_in : Outgoing → List ℕ → Bool → Acting → Acting
 handed_in request packet is_taken a = if is_taken then told packet a else given_up request a
 

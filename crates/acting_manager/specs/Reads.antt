@@ -1,6 +1,7 @@
 -- What a manager reads of ports while it sweeps: how many are not Active, and how many end ports name another master.
 -- InfiniBand Architecture Specification, Volume 1: subnet management, PortInfo (LID, MasterSMLID, PortState).
-use Rattle.std.specs.Prelude.{ℕ, ◌+◌, Bool, true, false, ◌&&◌, ◌||◌, not, List, nat_lt, ◌==◌, if◌then◌else◌, Option, Some, None}
+use Rattle.std.specs.Prelude.{ℕ, ◌+◌, Bool, true, false, ◌&&◌, ◌||◌, not, List, nat_lt, ◌==◌}
+use Rattle.std.specs.Prelude.{if◌then◌else◌, Option, Some, None}
 use Rattle.sm_state.specs.Standing.{one_more}
 use Rattle.smp_bytes.specs.Field.{bits_in, bytes_in, number_in}
 use Rattle.smp_bytes.specs.Header.{get_resp, port_info}
@@ -31,7 +32,8 @@ counted_if flag count = if flag then one_more count else count
 
 -- the LID of the manager's own port: the port that a path of no hops reaches is the one
 abbrev pub own_lid_by : List ℕ → ℕ → ℕ
-own_lid_by packet own = if number_in hop_count packet == 0 then number_in base_lid (bytes_in attribute_data packet) else own
+own_lid_by packet own =
+    if number_in hop_count packet == 0 then number_in base_lid (bytes_in attribute_data packet) else own
 
 -- the reads after the image of a port in `packet`. A sweep reads the manager's own port first
 abbrev pub with_image : List ℕ → Reads → Reads

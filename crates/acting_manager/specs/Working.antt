@@ -1,12 +1,14 @@
 -- What a manager that decides by itself does with each thing that it is told, and when it is to be told the time next.
 -- Times are in milliseconds, from any origin.
-use Rattle.std.specs.Prelude.{ℕ, zero, suc, Bool, true, false, ◌&&◌, ◌||◌, not, max, List, [], ◌∷◌, ◌++◌, length, nat_lt, ◌==◌, if◌then◌else◌, Option, Some, None}
+use Rattle.std.specs.Prelude.{ℕ, zero, suc, Bool, true, false, ◌&&◌, ◌||◌, not, max, List, [], ◌∷◌}
+use Rattle.std.specs.Prelude.{◌++◌, length, nat_lt, ◌==◌, if◌then◌else◌, Option, Some, None}
 use Rattle.sm_manager.specs.declared.outgoing.Outgoing.{Outgoing}
 use Rattle.sm_policy.specs.Policy.{is_master, is_sweeping, later_by, resumed, wanting}
 use Rattle.sm_policy.specs.Resting.{due_in}
 use Rattle.sm_policy.specs.declared.activity.Activity.{Activity}
 use Rattle.sm_policy.specs.declared.activity.Activity.TheVariants.{Rests, Writes}
-use Rattle.request_window.specs.Window.{Window, after_drop_out, after_drop_queued, after_overdue, after_send, cleared, late_in, next_deadline}
+use Rattle.request_window.specs.Window.{Window, after_drop_out, after_drop_queued, after_overdue}
+use Rattle.request_window.specs.Window.{after_send, cleared, late_in, next_deadline}
 use Rattle.request_window.specs.declared.late.Late.{Late}
 use Rattle.request_window.specs.declared.late.Late.TheVariants.{Again, GivenUp}
 use Rattle.request_window.specs.declared.out.Out.{Out}
@@ -120,8 +122,8 @@ abbrev pub not_before : ℕ → Option ℕ → Option ℕ
 not_before now None = None
 not_before now (Some time) = Some (max time now)
 
--- when the manager is to be told the time next, which is not before the time that it was told last; None if it waits for
--- packets alone, or has left
+-- when the manager is to be told the time next, which is not before the time that it was told last; None if it waits
+-- for packets alone, or has left
 abbrev pub wake_of : Acting → Option ℕ
 wake_of a = if a.is_leaving && is_resting a.policy.activity then None else not_before a.time (wake_in a)
 
@@ -173,8 +175,8 @@ leaving a =
 
 -- what a manager may be told -------------------------------------------------------------------------
 
--- nothing but the time; a packet, and the LID of its sender if that is known; that the operator asks for a sweep; that it
--- is to leave
+-- nothing but the time; a packet, and the LID of its sender if that is known; that the operator asks for a sweep; that
+-- it is to leave
 pub data Told : Type 0 where
   Time : Told
   Packet : (bytes : List ℕ) → (from : Option ℕ) → Told

@@ -1,5 +1,6 @@
 ghost use Rattle.std.specs.Prelude.{◌≡◌, ◌∷◌, ◌++◌, [], OnOk, drop, slice_get};
-ghost use Rattle.acting_manager.specs.Acting.{caught_up, collected, entered, given_out, looked, new_acting, noted, value_of};
+ghost use Rattle.acting_manager.specs.Acting.{caught_up, collected, entered, given_out, looked};
+ghost use Rattle.acting_manager.specs.Acting.{new_acting, noted, value_of};
 ghost use Rattle.acting_manager.specs.Acting.{is_request};
 
 use crate::note::Note;

@@ -37,7 +37,7 @@ impl ActingManager {
     {
         match self.policy.activity {
             Activity::Hands => {
-                self.policy.handed(self.time);
+                self.policy.end_handover();
                 Ok(())
             }
             Activity::Sweeps => self.yield_up(),
@@ -58,7 +58,7 @@ impl ActingManager {
             Activity::Sweeps => self.end_sweep(),
             Activity::Writes => self.end_writing(),
             Activity::Hands => {
-                self.policy.handed(self.time);
+                self.policy.end_handover();
                 Ok(())
             }
         }
@@ -197,7 +197,8 @@ fn is_whole(manager: &Manager) -> bool
     is_whole_by(manager.progress(), manager.silent_managers())
 }
 
-/// Returns whether a sweep with this `progress` has every answer but those of managers, of which `silent` have none.
+/// Returns whether `progress` is that of a sweep that has every answer but those of managers, of which `silent` have not
+/// answered.
 fn is_whole_by(progress: Progress, silent: Option<u64>) -> bool
     ensures { result ≡ is_whole_by progress silent }
 {

@@ -2,7 +2,8 @@
 ghost use Rattle.std.specs.Prelude.{◌≡◌, OnOk, length};
 ghost use Rattle.acting_manager.specs.Acting.{value_of};
 ghost use Rattle.acting_manager.specs.Working.{all_overdue, all_sent, dropped, is_given_up, is_writing, one_overdue};
-ghost use Rattle.acting_manager.specs.Working.{one_sent, out_dropped, queued_dropped, repeated, sent, sent_one, stopped};
+ghost use Rattle.acting_manager.specs.Working.{one_sent, out_dropped, queued_dropped, repeated};
+ghost use Rattle.acting_manager.specs.Working.{sent, sent_one, stopped};
 
 use crate::acting_manager::ActingManager;
 use request_window::Late;

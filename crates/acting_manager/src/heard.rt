@@ -3,7 +3,8 @@ ghost use Rattle.std.specs.Prelude.{◌≡◌, None, Some, OnOk, Option};
 ghost use Rattle.smp_bytes.specs.Packet.{fault_of};
 ghost use Rattle.sm_manager.specs.Packets.{HasSender};
 ghost use Rattle.acting_manager.specs.Acting.{value_of};
-ghost use Rattle.acting_manager.specs.Heard.{answered, asked, answers_poll, given_up, hands_over, heard, heard_packet, is_handed, is_trap};
+ghost use Rattle.acting_manager.specs.Heard.{answered, asked, answers_poll, given_up, hands_over};
+ghost use Rattle.acting_manager.specs.Heard.{heard, heard_packet, is_handed, is_trap};
 ghost use Rattle.acting_manager.specs.Heard.{policy_after, policy_asked, requested, responded, says_master};
 ghost use Rattle.acting_manager.specs.Heard.{tells_change, timed_out, told};
 

@@ -12,7 +12,7 @@ use crate::note::Note;
 use crate::plans::comparison_of;
 use plan_steps::Plan;
 use sm_manager::{Manager, ManagerFault};
-use sm_policy::Act;
+use sm_policy::{Act, WriteCause};
 use std::alloc::AllocError;
 
 impl ActingManager {
@@ -30,8 +30,9 @@ impl ActingManager {
     {
         self.note_unplanned(&plan)?;
         let comparison = comparison_of(&self.kept, &plan);
+        let cause = self.policy.cause(comparison, self.reads.ports);
         let act = self.policy.judge(self.time, comparison, self.reads.ports);
-        self.do_about(act, plan)
+        self.do_about(act, cause, plan)
     }
 
     /// Notes that there is no plan, if `plan` is `None`.
@@ -44,26 +45,35 @@ impl ActingManager {
         }
     }
 
-    /// Does `act` about `plan`: writes it, notes that it stands, or does nothing.
-    fn do_about(&mut self, act: Act, plan: Option<Plan>) -> Result<(), AllocError>
-        ensures { OnOk result (value_of self.new ≡ about_plan act plan (value_of self.old)) }
+    /// Does `act` about `plan`: writes it for `cause`, notes that it stands, or does nothing.
+    fn do_about(
+        &mut self,
+        act: Act,
+        cause: WriteCause,
+        plan: Option<Plan>,
+    ) -> Result<(), AllocError>
+        ensures { OnOk result (value_of self.new ≡ about_plan act cause plan (value_of self.old)) }
     {
         match (act, plan) {
-            (Act::Write, Some(plan)) => self.write(plan),
+            (Act::Write, Some(plan)) => self.write(cause, plan),
             (Act::Settle, _) => self.settle(),
             (_, _) => Ok(()),
         }
     }
 
-    /// Begins to write `plan`, the plan of the manager's facts, and keeps it.
-    fn write(&mut self, plan: Plan) -> Result<(), AllocError>
-        ensures { OnOk result (value_of self.new ≡ writing_on plan (value_of self.old)) }
+    /// Begins to write `plan`, the plan of the manager's facts, for `cause`, and keeps it.
+    fn write(&mut self, cause: WriteCause, plan: Plan) -> Result<(), AllocError>
+        ensures { OnOk result (value_of self.new ≡ writing_on cause plan (value_of self.old)) }
     {
         let has_begun = asks::write_steps(&mut self.manager)?;
         self.policy.write(self.time, has_begun);
         self.kept = Some(plan);
         self.is_void = false;
-        self.note_as(has_begun, Act::Write)
+        self.note(if has_begun {
+            Note::Writes(cause)
+        } else {
+            Note::Refused(Act::Write)
+        })
     }
 
     /// Notes that nothing is left to write. Then hands over to a manager that wins over this one, if there is one.

@@ -1,4 +1,4 @@
-use sm_policy::{Act, Ports};
+use sm_policy::{Act, Ports, WriteCause};
 use sm_state::SmState;
 use smp_bytes::Smp;
 
@@ -18,7 +18,10 @@ pub enum Note {
     /// Nothing is left to write, but for what these ports need: those that it could not bring up, and those that name
     /// another master.
     Settled(Ports),
-    /// It did this. For `Announce`, the caller has to have the port say anew that a manager is here.
+    /// It began to write its plan, for this cause.
+    Writes(WriteCause),
+    /// It did this, which is not `Write`. For `Announce`, the caller has to have the port say anew that a manager is
+    /// here.
     Did(Act),
     /// It would have done this, but could not: `Sweep`, `Write`, or `Judge` if its facts have no plan.
     Refused(Act),

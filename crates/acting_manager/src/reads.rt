@@ -31,8 +31,8 @@ impl Reads {
         }
     }
 
-    /// Notes `packet`, the answer to a request: if it has the image of a port, counts the port if it is in Initialize or
-    /// Armed, and if it is an end port that names another master.
+    /// Notes `packet`, the answer to a request: if it has the image of a port, counts the port if it is in Initialize
+    /// or Armed, and if it is an end port that names another master.
     pub(crate) fn read(&mut self, packet: &Smp)
         ensures { self.new ≡ after_read packet.now self.old }
     {

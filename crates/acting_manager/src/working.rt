@@ -77,8 +77,8 @@ impl ActingManager {
         self.work()
     }
 
-    /// Returns when the manager is to be told the time next, which is not before the time that it was told last. Returns
-    /// `None` if it waits for packets alone, or has left.
+    /// Returns when the manager is to be told the time next, which is not before the time that it was told last.
+    /// Returns `None` if it waits for packets alone, or has left.
     pub fn wake(&self) -> Option<u64>
         ensures { result ≡ wake_of (value_of self.now) }
     {
@@ -125,8 +125,8 @@ impl ActingManager {
         self.note(Note::Paused)
     }
 
-    /// Begins to leave, unless the manager leaves already: hands over once its sweep is over if one runs, which sees the
-    /// heirs, and otherwise at once.
+    /// Begins to leave, unless the manager leaves already: hands over once its sweep is over if one runs, which sees
+    /// the heirs, and otherwise at once.
     fn begin_to_leave(&mut self) -> Result<(), AllocError>
         ensures { OnOk result (value_of self.new ≡ leaving (value_of self.old)) }
     {

@@ -2,7 +2,8 @@
 ghost use Rattle.std.specs.Prelude.{◌≡◌, codes, is_some, option_and_then};
 ghost use Rattle.clap.specs.Matches.{first_value, found_of};
 ghost use Rattle.cli_task.specs.OptionValues.{floor_asked, lmc_asked, max_load_asked, number_in, number_or};
-ghost use Rattle.cli_task.specs.OptionValues.{planning_asked, rule_asked, order_asked, within, balance_asked, spread_asked, guid_asked};
+ghost use Rattle.cli_task.specs.OptionValues.{planning_asked, rule_asked, order_asked, within};
+ghost use Rattle.cli_task.specs.OptionValues.{balance_asked, spread_asked, guid_asked};
 ghost use Rattle.cli_task.specs.OptionValues.{limits_asked, newest_asked, port_asked, priority_asked, sm_key_asked};
 ghost use Rattle.cli_task.specs.OptionValues.{timing_asked, way_asked};
 

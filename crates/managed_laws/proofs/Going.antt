@@ -14,13 +14,14 @@ use Rattle.sm_manager.specs.Packets.{after_packet}
 use Rattle.sm_manager.specs.Writing.{is_written}
 use Rattle.sm_manager.specs.declared.outgoing.Outgoing.{Outgoing}
 use Rattle.sm_state.specs.Standing.{one_more}
-use Rattle.sm_policy.specs.Judged.{judged, wrote}
+use Rattle.sm_policy.specs.Judged.{cause_of, judged, wrote}
 use Rattle.sm_policy.specs.Policy.{Decision, is_sweeping}
 use Rattle.sm_policy.specs.Resting.{rested}
 use Rattle.sm_policy.specs.Swept.{swept}
 use Rattle.sm_policy.specs.declared.act.Act.{Act}
 use Rattle.sm_policy.specs.declared.act.Act.TheVariants as act
 use Rattle.sm_policy.specs.declared.activity.Activity.{Activity}
+use Rattle.sm_policy.specs.declared.write_cause.WriteCause.{WriteCause}
 use Rattle.sm_policy.specs.declared.activity.Activity.TheVariants as activity
 use Rattle.request_window.specs.Window.{after_answer, after_drop_out, after_drop_queued, after_overdue, after_send, answers as is_answered, late_in}
 use Rattle.request_window.specs.declared.late.Late.{Late}
@@ -246,18 +247,18 @@ module _ (what : Told) where
 
   -- acts -----------------------------------------------------------------------------------------
 
-  writes_if : (what : Act) (plan : Option PlanValue) → Steps (about_plan what plan)
-  writes_if act.Write (Some plan) a = calls a _ Call.WriteSteps tt refl refl (same a _ refl refl)
-  writes_if act.Write None a = still a a refl refl refl refl
-  writes_if act.Settle plan a = calls a _ Call.Handover tt refl refl (same a _ refl refl)
-  writes_if act.Wait plan a = still a a refl refl refl refl
-  writes_if act.Poll plan a = still a a refl refl refl refl
-  writes_if act.Announce plan a = still a a refl refl refl refl
-  writes_if act.Sweep plan a = still a a refl refl refl refl
-  writes_if act.Rediscover plan a = still a a refl refl refl refl
-  writes_if act.HandOver plan a = still a a refl refl refl refl
-  writes_if act.Yield plan a = still a a refl refl refl refl
-  writes_if act.Judge plan a = still a a refl refl refl refl
+  writes_if : (what : Act) (cause : WriteCause) (plan : Option PlanValue) → Steps (about_plan what cause plan)
+  writes_if act.Write cause (Some plan) a = calls a _ Call.WriteSteps tt refl refl (same a _ refl refl)
+  writes_if act.Write cause None a = still a a refl refl refl refl
+  writes_if act.Settle cause plan a = calls a _ Call.Handover tt refl refl (same a _ refl refl)
+  writes_if act.Wait cause plan a = still a a refl refl refl refl
+  writes_if act.Poll cause plan a = still a a refl refl refl refl
+  writes_if act.Announce cause plan a = still a a refl refl refl refl
+  writes_if act.Sweep cause plan a = still a a refl refl refl refl
+  writes_if act.Rediscover cause plan a = still a a refl refl refl refl
+  writes_if act.HandOver cause plan a = still a a refl refl refl refl
+  writes_if act.Yield cause plan a = still a a refl refl refl refl
+  writes_if act.Judge cause plan a = still a a refl refl refl refl
 
   notes_unplanned : (plan : Option PlanValue) (a b : Acting) → Goes (noted_unplanned plan a) b → Goes a b
   notes_unplanned None a b s = thus a (noted_unplanned None a) b (still a _ refl refl refl refl) s
@@ -280,8 +281,9 @@ module _ (what : Told) where
   does act.Judge a =
       let plan = planned a.manager in
       let d = judged a.time (comparison_of a.kept plan) a.reads.ports a.policy in
+      let cause = cause_of (comparison_of a.kept plan) a.reads.ports a.policy in
       let b = record (noted_unplanned plan a) { policy = d.policy } in
-      notes_unplanned plan a _ (thus (noted_unplanned plan a) b _ (still (noted_unplanned plan a) b refl refl refl refl) (writes_if d.act plan b))
+      notes_unplanned plan a _ (thus (noted_unplanned plan a) b _ (still (noted_unplanned plan a) b refl refl refl refl) (writes_if d.act cause plan b))
   does act.Write a = still a a refl refl refl refl
   does act.Settle a = still a a refl refl refl refl
 

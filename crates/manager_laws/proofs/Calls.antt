@@ -3,7 +3,7 @@ use Rattle.std.proofs.Common.{◌≡◌, ◌⊎◌, inl, inr, ℕ, ◌+◌, ◌<
 use Rattle.std.proofs.lemmas.List.Elements.{Contains-append_left, Contains-append_cases}
 use Rattle.std.proofs.lemmas.Bool.{cond_both, and_parts, and_from, eqb-true, ltb-false, ltb-true}
 use Rattle.std.proofs.lemmas.List.{append_assoc, append-nil, length-drop, length-replicate, length-take-le}
-use Rattle.std.specs.Prelude.{Contains, Option, Some, None, drop, is_none, nat_le, nat_lt, not, option_and_then, slice_get, if◌then◌else◌, ◌==◌}
+use Rattle.std.specs.Prelude.{Contains, IfSome, Option, Some, None, drop, is_none, nat_le, nat_lt, not, option_and_then, option_map, slice_get, if◌then◌else◌, ◌==◌}
 use Rattle.fabric_model.specs.declared.cable.NodePort.{NodePort}
 use Rattle.smp_bytes.specs.declared.smp_fault.SmpFault.{SmpFault}
 use Rattle.fabric_model.specs.Cables.{is_same_port}
@@ -25,6 +25,9 @@ use Rattle.lft_blocks.specs.Plan.{PlanValue}
 use Rattle.subnet_view.proofs.Apart.{found_there}
 use Rattle.subnet_view.proofs.Members.{contains_cases, contains_none}
 use Rattle.sm_state.specs.declared.control.Control.{Control}
+use Rattle.sm_state.specs.declared.control.Control.TheVariants as control
+use Rattle.sm_state.specs.declared.election.SeenManager.{SeenManager}
+use Rattle.sm_state.specs.Conduct.{is_live}
 use Rattle.sm_state.specs.declared.event.Message.{Message}
 use Rattle.sm_state.specs.declared.transition.Transition.{Transition}
 use Rattle.sm_state.specs.Control.{control_of_message, modifier_of_control}
@@ -35,18 +38,20 @@ use Rattle.sm_manager.specs.declared.pending.Pending.{Pending}
 use Rattle.sm_manager.specs.declared.pending.Purpose.{Purpose}
 use Rattle.sm_manager.specs.declared.pending.Purpose.TheVariants as purpose
 use Rattle.sm_state.specs.declared.standing.Standing.{Standing}
-use Rattle.sm_manager.specs.Election.{asked, control_sent, after_handover, handed_to, handover_fault, handover_move}
-use Rattle.sm_manager.specs.Election.{successor_lid, poll_fault, after_poll, after_message, if_way_out, is_way_out}
-use Rattle.sm_manager.specs.Election.{after_rediscover, after_yield, heir_lid, rediscover_fault, yield_fault}
-use Rattle.sm_manager.specs.Election.{path_seen, poll_out, poll_path, polled, polled_path, unless_way}
+use Rattle.sm_manager.specs.Election.{along, asked, after_handover, handed_to, handing_fault, handover_fault, handover_move, heir, info_out}
+use Rattle.sm_manager.specs.Election.{successor, planned_fault, planned_way, poll_fault, after_poll, after_message, if_way_out, is_way_out}
+use Rattle.sm_manager.specs.Election.{after_rediscover, after_yield, receiver_fault, receiver_lid, receiver_way, rediscover_fault, yield_fault}
+use Rattle.sm_manager.specs.Election.{path_seen, poll_way, polled, polled_by, unless_way, way_seen}
+use Rattle.sm_manager.specs.declared.way.Way.{Way}
+use Rattle.sm_manager.specs.declared.way.Way.TheVariants.{Along, ToLid}
 use Rattle.sm_manager.specs.PlanFaults.{number_fault, or_else}
 use Rattle.sm_manager.specs.declared.fault.ManagerFault.{ManagerFault}
-use Rattle.sm_manager.specs.declared.fault.ManagerFault.TheVariants.{NotStandby, SequenceSpent}
+use Rattle.sm_manager.specs.declared.fault.ManagerFault.TheVariants.{NotMaster, NotStandby, SequenceSpent}
 use Rattle.sm_manager.specs.Manager.{Manager}
 use Rattle.sm_manager.specs.Packets.{Called, answers, after_timeout, is_for_sweep, is_info_request, packet_taken, pending_for, request_answered}
 use Rattle.sm_manager.specs.Packets.{request_gave_up, after_request, after_packet, unless_spent}
 use Rattle.sm_manager.specs.ManagerRequests.{is_for_step, is_step, with_number}
-use Rattle.sm_manager.specs.SmInfoAnswers.{acknowledged_at, answer_data, answer_out, answering, controlled, is_control, moved_on, replying, request_counted, served, status_for}
+use Rattle.sm_manager.specs.SmInfoAnswers.{acknowledged_by, answer_data, answer_out, answering, controlled, is_control, moved_on, replying, request_counted, served, status_for}
 use Rattle.sm_manager.specs.Traps.{represses, repress_out, repressing, trap_repress}
 use Rattle.sm_state.specs.Standing.{after_request_heard, info_of, info_with, is_in, moved_by, moved_to}
 use Rattle.sm_state.specs.declared.state.SmState.TheVariants.{Standby}
@@ -102,16 +107,61 @@ length-sm_info info =
 length-data : (packet : List ℕ) → length packet ≡ 256 → length (bytes_in attribute_data packet) ≡ 64
 length-data packet long = length-take-le 64 (drop 64 packet) (omega (arith, length-drop 64 packet, long))
 
--- a poll that is not refused has a way, and a number
-fault_parts : (stands_by : Bool) (way : Option ManagerFault) (counter : ℕ)
-    → cond stands_by (or_else way (number_fault (counter + 1))) (Some NotStandby) ≡ None → (way ≡ None) × (counter < 2 ^ 32)
-fault_parts false way counter e = absurd (cc)
-fault_parts true (Some why) counter e = absurd (cc)
-fault_parts true None counter e = (refl, by_test (nat_lt (2 ^ 32) (counter + 1)) refl e)
+-- a way that a request with the given number may go from the given port
+abbrev IsWay : ℕ → ℕ → Way → Type 0
+IsWay port number (ToLid lid) = Unit {0}
+IsWay port number (Along path) = (is_way_out port path ≡ true) × (number < 2 ^ 32)
+
+few_controls : (control : Control) → modifier_of_control control < 2 ^ 32
+few_controls control.Handover = omega arith
+few_controls control.Acknowledge = omega arith
+few_controls control.Disable = omega arith
+few_controls control.Standby = omega arith
+few_controls control.Discover = omega arith
+
+to_lid : (port number : ℕ) (lid : Option ℕ) → IfSome (option_map ToLid lid) (IsWay port number)
+to_lid port number None = tt
+to_lid port number (Some lid) = tt
+
+along_path : (port number : ℕ) (path : Option (List ℕ)) → number < 2 ^ 32 → IfSome (along (if_way_out port path)) (IsWay port number)
+along_path port number None few = tt
+along_path port number (Some path) few = by_test (is_way_out port path) refl
+  where
+    by_test : (b : Bool) → is_way_out port path ≡ b → IfSome (along (cond b (Some path) None)) (IsWay port number)
+    by_test true is = (is, few)
+    by_test false is = tt
+
+poll_is_way : (m : Manager) (lid : Option ℕ) → m.counter < 2 ^ 32 → IfSome (poll_way m lid) (IsWay m.port m.counter)
+poll_is_way m (Some lid) few = tt
+poll_is_way m None few = along_path m.port m.counter (option_and_then (path_seen m.sweep) (polled m)) few
+
+-- there is a number
+number_there : (way : Option ManagerFault) (counter : ℕ) → or_else way (number_fault (counter + 1)) ≡ None → counter < 2 ^ 32
+number_there (Some why) counter e = absurd (cc)
+number_there None counter e = by_test (nat_lt (2 ^ 32) (counter + 1)) refl e
   where
     by_test : (b : Bool) → nat_lt (2 ^ 32) (counter + 1) ≡ b → cond b (Some SequenceSpent) None ≡ None → counter < 2 ^ 32
     by_test true is e = absurd (cc)
     by_test false is e = let most = ltb-false _ _ is in omega (arith, most)
+
+-- for a poll that is not refused
+polled_number : (stands_by : Bool) (way : Option ManagerFault) (counter : ℕ)
+    → cond stands_by (or_else way (number_fault (counter + 1))) (Some NotStandby) ≡ None → counter < 2 ^ 32
+polled_number false way counter e = absurd (cc)
+polled_number true way counter e = number_there way counter e
+
+-- for a handover that is not refused
+receiver_is_way : (m : Manager) (receiver : Option SeenManager) → handing_fault m receiver ≡ None → IfSome (receiver_way m receiver) (IsWay m.port m.counter)
+receiver_is_way m receiver none = by_conduct (is_live m.standing.conduct) (may_go (is_none (handover_move m).message) none)
+  where
+    may_go : (b : Bool) → cond b (Some NotMaster) (receiver_fault m receiver) ≡ None → receiver_fault m receiver ≡ None
+    may_go true e = absurd (cc)
+    may_go false e = e
+
+    by_conduct : (b : Bool) → cond b (or_else (unless_way (way_seen m receiver)) (number_fault (m.counter + 1))) (planned_fault m receiver) ≡ None
+        → IfSome (cond b (way_seen m receiver) (planned_way m receiver)) (IsWay m.port m.counter)
+    by_conduct true e = along_path m.port m.counter (option_and_then (path_seen m.sweep) receiver) (number_there (unless_way (way_seen m receiver)) m.counter e)
+    by_conduct false e = to_lid m.port m.counter (receiver_lid m receiver)
 
 no_fault : (o : Option ManagerFault) → is_none o ≡ true → o ≡ None
 no_fault None e = refl
@@ -228,27 +278,15 @@ module _ (start : Simulation) (seat : NodePort) (plan : PlanValue) (g : Ground s
       only : (q : Pending) → Contains (waits ∷ []) q → waits ≡ q
       only q k = elim (contains_cases waits q [] k) [ inl i ↦ i | inr none ↦ absurd (contains_none q none) ]
 
-  -- by LIDs
-  asks : (m : Manager) → SweepSide start seat old m → AreOnce m.counter m.pending → (waits : Pending) (out : Outgoing) → waits.number ≡ m.counter
-      → is_step waits ≡ false
-      → length out.packet ≡ 256 → is_directed out.packet ≡ false → SetsInfoAlone out.packet → Beside m (asked m waits out)
-  unfolding Beside
-  asks m side once waits out number other count by_lids sets =
-      asks_own m side once waits out number other (λ c all. lid_own start seat plan c all handed out count by_lids sets)
-
-  -- a poll, by LIDs or over a path that leaves by the seat's port
-  module _ (c : ℕ) (all : List StepSent) (number port : ℕ) (here : port ≡ seat.port) (few : number < 2 ^ 32) where
-    lid_poll : (lid : ℕ) → IsOwnPacket start seat plan c all handed (poll_out number (Some lid) None)
-    lid_poll lid =
-        let whole = length-replicate {A = ℕ} 64 0 in
-        lid_own start seat plan c all handed (poll_out number (Some lid) None) (length-lid_routed get sm_info 0 number (replicate 64 0) whole)
-        (not_directed get sm_info 0 number (replicate 64 0) whole) (info_alone get 0 number (replicate 64 0) whole)
-
-    path_poll : (path : List ℕ) → is_way_out port path ≡ true → IsOwnPacket start seat plan c all handed (poll_out number None (Some path))
-    path_poll [] is = absurd (cc)
-    path_poll (first ∷ path) is =
-        path_own start seat plan c all handed get sm_info 0 number (first ∷ path) (replicate 64 0) fits (omega arith) short
-        (eqb-true _ _ parts.0 ∙ here) (inl (inr (inr reads.attribute_id, reads.method)))
+  -- a request for SMInfo, by LIDs or over a path that leaves by the seat's port
+  module _ (c : ℕ) (all : List StepSent) (method_number modifier number : ℕ) (payload : List ℕ) (whole : length payload ≡ 64)
+      (low : method_number < 2 ^ 7) (small : modifier < 2 ^ 32) where
+    by_path : (port : ℕ) → port ≡ seat.port → (path : List ℕ) → is_way_out port path ≡ true → number < 2 ^ 32
+        → IsOwnPacket start seat plan c all handed (info_out method_number modifier number (Along path) payload)
+    by_path port here [] is few = absurd (cc)
+    by_path port here (first ∷ path) is few =
+        path_own start seat plan c all handed method_number sm_info modifier number (first ∷ path) payload fits low short
+        (eqb-true _ _ parts.0 ∙ here) (inl (inr (inr reads.attribute_id, λ _. reads.attribute_id)))
       where
         parts : ((first == port) ≡ true) × (nat_lt (length path) max_hops ≡ true)
         parts = and_parts (first == port) (nat_lt (length path) max_hops) is
@@ -256,53 +294,47 @@ module _ (start : Simulation) (seat : NodePort) (plan : PlanValue) (g : Ground s
         short : length (first ∷ path) ≤ 63
         short = let less = ltb-true _ _ parts.1 in omega (arith, less)
 
-        fits : FitsRequest get sm_info 0 number (replicate 64 0)
+        fits : FitsRequest method_number sm_info modifier number payload
         fits =
             record {
-              method = omega arith;
+              method = omega (arith, low);
               attribute_id = omega arith;
-              attribute_modifier = omega arith;
+              attribute_modifier = small;
               transaction_id = omega (arith, few);
-              attribute_data = length-replicate {A = ℕ} 64 0;
+              attribute_data = whole;
             }
 
-        reads : HoldsRequest (directed get sm_info 0 number (first ∷ path) (replicate 64 0)) get sm_info 0 number (replicate 64 0)
-        reads = (directed_reads_back get sm_info 0 number (first ∷ path) (replicate 64 0) fits short).0
+        reads : HoldsRequest (directed method_number sm_info modifier number (first ∷ path) payload) method_number sm_info modifier number payload
+        reads = (directed_reads_back method_number sm_info modifier number (first ∷ path) payload fits short).0
 
-    seen_poll : (path : Option (List ℕ)) → unless_way None (if_way_out port path) ≡ None
-        → IsOwnPacket start seat plan c all handed (poll_out number None (if_way_out port path))
-    seen_poll None some = absurd (cc)
-    seen_poll (Some path) some = by_test (is_way_out port path) refl some
-      where
-        by_test : (b : Bool) → is_way_out port path ≡ b → unless_way None (cond b (Some path) None) ≡ None
-            → IsOwnPacket start seat plan c all handed (poll_out number None (cond b (Some path) None))
-        by_test true is some = path_poll path is
-        by_test false is some = absurd (cc)
+    by_way : (port : ℕ) → port ≡ seat.port → (way : Way) → IsWay port number way
+        → IsOwnPacket start seat plan c all handed (info_out method_number modifier number way payload)
+    by_way port here (ToLid lid) is =
+        lid_own start seat plan c all handed (info_out method_number modifier number (ToLid lid) payload)
+        (length-lid_routed method_number sm_info modifier number payload whole)
+        (not_directed method_number sm_info modifier number payload whole) (info_alone method_number modifier number payload whole)
+    by_way port here (Along path) is = by_path port here path is.0 is.1
 
   polls : (m : Manager) → SweepSide start seat old m → AreOnce m.counter m.pending → (lid : Option ℕ) → poll_fault m lid ≡ None → Beside m (after_poll m lid)
-  polls m side once lid none = asks_own m side once _ _ refl refl (λ c all. own c all lid parts.0)
+  polls m side once lid none = by_a_way (poll_way m lid) (poll_is_way m lid few)
     where
-      parts : (unless_way lid (polled_path m) ≡ None) × (m.counter < 2 ^ 32)
-      parts = fault_parts (is_in Standby m.standing) (unless_way lid (polled_path m)) m.counter none
+      few : m.counter < 2 ^ 32
+      few = polled_number (is_in Standby m.standing) (unless_way (poll_way m lid)) m.counter none
 
-      own : (c : ℕ) (all : List StepSent) (to : Option ℕ) → unless_way to (polled_path m) ≡ None
-          → IsOwnPacket start seat plan c all handed (poll_out m.counter to (poll_path m to))
-      own c all (Some to) way = lid_poll c all m.counter m.port side.port parts.1 to
-      own c all None way = seen_poll c all m.counter m.port side.port parts.1 (option_and_then (path_seen m.sweep) (polled m)) way
+      by_a_way : (to : Option Way) → IfSome to (IsWay m.port m.counter) → Beside m (polled_by m to)
+      by_a_way None is = stays m side once
+      by_a_way (Some way) is =
+          asks_own m side once _ _ refl refl (λ c all. by_way c all get 0 m.counter (replicate 64 0) (length-replicate {A = ℕ} 64 0) (omega arith) (omega arith)
+          m.port side.port way is)
 
-  controls : (m : Manager) → SweepSide start seat old m → AreOnce m.counter m.pending → (lid : ℕ) (control : Control) → Beside m (control_sent m lid control)
-  controls m side once lid control =
-      let payload = sm_info_bytes (info_with control m.standing) in
-      let whole = length-sm_info (info_with control m.standing) in
-      asks m side once _ _ refl refl (length-lid_routed set sm_info (modifier_of_control control) m.counter payload whole)
-      (not_directed set sm_info (modifier_of_control control) m.counter payload whole)
-      (info_alone set (modifier_of_control control) m.counter payload whole)
-
-  tells : (m : Manager) → SweepSide start seat old m → AreOnce m.counter m.pending → (lid : Option ℕ) (message : Option Message)
-      → Beside m (after_message m lid message)
-  tells m side once None message = stays m side once
-  tells m side once (Some lid) None = stays m side once
-  tells m side once (Some lid) (Some message) = controls m side once lid (control_of_message message)
+  tells : (m : Manager) → SweepSide start seat old m → AreOnce m.counter m.pending → (to : Option Way) (message : Option Message)
+      → IfSome to (IsWay m.port m.counter) → Beside m (after_message m to message)
+  tells m side once None message is = stays m side once
+  tells m side once (Some way) None is = stays m side once
+  tells m side once (Some way) (Some message) is =
+      let control = control_of_message message in
+      asks_own m side once _ _ refl refl (λ c all. by_way c all set (modifier_of_control control) m.counter (sm_info_bytes (info_with control m.standing))
+      (length-sm_info (info_with control m.standing)) (omega arith) (few_controls control) m.port side.port way is)
 
   -- it is in another state
   moves : (m : Manager) → SweepSide start seat old m → AreOnce m.counter m.pending → (standing : Standing) → Beside m (record m { standing = standing })
@@ -380,7 +412,12 @@ module _ (start : Simulation) (seat : NodePort) (plan : PlanValue) (g : Ground s
           let small : status_of move < 2 ^ 15 = cond_both move.is_refused _ _ (λ (n : ℕ). n < 2 ^ 15) (λ _. omega arith) (λ _. omega arith) in
           let two = answers_it in_state one.side one.once lid (status_of move) small in
           let answered = answering in_state h.packet.bytes lid (status_of move) in
-          both m in_state _ one (both in_state answered _ two (tells answered two.side two.once (acknowledged_at h.packet.bytes lid) move.message))
+          both m in_state _ one (both in_state answered _ two (tells answered two.side two.once (acknowledged_by h.packet.bytes lid) move.message acknowledged))
+        where
+          acknowledged : IfSome (acknowledged_by h.packet.bytes lid) (IsWay m.port m.counter)
+          acknowledged =
+              cond_both (is_directed h.packet.bytes) None (option_map ToLid lid) (λ (o : Option Way). IfSome o (IsWay m.port m.counter)) (λ _. tt)
+              (λ _. to_lid m.port m.counter lid)
 
       replies : Beside m (answering m h.packet.bytes lid (status_for h.packet.bytes))
       replies = answers_it m side once lid (status_for h.packet.bytes) small
@@ -470,20 +507,22 @@ module _ (start : Simulation) (seat : NodePort) (plan : PlanValue) (g : Ground s
         cond_both (is_none (poll_fault m lid)) _ _ (λ (x : Manager). BesideCall start seat plan old handed m x)
         (λ e. polls m side once lid (no_fault (poll_fault m lid) e)) (λ _. stays m side once)
 
-    hands : (fault : Option ManagerFault) (lid : Option ℕ) → BesideCall start seat plan old handed m (if is_none fault then handed_to m lid else m)
+    hands : (receiver : Option SeenManager)
+        → BesideCall start seat plan old handed m (if is_none (handing_fault m receiver) then handed_to m (receiver_way m receiver) else m)
     unfolding Beside
-    hands fault lid =
+    hands receiver =
         let standing = moved_to (handover_move m).state m.standing in
         let one = moves m side once standing in
-        cond_both (is_none fault) (handed_to m lid) m (λ (x : Manager). BesideCall start seat plan old handed m x)
-        (λ _. both m (record m { standing = standing }) _ one (tells (record m { standing = standing }) one.side one.once lid (handover_move m).message))
+        cond_both (is_none (handing_fault m receiver)) (handed_to m (receiver_way m receiver)) m (λ (x : Manager). BesideCall start seat plan old handed m x)
+        (λ e. both m (record m { standing = standing }) _ one (tells (record m { standing = standing }) one.side one.once (receiver_way m receiver)
+        (handover_move m).message (receiver_is_way m receiver (no_fault (handing_fault m receiver) e))))
         (λ _. stays m side once)
 
     pub hands_over : BesideCall start seat plan old handed m (if is_none (handover_fault m) then after_handover m else m)
-    hands_over = hands (handover_fault m) (successor_lid m)
+    hands_over = hands (successor m)
 
     pub yields : BesideCall start seat plan old handed m (if is_none (yield_fault m) then after_yield m else m)
-    yields = hands (yield_fault m) (heir_lid m)
+    yields = hands (heir m)
 
     pub rediscovers : BesideCall start seat plan old handed m (if is_none (rediscover_fault m) then after_rediscover m else m)
     unfolding Beside

@@ -141,7 +141,10 @@ module _ (start : Simulation) (seat : NodePort) (plan : PlanValue) where
       subst (IsOwnPacket c all handed) (sym a.is)
       (path_own c all handed get (attribute_asked a.request.question) (modifier_asked a.request.question) (transaction_of a.generation a.request.number)
       a.request.path (replicate 64 0) fits (omega arith) a.sound.sound.short a.sound.sound.own
-      (inl (inr (inl (let number = reads.transaction_id in let few = a.few.0 in omega (arith, number, few)), reads.method))))
+      (inl (inr (
+        inl (let number = reads.transaction_id in let few = a.few.0 in omega (arith, number, few)),
+        λ sets. let clash : get ≡ set = sym reads.method ∙ sets in absurd (omega (arith, clash)),
+      ))))
     where
       fits : FitsRequest get (attribute_asked a.request.question) (modifier_asked a.request.question) (transaction_of a.generation a.request.number)
           (replicate 64 0)

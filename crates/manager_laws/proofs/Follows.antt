@@ -29,14 +29,15 @@ use Rattle.sm_manager.specs.declared.outgoing.Outgoing.{Outgoing}
 use Rattle.sm_manager.specs.declared.pending.Pending.{Pending}
 use Rattle.sm_manager.specs.declared.pending.Purpose.{Purpose}
 use Rattle.sm_manager.specs.declared.pending.Purpose.TheVariants as purpose
-use Rattle.sm_manager.specs.Election.{after_rediscover, handed_to, handover_fault, handover_move, heir_lid, rediscover_fault, successor_lid, poll_fault, after_message, yield_fault}
+use Rattle.sm_manager.specs.declared.way.Way.{Way}
+use Rattle.sm_manager.specs.Election.{after_rediscover, handed_to, handover_fault, handover_move, heir_way, rediscover_fault, successor_way, poll_fault, poll_way, polled_by, after_message, yield_fault}
 use Rattle.sm_manager.specs.Manager.{Manager, Writing, begin_fault}
 use Rattle.sm_manager.specs.Packets.{Called, answered_by, after_timeout, is_for_sweep, is_info_request, packet_taken, pending_for}
 use Rattle.sm_manager.specs.Packets.{request_answered, request_gave_up, after_request}
 use Rattle.sm_manager.specs.Packets.{sweep_answered, sweep_gave_up, sweep_timed_out, after_packet, unless_spent}
 use Rattle.sm_manager.specs.PlanFaults.{writing_fault}
 use Rattle.sm_manager.specs.ManagerRequests.{counts, no_step_waits, with_number, without_number}
-use Rattle.sm_manager.specs.SmInfoAnswers.{acknowledged_at, answering, controlled, is_control, moved_on, replying, request_counted, served}
+use Rattle.sm_manager.specs.SmInfoAnswers.{acknowledged_by, answering, controlled, is_control, moved_on, replying, request_counted, served}
 use Rattle.sm_manager.specs.Traps.{represses, repressing}
 use Rattle.sm_state.specs.Standing.{after_request_heard, moved_to}
 use Rattle.sm_manager.specs.Writing.{is_done_by, is_spent, noted, after_step, went_on_with}
@@ -81,10 +82,14 @@ request_keeps m p answer purpose.Poll = record { sweep = refl; store = refl }
 request_keeps m p answer purpose.Control = record { sweep = refl; store = refl }
 request_keeps m p answer (purpose.Step counts) = step_keeps m p (is_done_by answer)
 
-told_keeps : (m : Manager) (lid : Option ℕ) (message : Option Message) → KeepsSweep m (after_message m lid message)
+told_keeps : (m : Manager) (way : Option Way) (message : Option Message) → KeepsSweep m (after_message m way message)
 told_keeps m None message = kept m
-told_keeps m (Some lid) None = kept m
-told_keeps m (Some lid) (Some message) = record { sweep = refl; store = refl }
+told_keeps m (Some way) None = kept m
+told_keeps m (Some way) (Some message) = record { sweep = refl; store = refl }
+
+pub polled_keeps : (m : Manager) (way : Option Way) → KeepsSweep m (polled_by m way)
+polled_keeps m None = kept m
+polled_keeps m (Some way) = record { sweep = refl; store = refl }
 
 pub served_keeps : (m : Manager) (bytes : List ℕ) (lid : Option ℕ) → KeepsSweep m (unless_spent m (served m bytes lid)).manager
 served_keeps m bytes lid =
@@ -96,12 +101,12 @@ served_keeps m bytes lid =
     by_move : (move : Transition) → KeepsSweep m (moved_on (request_counted m) bytes lid move)
     by_move move =
         let answered = answering (record m { standing = moved_to move.state (after_request_heard m.standing) }) bytes lid (status_of move) in
-        let keeps = told_keeps answered (acknowledged_at bytes lid) move.message in
+        let keeps = told_keeps answered (acknowledged_by bytes lid) move.message in
         record { sweep = keeps.sweep; store = keeps.store }
 
-pub handed_keeps : (m : Manager) (lid : Option ℕ) → KeepsSweep m (handed_to m lid)
-handed_keeps m lid =
-    let keeps = told_keeps (record m { standing = moved_to (handover_move m).state m.standing }) lid (handover_move m).message in
+pub handed_keeps : (m : Manager) (way : Option Way) → KeepsSweep m (handed_to m way)
+handed_keeps m way =
+    let keeps = told_keeps (record m { standing = moved_to (handover_move m).state m.standing }) way (handover_move m).message in
     record { sweep = keeps.sweep; store = keeps.store }
 
 -- a sweep keeps its generation ----------------------------------------------------------------------------------
@@ -325,14 +330,14 @@ module _ (is_so : Scene → Type 0) (start : Simulation) (seat : NodePort) (plan
       }) f
   event_followed w (Poll lid) u g quiet can_be f now stays =
       quiet_followed is_so w (after_manager_event w (Poll lid)) u (nothing_seen is_so w.scene) refl
-      (cond_both (is_none (poll_fault w.manager lid)) _ _ (KeepsSweep w.manager) (λ _. record { sweep = refl; store = refl }) (λ _. kept w.manager)) f
+      (cond_both (is_none (poll_fault w.manager lid)) _ _ (KeepsSweep w.manager) (λ _. polled_keeps w.manager (poll_way w.manager lid)) (λ _. kept w.manager)) f
   event_followed w HandOver u g quiet can_be f now stays =
       quiet_followed is_so w (after_manager_event w HandOver) u (nothing_seen is_so w.scene) refl
-      (cond_both (is_none (handover_fault w.manager)) _ _ (KeepsSweep w.manager) (λ _. handed_keeps w.manager (successor_lid w.manager)) (λ _. kept w.manager))
+      (cond_both (is_none (handover_fault w.manager)) _ _ (KeepsSweep w.manager) (λ _. handed_keeps w.manager (successor_way w.manager)) (λ _. kept w.manager))
       f
   event_followed w Yield u g quiet can_be f now stays =
       quiet_followed is_so w (after_manager_event w Yield) u (nothing_seen is_so w.scene) refl
-      (cond_both (is_none (yield_fault w.manager)) _ _ (KeepsSweep w.manager) (λ _. handed_keeps w.manager (heir_lid w.manager)) (λ _. kept w.manager)) f
+      (cond_both (is_none (yield_fault w.manager)) _ _ (KeepsSweep w.manager) (λ _. handed_keeps w.manager (heir_way w.manager)) (λ _. kept w.manager)) f
   event_followed w Rediscover u g quiet can_be f now stays =
       quiet_followed is_so w (after_manager_event w Rediscover) u (nothing_seen is_so w.scene) refl
       (cond_both (is_none (rediscover_fault w.manager)) (after_rediscover w.manager) w.manager (KeepsSweep w.manager)

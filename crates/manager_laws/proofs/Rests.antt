@@ -8,7 +8,7 @@ use Rattle.smp_bytes.specs.Packet.{fault_of, status}
 use Rattle.sm_manager.specs.declared.fault.ManagerFault.{ManagerFault}
 use Rattle.sm_manager.specs.declared.outgoing.Outgoing.{Outgoing}
 use Rattle.sm_manager.specs.declared.pending.Pending.{Pending}
-use Rattle.sm_manager.specs.Election.{after_rediscover, handover_fault, heir_lid, rediscover_fault, successor_lid, poll_fault, yield_fault}
+use Rattle.sm_manager.specs.Election.{after_rediscover, handover_fault, heir_way, rediscover_fault, successor_way, poll_fault, poll_way, yield_fault}
 use Rattle.sm_manager.specs.Manager.{Manager, begin_fault, after_begin_sweep}
 use Rattle.sm_manager.specs.Packets.{Called, after_timeout, is_for_sweep, is_info_request, packet_taken, pending_for, request_answered, request_gave_up}
 use Rattle.sm_manager.specs.Packets.{sweep_answered, sweep_gave_up, after_packet}
@@ -22,7 +22,7 @@ use Rattle.manager_laws.specs.Managing.{Managing, ManagerEvent, Begin, Write, Ta
 use Rattle.manager_laws.specs.Managing.{NewManagersRest, hearing, sending, after_manager_event}
 use Rattle.manager_laws.specs.Written.{BeginsNoWriting, BeginsSweep, NewManagersSweepFirst, SweepsFirst}
 use Rattle.manager_laws.proofs.Before.{takes_first}
-use Rattle.manager_laws.proofs.Follows.{KeepsSweep, handed_keeps, request_keeps, served_keeps}
+use Rattle.manager_laws.proofs.Follows.{KeepsSweep, handed_keeps, polled_keeps, request_keeps, served_keeps}
 use Rattle.sm_manager.specs.Traps.{represses}
 use Rattle.manager_laws.proofs.Generations.{nothing_held}
 
@@ -87,13 +87,14 @@ goes_on w (Hear which) never = inr (by_handed (slice_get w.scene.handed which))
     by_handed (Some h) =
         cond_both (is_same_port h.at w.seat) _ _ (λ (x : Managing). NeverSwept x) (λ _. heard w.manager h.packet.bytes (Some h.packet.slid) never) (λ _. never)
 goes_on w (TimeOut transaction) never = inr (timed w.manager transaction never)
-goes_on w (Poll lid) never = inr (cond_both (is_none (poll_fault w.manager lid)) _ _ (λ (x : Manager). x.sweep ≡ None) (λ _. never) (λ _. never))
+goes_on w (Poll lid) never = inr (cond_both (is_none (poll_fault w.manager lid)) _ _ (λ (x : Manager). x.sweep ≡ None)
+    (λ _. still w.manager _ never (polled_keeps w.manager (poll_way w.manager lid))) (λ _. never))
 goes_on w HandOver never =
     inr (cond_both (is_none (handover_fault w.manager)) _ _ (λ (x : Manager). x.sweep ≡ None)
-    (λ _. still w.manager _ never (handed_keeps w.manager (successor_lid w.manager))) (λ _. never))
+    (λ _. still w.manager _ never (handed_keeps w.manager (successor_way w.manager))) (λ _. never))
 goes_on w Yield never =
     inr (cond_both (is_none (yield_fault w.manager)) _ _ (λ (x : Manager). x.sweep ≡ None)
-    (λ _. still w.manager _ never (handed_keeps w.manager (heir_lid w.manager))) (λ _. never))
+    (λ _. still w.manager _ never (handed_keeps w.manager (heir_way w.manager))) (λ _. never))
 goes_on w Rediscover never =
     inr (cond_both (is_none (rediscover_fault w.manager)) (after_rediscover w.manager) w.manager (λ (x : Manager). x.sweep ≡ None) (λ _. never) (λ _. never))
 goes_on w event never = inr never

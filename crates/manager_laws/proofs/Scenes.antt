@@ -57,9 +57,9 @@ module _ (start : Simulation) (seat : NodePort) (plan : PlanValue) (c : ℕ) (al
     pub small : step.number < 2 ^ 32
     pub is : request ≡ set_packet step.number step.step
 
-  -- a request whose number was used up before, or a sweep's or one for SMInfo, which sets nothing
+  -- a request whose number was used up before, or a sweep's or one for SMInfo, which sets nothing but SMInfo
   abbrev pub IsEarlier : List ℕ → Type 0
-  IsEarlier request = (number_in transaction_id request < c) ⊎ (IsNoStep request × (number_in method request ≡ get))
+  IsEarlier request = (number_in transaction_id request < c) ⊎ (IsNoStep request × SetsInfoAlone request)
 
   -- a request of the manager's own
   abbrev pub IsOwn : List ℕ → Type 0
@@ -146,8 +146,8 @@ module _ (start : Simulation) (seat : NodePort) (plan : PlanValue) (c : ℕ) (al
   old_kept : (request answer : List ℕ) → number_in transaction_id answer ≡ number_in transaction_id request
       → number_in attribute_id answer ≡ number_in attribute_id request → IsEarlier request → IsOld answer
   old_kept request answer number attribute (inl low) = inl (omega (arith, low, number))
-  old_kept request answer number attribute (inr (inl high, gets)) = inr (inl (omega (arith, high, number)))
-  old_kept request answer number attribute (inr (inr info, gets)) = inr (inr (attribute ∙ info))
+  old_kept request answer number attribute (inr (inl high, alone)) = inr (inl (omega (arith, high, number)))
+  old_kept request answer number attribute (inr (inr info, alone)) = inr (inr (attribute ∙ info))
 
   module _ (cables : AreCables start) (counts : (id : ℕ) → port_count start id ≤ 254)
       (good : (x : StepSent) → Contains all x → IsGood start seat plan x) where

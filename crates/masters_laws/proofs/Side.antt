@@ -6,7 +6,7 @@ use Rattle.fabric_model.specs.declared.cable.NodePort.{NodePort}
 use Rattle.fabric_model.specs.Cables.{is_same_port}
 use Rattle.fabric_model.specs.FabricWalks.{IsJoinedTo}
 use Rattle.fabric_model.specs.DirectedWalk.{directed_end}
-use Rattle.smp_bytes.specs.Header.{get, set}
+use Rattle.smp_bytes.specs.Header.{set}
 use Rattle.smp_bytes.specs.Requests.{directed}
 use Rattle.fact_store.specs.View.{Facts, cells_of}
 use Rattle.fabric_sim.specs.Simulation.{Simulation, fabric_of}
@@ -245,7 +245,7 @@ module _ (from : Scene) (plan : PlanValue) (IsSeat : NodePort → Type 0) (seat 
 
   request_so : (request : List ℕ) → IsOwn from.fabric seat plan 0 all request → Sends from.fabric plan IsSeat seat request
   request_so request (inl (inl low)) sets = absurd (omega (arith, low))
-  request_so request (inl (inr (high, gets))) sets = let clash : get ≡ set = sym gets ∙ sets in absurd (omega (arith, clash))
+  request_so request (inl (inr (high, alone))) sets = inl (alone sets)
   request_so request (inr x) sets = inr (step_planned request x)
 
   pub sending_so : (s : Sending) → IsOwnSending from.fabric seat plan 0 all s → SendsSo from plan IsSeat seat s

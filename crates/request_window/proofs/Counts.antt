@@ -1,16 +1,15 @@
 -- How often the requests that pass a test are let out.
 use Rattle.std.proofs.Common.{◌≡◌, ℕ, ◌+◌, ◌*◌, ◌<◌, ◌≤◌, Bool, true, false, cond, List, [], ◌∷◌, ◌++◌, length, refl, ap, ◌∙◌, arith}
 use Rattle.std.specs.Prelude.{Some, None, nat_lt, ◌-◌, count_by, option_to_list}
-use Rattle.std.proofs.lemmas.Bool.{ltb-true}
 use Rattle.std.proofs.lemmas.List.Recursion.{is_count_by}
 use Rattle.sm_manager.specs.declared.outgoing.Outgoing.{Outgoing}
 use Rattle.request_window.specs.declared.limits.Limits.{Limits}
 use Rattle.request_window.specs.declared.out.Out.{Out}
 use Rattle.request_window.specs.declared.late.Late.TheVariants.{Again, GivenUp}
-use Rattle.request_window.specs.Window.{Window, Given, LateOutcome, TakenOut, answers, behind, first_out, is_late, judged_late, kept_behind, late_in, new_window, out_at, sent_of, unanswered_of, unsent_of}
+use Rattle.request_window.specs.Window.{Window, Given, LateOutcome, TakenOut, answers, behind, first_out, is_late, is_sent_again, judged_late, kept_behind, late_in, new_window, out_at, sent_of, unanswered_of, unsent_of}
 use Rattle.request_window.specs.Calls.{Call, Queue, Send, Overdue, Answer, DropQueued, DropOut, after_call, after_calls, printed_by, printed_by_call, queued_by, queued_by_call, sent_again}
 use Rattle.request_window.specs.WindowLaws.{PrintedAtMost}
-use Rattle.request_window.proofs.Lives.{by_test, same_limits}
+use Rattle.request_window.proofs.Lives.{by_test, same_limits, tries_left}
 
 module _ (test : Outgoing → Bool) (tries : ℕ) where
   -- how many requests pass
@@ -64,10 +63,10 @@ module _ (test : Outgoing → Bool) (tries : ℕ) where
       let Fewer : LateOutcome → Type 0 = λ l. how_many (sent_again l.late) + left l.outs ≤ left (out ∷ outs) in
       let rest = left_late limits same time outs in
       by_test Fewer (is_late time out) (judged_late limits time out outs) (behind out (late_in limits time outs))
-      (λ late. by_test Fewer (nat_lt out.tries limits.tries)
+      (λ late. by_test Fewer (is_sent_again limits out)
       (record { outs = out_at limits time (out.tries + 1) out.request ∷ outs; late = Some (Again out.request) })
       (record { outs = outs; late = Some (GivenUp out.request) })
-      (λ few. again (test out.request) (ltb-true out.tries limits.tries few))
+      (λ left. again (test out.request) (tries_left limits out left))
       (λ many. omega arith))
       (λ soon. omega (arith, rest))
     where

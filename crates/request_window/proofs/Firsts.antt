@@ -1,14 +1,14 @@
 -- The first request of a list that passes a test, by its index.
 use Rattle.std.proofs.Common.{◌≡◌, ℕ, zero, suc, ◌+◌, ◌<◌, ◌≤◌, Bool, true, false, cond, List, [], ◌∷◌, length, get_or, set, refl, sym, ap, ◌∙◌, subst, arith}
-use Rattle.std.specs.Prelude.{Some, None, position, remove, nat_lt}
+use Rattle.std.specs.Prelude.{Some, None, position, remove}
 use Rattle.std.specs.List.{position_from}
 use Rattle.std.proofs.lemmas.Iterator.Adapters.{position_from-zero}
 use Rattle.std.proofs.lemmas.List.Quantifiers.{position-Some}
-use Rattle.std.proofs.lemmas.Bool.{cond-true, cond-false, lt-ltb, le-ltb}
+use Rattle.std.proofs.lemmas.Bool.{cond-true, cond-false}
 use Rattle.request_window.specs.declared.limits.Limits.{Limits}
 use Rattle.request_window.specs.declared.out.Out.{Out}
 use Rattle.request_window.specs.declared.late.Late.TheVariants.{Again, GivenUp}
-use Rattle.request_window.specs.Window.{LateOutcome, behind, first_out, is_late, judged_late, kept_behind, late_in, out_at}
+use Rattle.request_window.specs.Window.{LateOutcome, behind, first_out, is_late, is_sent_again, judged_late, kept_behind, late_in, out_at}
 
 -- the first that passes a test ---------------------------------------------------------------------
 
@@ -83,7 +83,7 @@ module _ (limits : Limits) (time : ℕ) where
 
   late_found : (outs : List Out) (n : ℕ) (x : Out) → n < length outs → get_or outs n x ≡ x → is_late time x ≡ true
       → ((k : ℕ) → k < n → is_late time (get_or outs k x) ≡ false)
-      → late_in limits time outs ≡ cond (nat_lt x.tries limits.tries) (again_at outs n x) (given_up_at outs n x)
+      → late_in limits time outs ≡ cond (is_sent_again limits x) (again_at outs n x) (given_up_at outs n x)
   late_found [] n x within at late before = absurd (omega arith)
   late_found (out ∷ outs) zero x within at late before =
       subst (λ (o : Out). late_in limits time (o ∷ outs) ≡ judged_late limits time x outs) (sym at)
@@ -91,22 +91,20 @@ module _ (limits : Limits) (time : ℕ) where
   late_found (out ∷ outs) (suc n) x within at late before =
       cond-false (is_late time out) (judged_late limits time out outs) (behind out (late_in limits time outs)) (before 0 (omega arith))
       ∙ ap (behind out) (late_found outs n x (omega arith) at late (λ k less. before (suc k) (omega arith)))
-      ∙ one_more (nat_lt x.tries limits.tries) out outs n x
+      ∙ one_more (is_sent_again limits x) out outs n x
 
   late_at : (outs : List Out) (n : ℕ) (x : Out) → position (is_late time) outs ≡ Some n → x ≡ get_or outs n x
-      → late_in limits time outs ≡ cond (nat_lt x.tries limits.tries) (again_at outs n x) (given_up_at outs n x)
+      → late_in limits time outs ≡ cond (is_sent_again limits x) (again_at outs n x) (given_up_at outs n x)
   late_at outs n x e at =
       let there = position-Some (is_late time) outs n x e in
       late_found outs n x there.0 (sym at) (ap (is_late time) at ∙ there.1) there.2
 
-  pub is_sent_again : (outs : List Out) (n : ℕ) (x : Out) → position (is_late time) outs ≡ Some n → x ≡ get_or outs n x
-      → x.tries < limits.tries → late_in limits time outs ≡ again_at outs n x
-  is_sent_again outs n x e at few =
-      late_at outs n x e at
-      ∙ cond-true (nat_lt x.tries limits.tries) (again_at outs n x) (given_up_at outs n x) (lt-ltb x.tries limits.tries few)
+  pub first_again : (outs : List Out) (n : ℕ) (x : Out) → position (is_late time) outs ≡ Some n → x ≡ get_or outs n x
+      → is_sent_again limits x ≡ true → late_in limits time outs ≡ again_at outs n x
+  first_again outs n x e at again =
+      late_at outs n x e at ∙ cond-true (is_sent_again limits x) (again_at outs n x) (given_up_at outs n x) again
 
-  pub is_given_up : (outs : List Out) (n : ℕ) (x : Out) → position (is_late time) outs ≡ Some n → x ≡ get_or outs n x
-      → limits.tries ≤ x.tries → late_in limits time outs ≡ given_up_at outs n x
-  is_given_up outs n x e at many =
-      late_at outs n x e at
-      ∙ cond-false (nat_lt x.tries limits.tries) (again_at outs n x) (given_up_at outs n x) (le-ltb x.tries limits.tries many)
+  pub first_given_up : (outs : List Out) (n : ℕ) (x : Out) → position (is_late time) outs ≡ Some n → x ≡ get_or outs n x
+      → is_sent_again limits x ≡ false → late_in limits time outs ≡ given_up_at outs n x
+  first_given_up outs n x e at over =
+      late_at outs n x e at ∙ cond-false (is_sent_again limits x) (again_at outs n x) (given_up_at outs n x) over

@@ -1,8 +1,8 @@
 -- What stays true of a window over any calls.
 use Rattle.std.proofs.Common.{◌≡◌, ℕ, ◌+◌, ◌*◌, ◌<◌, ◌≤◌, suc, Bool, true, false, cond, List, [], ◌∷◌, ◌++◌, length, refl, sym, ap, ◌∙◌, subst, arith}
-use Rattle.std.specs.Prelude.{Some, None, Contains, min, nat_lt, ◌^◌, ◌-◌, ◌==◌, option_to_list}
+use Rattle.std.specs.Prelude.{Some, None, Contains, min, nat_lt, not, ◌^◌, ◌-◌, ◌==◌, option_to_list}
 use Rattle.std.specs.List.{AllByRecursion}
-use Rattle.std.proofs.lemmas.Bool.{ltb-true, le-leb}
+use Rattle.std.proofs.lemmas.Bool.{and_parts, ltb-true, le-leb}
 use Rattle.std.proofs.lemmas.List.{length-append}
 use Rattle.smp_bytes.specs.Field.{number_in}
 use Rattle.smp_bytes.specs.Header.{sm_info}
@@ -12,9 +12,9 @@ use Rattle.request_window.specs.declared.limits.Limits.{Limits}
 use Rattle.request_window.specs.declared.out.Out.{Out}
 use Rattle.request_window.specs.declared.late.Late.TheVariants.{Again, GivenUp}
 use Rattle.sm_policy.specs.Policy.{later_by}
-use Rattle.request_window.specs.Window.{Window, Given, LateOutcome, TakenOut, answers, behind, first_out, is_late, judged_late, kept_behind, late_in, new_window, out_at, patience, sent_of, unanswered_of, unsent_of}
+use Rattle.request_window.specs.Window.{Window, Given, LateOutcome, TakenOut, answers, behind, first_out, is_late, is_poll, is_sent_again, judged_late, kept_behind, late_in, new_window, out_at, patience, sent_of, unanswered_of, unsent_of}
 use Rattle.request_window.specs.Calls.{Call, Queue, Send, Overdue, Answer, DropQueued, DropOut, after_call, after_calls, latest_time, printed_by, printed_by_call, queued_by, queued_by_call, sent_again, told_time}
-use Rattle.request_window.specs.WindowLaws.{AtMostOutstanding, EachIsSentAFewTimes, IsSentAFewTimes, NoneIsWaitedForTooLong, SentOnlyWhatWasQueued}
+use Rattle.request_window.specs.WindowLaws.{AtMostOutstanding, EachIsSentAFewTimes, EachPollIsSentOnce, IsSentAFewTimes, NoneIsWaitedForTooLong, SentOnlyWhatWasQueued}
 
 -- lists and tests ----------------------------------------------------------------------------------
 
@@ -86,7 +86,7 @@ record Holds (limits : Limits) (Q : Outgoing → Type 0) (P : Out → Type 0) (w
 -- sent again
 record Passes (limits : Limits) (Q : Outgoing → Type 0) (P : Out → Type 0) (time : ℕ) : Type 0 where
   first : (request : Outgoing) → Q request → P (out_at limits time 1 request)
-  again : (out : Out) → P out → out.tries < limits.tries → P (out_at limits time (out.tries + 1) out.request)
+  again : (out : Out) → P out → is_sent_again limits out ≡ true → P (out_at limits time (out.tries + 1) out.request)
   back : (out : Out) → P out → Q out.request
 
 module _ (limits : Limits) (Q : Outgoing → Type 0) (P : Out → Type 0) where
@@ -119,10 +119,10 @@ module _ (limits : Limits) (Q : Outgoing → Type 0) (P : Out → Type 0) where
       let Kept : LateOutcome → Type 0 = λ l. AllByRecursion P l.outs × AllByRecursion Q (sent_again l.late) in
       let rest = after_late time p outs a.1 in
       by_test Kept (is_late time out) (judged_late limits time out outs) (behind out (late_in limits time outs))
-      (λ late. by_test Kept (nat_lt out.tries limits.tries)
+      (λ late. by_test Kept (is_sent_again limits out)
       (record { outs = out_at limits time (out.tries + 1) out.request ∷ outs; late = Some (Again out.request) })
       (record { outs = outs; late = Some (GivenUp out.request) })
-      (λ few. ((p.again out a.0 (ltb-true out.tries limits.tries few), a.1), (p.back out a.0, tt)))
+      (λ again. ((p.again out a.0 again, a.1), (p.back out a.0, tt)))
       (λ many. (a.1, tt)))
       (λ soon. ((a.0, rest.0), rest.1))
 
@@ -170,11 +170,33 @@ module _ (limits : Limits) (Q : Outgoing → Type 0) (P : Out → Type 0) where
 
 -- how often requests are sent ------------------------------------------------------------------------
 
+-- what is sent again was not sent as often as it may be, and is no poll
+pub tries_left : (limits : Limits) (out : Out) → is_sent_again limits out ≡ true → out.tries < limits.tries
+tries_left limits out again =
+    ltb-true out.tries limits.tries (and_parts (nat_lt out.tries limits.tries) (not (is_poll out.request.packet)) again).0
+
+no_poll : (limits : Limits) (out : Out) → is_sent_again limits out ≡ true → is_poll out.request.packet ≡ true → ⊥
+no_poll limits out again poll =
+    cc (sym (and_parts (nat_lt out.tries limits.tries) (not (is_poll out.request.packet)) again).1 ∙ ap not poll)
+
+-- a poll was sent once
+abbrev IsPolledOnce : Out → Type 0
+IsPolledOnce out = is_poll out.request.packet ≡ true → out.tries ≡ 1
+
+once_each : (limits : Limits) (time : ℕ) → Passes limits (λ _. Unit {0}) IsPolledOnce time
+once_each limits time =
+    record { first = λ request q poll. refl; again = λ out p again poll. absurd (no_poll limits out again poll); back = λ out p. tt }
+
+pub each_poll_is_sent_once : EachPollIsSentOnce
+each_poll_is_sent_once limits calls =
+    (after_all limits (λ _. Unit {0}) IsPolledOnce (latest_time calls) (λ time by_then. once_each limits time) calls (omega arith)
+    (all_of (λ _. Unit {0}) (λ _. tt) (queued_by calls)) (new_window limits) (at_first limits (λ _. Unit {0}) IsPolledOnce)).0.outs
+
 few_times : (limits : Limits) → 1 ≤ limits.tries → (time : ℕ) → Passes limits (λ _. Unit {0}) (IsSentAFewTimes limits.tries) time
 few_times limits one time =
     record {
       first = λ request q. record { once = omega arith; few = one };
-      again = λ out p few. record { once = omega arith; few = omega (arith, few) };
+      again = λ out p again. let few = tries_left limits out again in record { once = omega arith; few = omega (arith, few) };
       back = λ out p. tt;
     }
 
@@ -259,7 +281,7 @@ module _ (most : ℕ) where
       let rest = few_late limits time outs in
       let Few : LateOutcome → Type 0 = λ l. length l.outs ≤ suc (length outs) in
       by_test Few (is_late time out) (judged_late limits time out outs) (behind out (late_in limits time outs))
-      (λ late. by_test Few (nat_lt out.tries limits.tries)
+      (λ late. by_test Few (is_sent_again limits out)
       (record { outs = out_at limits time (out.tries + 1) out.request ∷ outs; late = Some (Again out.request) })
       (record { outs = outs; late = Some (GivenUp out.request) })
       (λ few. omega arith) (λ many. omega arith))

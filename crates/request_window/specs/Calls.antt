@@ -3,7 +3,8 @@ use Rattle.std.specs.Prelude.{ℕ, List, [], ◌∷◌, ◌++◌, max, Option, S
 use Rattle.sm_manager.specs.declared.outgoing.Outgoing.{Outgoing}
 use Rattle.request_window.specs.declared.late.Late.{Late}
 use Rattle.request_window.specs.declared.late.Late.TheVariants.{Again, GivenUp}
-use Rattle.request_window.specs.Window.{Window, after_queue, after_send, late_in, after_overdue, after_answer, after_drop_queued, after_drop_out}
+use Rattle.request_window.specs.Window.{Window, after_queue, after_send, late_in, after_overdue}
+use Rattle.request_window.specs.Window.{after_answer, after_drop_queued, after_drop_out}
 
 -- a call that may change a window, at the time that it tells
 pub data Call : Type 0 where

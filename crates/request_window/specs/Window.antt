@@ -1,10 +1,11 @@
 -- Requests of a manager on their way: those that wait for their turn, and those that are out. A request that is out
 -- and has no answer in time is sent again, a few times, and is then given up. InfiniBand Architecture Specification,
 -- Volume 1: management datagrams, TransactionID; subnet management, SMP time-outs.
-use Rattle.std.specs.Prelude.{ℕ, ◌+◌, ◌*◌, ◌-◌, ◌^◌, min, Bool, ◌&&◌, not, List, [], ◌∷◌, ◌++◌, length, nat_le, nat_lt, ◌==◌, if◌then◌else◌, Option, Some, None}
-use Rattle.smp_bytes.specs.Header.{sm_info}
+use Rattle.std.specs.Prelude.{ℕ, ◌+◌, ◌*◌, ◌-◌, ◌^◌, min, Bool, ◌&&◌, not, List, [], ◌∷◌, ◌++◌}
+use Rattle.std.specs.Prelude.{length, nat_le, nat_lt, ◌==◌, if◌then◌else◌, Option, Some, None}
+use Rattle.smp_bytes.specs.Header.{get, sm_info}
 use Rattle.smp_bytes.specs.Field.{number_in}
-use Rattle.smp_bytes.specs.Packet.{attribute_id, attribute_modifier, is_directed, is_response, transaction_id}
+use Rattle.smp_bytes.specs.Packet.{attribute_id, attribute_modifier, is_directed, is_response, method, transaction_id}
 use Rattle.sm_manager.specs.declared.outgoing.Outgoing.{Outgoing}
 use Rattle.sm_policy.specs.Policy.{later_by}
 use Rattle.request_window.specs.declared.limits.Limits.{Limits}
@@ -66,6 +67,17 @@ after_send time w = sent_of time w w.queued
 abbrev pub is_late : ℕ → Out → Bool
 is_late time out = nat_le out.deadline time
 
+-- whether `packet` is a poll: a Get of SMInfo that no sweep asks, since a sweep's TransactionIDs are 2^32 or more
+abbrev pub is_poll : List ℕ → Bool
+is_poll packet =
+    number_in method packet == get
+    && (number_in attribute_id packet == sm_info && nat_lt (number_in transaction_id packet) (2 ^ 32))
+
+-- whether a late request is sent again: it was not sent as often as it may be, and it is no poll, since the next poll
+-- asks the same
+abbrev pub is_sent_again : Limits → Out → Bool
+is_sent_again limits out = nat_lt out.tries limits.tries && not (is_poll out.request.packet)
+
 -- the requests that are out, after the first that is late was sent again or given up, and which of both; None if none
 -- is late
 pub record LateOutcome : Type 0 where
@@ -76,11 +88,11 @@ pub record LateOutcome : Type 0 where
 abbrev pub behind : Out → LateOutcome → LateOutcome
 behind out outcome = record outcome { outs = out ∷ outcome.outs }
 
--- the outcome for a late request in front of `outs`: it is sent again at `time` if it was not sent as often as it may
--- be; otherwise it is given up, and is no longer out
+-- the outcome for a late request in front of `outs`: it is sent again at `time` (`is_sent_again`), or is given up, and
+-- is no longer out
 abbrev pub judged_late : Limits → ℕ → Out → List Out → LateOutcome
 judged_late limits time out outs =
-    if nat_lt out.tries limits.tries
+    if is_sent_again limits out
     then record { outs = out_at limits time (out.tries + 1) out.request ∷ outs; late = Some (Again out.request) }
     else record { outs = outs; late = Some (GivenUp out.request) }
 

@@ -5,7 +5,7 @@ use Rattle.sm_manager.specs.declared.outgoing.Outgoing.{Outgoing}
 use Rattle.request_window.specs.declared.limits.Limits.{Limits}
 use Rattle.request_window.specs.declared.out.Out.{Out}
 use Rattle.sm_policy.specs.Policy.{later_by}
-use Rattle.request_window.specs.Window.{new_window, is_late}
+use Rattle.request_window.specs.Window.{new_window, is_late, is_poll}
 use Rattle.request_window.specs.Calls.{Call, after_calls, latest_time, printed_by, queued_by}
 
 -- the requests that are out after these calls on a new window
@@ -27,6 +27,12 @@ abbrev pub EachIsSentAFewTimes : Type 0
 EachIsSentAFewTimes =
     (limits : Limits) (calls : List Call) → 1 ≤ limits.tries
     → AllByRecursion (IsSentAFewTimes limits.tries) (out_after limits calls)
+
+-- after any calls on a new window, each poll that is out was sent once
+abbrev pub EachPollIsSentOnce : Type 0
+EachPollIsSentOnce =
+    (limits : Limits) (calls : List Call)
+    → AllByRecursion (λ out. is_poll out.request.packet ≡ true → out.tries ≡ 1) (out_after limits calls)
 
 -- each request that the calls on a new window let out was queued by one of them
 abbrev pub SentOnlyWhatWasQueued : Type 0

@@ -1,6 +1,6 @@
 //! The laws of a window, over any calls on a new one.
-ghost use Rattle.request_window.specs.WindowLaws.{AtMostOutstanding, EachIsSentAFewTimes, NoneIsWaitedForTooLong};
-ghost use Rattle.request_window.specs.WindowLaws.{PrintedAtMost, SentOnlyWhatWasQueued};
+ghost use Rattle.request_window.specs.WindowLaws.{AtMostOutstanding, EachIsSentAFewTimes, EachPollIsSentOnce};
+ghost use Rattle.request_window.specs.WindowLaws.{NoneIsWaitedForTooLong, PrintedAtMost, SentOnlyWhatWasQueued};
 
 /// After any calls on a new window, at most `limits.outstanding` requests are out.
 #[tactic(auto, using(crate::proofs::Lives::at_most_outstanding))]
@@ -13,6 +13,12 @@ pub fn at_most_outstanding()
 #[tactic(auto, using(crate::proofs::Lives::each_is_sent_a_few_times))]
 pub fn each_is_sent_a_few_times()
     ensures { EachIsSentAFewTimes }
+{}
+
+/// After any calls on a new window, each poll that is out was sent once.
+#[tactic(auto, using(crate::proofs::Lives::each_poll_is_sent_once))]
+pub fn each_poll_is_sent_once()
+    ensures { EachPollIsSentOnce }
 {}
 
 /// Each request that calls on a new window let out, for the first time or again, was queued by one of the calls.

@@ -5,15 +5,15 @@ use crate::late::Late;
 use crate::limits::Limits;
 use crate::out::Out;
 
-/// Takes the first of `outs` that is late at `time` as sent again at `time` or, if it was sent `limits.tries` times,
-/// removes it. Returns what becomes of it, or `None` if none of `outs` is late.
+/// Takes the first of `outs` that is late at `time` as sent again at `time` or, if it was sent `limits.tries` times or
+/// is a poll, removes it. Returns what becomes of it, or `None` if none of `outs` is late.
 pub(crate) fn judge_late(outs: &mut Vec<Out>, limits: Limits, time: u64) -> Option<Late>
     ensures outs { outs.new.items ≡ (late_in limits time outs.old.items).outs }
     ensures late { result ≡ (late_in limits time outs.old.items).late }
 {
     let index = first_late(outs, time)?;
     let out = outs[index];
-    if out.tries < limits.tries {
+    if limits.send_again(&out) {
         outs[index] = limits.out_at(time, out.tries + 1, &out.request);
         Some(Late::Again(out.request))
     } else {

@@ -77,8 +77,8 @@ impl Window {
         Ok(Some(request))
     }
 
-    /// Takes the first request that is late at `time` as sent again at `time` or, if it was sent as often as it may be,
-    /// removes it. Returns what becomes of it, or `None` if no request is late. Does not allocate.
+    /// Takes the first request that is late at `time` as sent again at `time` or, if it was sent as often as it may be
+    /// or is a poll, removes it. Returns what becomes of it, or `None` if no request is late. Does not allocate.
     pub fn overdue(&mut self, time: u64) -> Option<Late>
         ensures window { self.new ≡ after_overdue time self.old }
         ensures late { result ≡ (late_in self.old.limits time self.old.outs).late }

@@ -29,14 +29,14 @@ use Rattle.lft_blocks.specs.Planning.{Planning}
 use Rattle.sm_manager.specs.declared.fault.ManagerFault.{ManagerFault}
 use Rattle.sm_manager.specs.CallLists as calls
 use Rattle.sm_manager.specs.CallLists.{sightings_of_call}
-use Rattle.sm_manager.specs.Election.{after_handover, after_rediscover, after_yield, handover_fault, heir_lid, rediscover_fault, successor_lid, poll_fault, after_poll, yield_fault}
+use Rattle.sm_manager.specs.Election.{after_handover, after_rediscover, after_yield, handover_fault, heir_way, rediscover_fault, successor_way, poll_fault, poll_way, after_poll, yield_fault}
 use Rattle.sm_manager.specs.Manager.{Manager, begin_fault, after_raise_floor, after_merge, outstanding, after_begin_sweep}
 use Rattle.sm_manager.specs.Packets as manager
 use Rattle.sm_manager.specs.Packets.{after_packet, done}
 use Rattle.sm_manager.specs.PlanFaults.{writing_fault}
 use Rattle.sm_manager.specs.Writing.{after_write_steps}
 use Rattle.sm_manager.proofs.Refusals.{packet_leaves}
-use Rattle.sm_manager.proofs.Lives.{Keeps, handing_keeps, planning_stays, takes_call, timeout_keeps}
+use Rattle.sm_manager.proofs.Lives.{Keeps, handing_keeps, planning_stays, polling_keeps, takes_call, timeout_keeps}
 use Rattle.schedule_world.specs.Commands.{after_arrival, after_ask_line, after_change, after_command, after_commands, after_cut_line, after_drain_line}
 use Rattle.schedule_world.specs.Commands.{after_parting, after_resend, after_resends, after_tell, after_tell_ends, after_traps_line, heard_text}
 use Rattle.schedule_world.specs.Commands.{after_fate, after_floor_line, after_give_up, after_giving_up, after_hand_up, after_manager_line, after_merge_line}
@@ -261,13 +261,13 @@ module _ (count : ℕ) (planning : Planning) where
   command_known nodes w accounts (command.Ask seat ask.Write) known =
       sending_known w accounts seat writing_fault after_write_steps (λ m. record { store = refl; planning = refl }) known
   command_known nodes w accounts (command.Ask seat ask.Handover) known =
-      sending_known w accounts seat handover_fault after_handover (λ m. handing_keeps m (successor_lid m)) known
+      sending_known w accounts seat handover_fault after_handover (λ m. handing_keeps m (successor_way m)) known
   command_known nodes w accounts (command.Ask seat ask.Yield) known =
-      sending_known w accounts seat yield_fault after_yield (λ m. handing_keeps m (heir_lid m)) known
+      sending_known w accounts seat yield_fault after_yield (λ m. handing_keeps m (heir_way m)) known
   command_known nodes w accounts (command.Ask seat ask.Rediscover) known =
       sending_known w accounts seat rediscover_fault after_rediscover (λ m. record { store = refl; planning = refl }) known
   command_known nodes w accounts (command.Ask seat (ask.Poll lid)) known =
-      sending_known w accounts seat (λ m. poll_fault m lid) (λ m. after_poll m lid) (λ m. record { store = refl; planning = refl }) known
+      sending_known w accounts seat (λ m. poll_fault m lid) (λ m. after_poll m lid) (λ m. polling_keeps m (poll_way m lid)) known
   command_known nodes w accounts (command.Timeout seat) known = timeout_known w accounts seat known
   command_known nodes w accounts (command.Floor seat floor) known = floor_known w accounts seat floor known
   command_known nodes w accounts (command.Merge seat other) known = merge_known w accounts seat other known

@@ -66,11 +66,14 @@ use Rattle.serve_lines.specs.declared.manage_line.ManageWord.{ManageWord}
 use Rattle.serve_lines.specs.declared.manage_line.ManageWord.TheVariants as word
 use Rattle.sm_policy.specs.declared.act.Act.{Act}
 use Rattle.sm_policy.specs.declared.act.Act.TheVariants as act
+use Rattle.sm_policy.specs.declared.write_cause.WriteCause.{WriteCause}
+use Rattle.sm_policy.specs.declared.write_cause.WriteCause.TheVariants as cause
+use Rattle.sm_policy.specs.declared.ports.Ports.{Ports}
 use Rattle.acting_manager.specs.Acting.{Acting}
 use Rattle.acting_manager.specs.Working.{wake_of}
 use Rattle.acting_manager.specs.declared.note.Note.{Note}
 use Rattle.acting_manager.specs.declared.note.Note.TheVariants as note
-use Rattle.serve_run.specs.Decided.{act_word, after_manage, after_word, decided, note_line, note_text, wake_line, wake_text}
+use Rattle.serve_run.specs.Decided.{act_word, after_manage, after_word, cause_text, decided, note_line, note_text, ports_text, wake_line, wake_text}
 use Rattle.serve_laws.specs.Framed.{AnswersEndOnce, EndsOnce, has_dot, is_line_end}
 
 -- texts ---------------------------------------------------------------------------------------------------
@@ -420,14 +423,23 @@ act_passes act.Judge = told _ refl refl
 act_passes act.Write = told _ refl refl
 act_passes act.Settle = told _ refl refl
 
+ports_pass : (ports : Ports) → Passes false (ports_text ports) false
+ports_pass ports =
+    mid (codes "inactive ") refl refl then number ports.inactive then mid (codes " foreign ") refl refl then number ports.foreign
+
+cause_passes : (what : WriteCause) → Passes false (cause_text what) false
+cause_passes cause.New = told _ refl refl
+cause_passes cause.Again = told _ refl refl
+cause_passes (cause.For ports) = mid (codes "write ") refl refl then ports_pass ports
+
 noted_passes : (what : Note) → Passes false (note_text what) false
 noted_passes (note.State state) = mid (codes "state ") refl refl then state_passes state
 noted_passes note.Paused = told _ refl refl
 noted_passes (note.GivenUp request) = mid (codes "unanswered ") refl refl then encoded request
 noted_passes (note.Swept whole) = mid (codes "swept ") refl refl then written_passes whole
 noted_passes (note.Wrote whole) = mid (codes "written ") refl refl then written_passes whole
-noted_passes (note.Settled ports) =
-    mid (codes "settled inactive ") refl refl then number ports.inactive then mid (codes " foreign ") refl refl then number ports.foreign
+noted_passes (note.Settled ports) = mid (codes "settled ") refl refl then ports_pass ports
+noted_passes (note.Writes what) = cause_passes what
 noted_passes (note.Did what) = act_passes what
 noted_passes (note.Refused what) = mid (codes "refused ") refl refl then act_passes what
 

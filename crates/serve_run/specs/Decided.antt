@@ -12,12 +12,14 @@ use Rattle.serve_lines.specs.declared.manage_line.ManageWord.TheVariants.{Time, 
 use Rattle.sm_state.specs.State.{state_word}
 use Rattle.sm_policy.specs.declared.act.Act.{Act}
 use Rattle.sm_policy.specs.declared.act.Act.TheVariants.{Wait, Poll, Announce, Sweep, Rediscover, HandOver, Yield, Judge, Write, Settle}
+use Rattle.sm_policy.specs.declared.write_cause.WriteCause.{WriteCause}
+use Rattle.sm_policy.specs.declared.write_cause.WriteCause.TheVariants.{New, Again, For}
 use Rattle.sm_policy.specs.declared.ports.Ports.{Ports}
 use Rattle.acting_manager.specs.Acting.{Acting}
 use Rattle.acting_manager.specs.Working as working
 use Rattle.acting_manager.specs.Working.{after_told, given_away, wake_of}
 use Rattle.acting_manager.specs.declared.note.Note.{Note}
-use Rattle.acting_manager.specs.declared.note.Note.TheVariants.{State, Paused, GivenUp, Swept, Wrote, Settled, Did, Refused}
+use Rattle.acting_manager.specs.declared.note.Note.TheVariants.{State, Paused, GivenUp, Swept, Wrote, Settled, Writes, Did, Refused}
 use Rattle.serve_run.specs.Served.{end_line, seen_line, send_line}
 
 -- texts ------------------------------------------------------------------------------------------
@@ -39,10 +41,23 @@ act_word Settle = codes "settle"
 abbrev pub unanswered_text : List ℕ → List ℕ
 unanswered_text request = codes "unanswered " ++ encode_lower request
 
+-- how many ports are not Active, and how many name another master
+abbrev pub ports_text : Ports → List ℕ
+ports_text ports = codes "inactive " ++ decimal ports.inactive ++ codes " foreign " ++ decimal ports.foreign
+
 -- nothing is left to write, but for what these ports need
 abbrev pub settled_text : Ports → List ℕ
-settled_text ports =
-    codes "settled inactive " ++ decimal ports.inactive ++ codes " foreign " ++ decimal ports.foreign
+settled_text ports = codes "settled " ++ ports_text ports
+
+-- a writing began, for these ports
+abbrev pub for_ports_text : Ports → List ℕ
+for_ports_text ports = codes "write " ++ ports_text ports
+
+-- a writing began, for this cause
+abbrev pub cause_text : WriteCause → List ℕ
+cause_text New = codes "write new"
+cause_text Again = codes "write again"
+cause_text (For ports) = for_ports_text ports
 
 -- what a note says
 abbrev pub note_text : Note → List ℕ
@@ -52,6 +67,7 @@ note_text (GivenUp request) = unanswered_text request
 note_text (Swept whole) = codes "swept " ++ answer_word whole
 note_text (Wrote whole) = codes "written " ++ answer_word whole
 note_text (Settled ports) = settled_text ports
+note_text (Writes cause) = cause_text cause
 note_text (Did act) = act_word act
 note_text (Refused act) = codes "refused " ++ act_word act
 

@@ -2,13 +2,13 @@
 ghost use Rattle.std.specs.Prelude.{◌≡◌, ◌++◌};
 ghost use Rattle.byte_io.specs.Writes.{Writes};
 ghost use Rattle.schedule_lines.specs.Lines.{answer_word};
-ghost use Rattle.serve_run.specs.Decided.{act_word, note_line, note_text, settled_text, unanswered_text};
-ghost use Rattle.serve_run.specs.Decided.{wake_line, wake_text};
+ghost use Rattle.serve_run.specs.Decided.{act_word, cause_text, note_line, note_text, ports_text, settled_text};
+ghost use Rattle.serve_run.specs.Decided.{for_ports_text, unanswered_text, wake_line, wake_text};
 
 use crate::outgoing::write_hex;
 use acting_manager::Note;
 use byte_io::{Sink, WriteFault, write_number};
-use sm_policy::{Act, Ports};
+use sm_policy::{Act, Ports, WriteCause};
 use smp_bytes::Smp;
 
 /// Writes the line of `note`.
@@ -35,6 +35,7 @@ fn write_noted<W: Sink>(sink: &mut W, note: &Note) -> Result<(), WriteFault>
         Note::Swept(whole) => write_answer(sink, b"swept ", *whole),
         Note::Wrote(whole) => write_answer(sink, b"written ", *whole),
         Note::Settled(ports) => write_settled(sink, *ports),
+        Note::Writes(cause) => write_cause(sink, *cause),
         Note::Did(act) => sink.write(act_word(*act).as_bytes()),
         Note::Refused(act) => {
             sink.write(b"refused ")?;
@@ -51,11 +52,38 @@ fn write_unanswered<W: Sink>(sink: &mut W, request: &Smp) -> Result<(), WriteFau
     write_hex(sink, request.bytes())
 }
 
+/// Writes that a writing began for `cause`.
+fn write_cause<W: Sink>(sink: &mut W, cause: WriteCause) -> Result<(), WriteFault>
+    ensures writes { Writes W.written W.has_failed result sink.old sink.new (cause_text cause) }
+{
+    match cause {
+        WriteCause::New => sink.write(b"write new"),
+        WriteCause::Again => sink.write(b"write again"),
+        WriteCause::For(ports) => write_for_ports(sink, ports),
+    }
+}
+
+/// Writes that a writing began for `ports`.
+fn write_for_ports<W: Sink>(sink: &mut W, ports: Ports) -> Result<(), WriteFault>
+    ensures writes { Writes W.written W.has_failed result sink.old sink.new (for_ports_text ports) }
+{
+    sink.write(b"write ")?;
+    write_ports(sink, ports)
+}
+
 /// Writes that nothing is left to write, and the numbers of `ports` that still need something.
 fn write_settled<W: Sink>(sink: &mut W, ports: Ports) -> Result<(), WriteFault>
     ensures writes { Writes W.written W.has_failed result sink.old sink.new (settled_text ports) }
 {
-    sink.write(b"settled inactive ")?;
+    sink.write(b"settled ")?;
+    write_ports(sink, ports)
+}
+
+/// Writes the numbers of `ports`.
+fn write_ports<W: Sink>(sink: &mut W, ports: Ports) -> Result<(), WriteFault>
+    ensures writes { Writes W.written W.has_failed result sink.old sink.new (ports_text ports) }
+{
+    sink.write(b"inactive ")?;
     write_number(sink, u64::from(ports.inactive))?;
     sink.write(b" foreign ")?;
     write_number(sink, u64::from(ports.foreign))

@@ -27,17 +27,18 @@ use Rattle.sm_manager.specs.declared.fault.ManagerFault.{ManagerFault}
 use Rattle.sm_manager.specs.declared.fault.ManagerFault.TheVariants.{NotMaster, SequenceSpent, SweepRunning, WritingRunning}
 use Rattle.sm_manager.specs.declared.outgoing.Outgoing.{Outgoing}
 use Rattle.sm_manager.specs.declared.pending.Pending.{Pending}
+use Rattle.sm_manager.specs.declared.way.Way.{Way}
 use Rattle.sm_manager.specs.declared.pending.Purpose.{Purpose}
 use Rattle.sm_manager.specs.declared.pending.Purpose.TheVariants as purpose
 use Rattle.sm_manager.specs.StepsAnswered.{BeginNone, BeginsNone, WrittenIsEachStepDone, counting_in, does_by_packet, does_request, does_step, one_if, steps_done}
 use Rattle.sm_manager.specs.CallLists.{Call, BeginSweep, WriteSteps, Take, Packet, Timeout, Raise, Merge, Poll, Handover, Yield, Rediscover, after_call, after_calls}
-use Rattle.sm_manager.specs.Election.{asked, control_out, after_handover, handed_to, handover_fault, handover_move, heir_lid, rediscover_fault, after_rediscover, after_yield, successor_lid, yield_fault, info_pending, poll_fault, poll_out, poll_path, poll_pending, after_poll, after_message}
+use Rattle.sm_manager.specs.Election.{asked, control_out, after_handover, handed_to, handover_fault, handover_move, heir_way, rediscover_fault, after_rediscover, after_yield, successor_way, yield_fault, info_pending, poll_fault, poll_out, poll_pending, poll_way, polled_by, after_poll, after_message}
 use Rattle.sm_manager.specs.Manager.{Manager, Writing, begin_fault, new_manager, after_begin_sweep, taken_of}
 use Rattle.sm_manager.specs.Packets.{Called, answered_by, answers, after_timeout, is_for_sweep, is_info_request, packet_taken, pending_for, refused, request_answered}
 use Rattle.sm_manager.specs.Packets.{done as done_call, request_gave_up, after_request, sweep_answered, sweep_gave_up, sweep_timed_out, unless_spent}
 use Rattle.sm_manager.specs.PlanFaults.{writing_fault}
 use Rattle.sm_manager.specs.ManagerRequests.{counts, how_many, is_step, no_step_waits, none_counts, with_number, without_number}
-use Rattle.sm_manager.specs.SmInfoAnswers.{acknowledged_at, answering, controlled, request_counted, is_control, moved_on, replying, request_counted, served}
+use Rattle.sm_manager.specs.SmInfoAnswers.{acknowledged_by, answering, controlled, request_counted, is_control, moved_on, replying, request_counted, served}
 use Rattle.sm_manager.specs.Traps.{represses, repressing}
 use Rattle.sm_state.specs.Standing.{is_in, moved_to}
 use Rattle.sm_manager.specs.Writing.{is_done_by, is_spent, is_written, is_written_by, next_pending, next_phase, noted, without_empty_phases}
@@ -72,17 +73,21 @@ asks_beside m p out number other =
       rising = λ r. rising_pushed (λ (q : Pending). q.number) 0 m.pending m.counter p r number;
     }
 
-tells_beside : (m : Manager) (to : Option ℕ) (message : Option Message) → Beside m (after_message m to message)
+tells_beside : (m : Manager) (to : Option Way) (message : Option Message) → Beside m (after_message m to message)
 tells_beside m None message = nothing m
-tells_beside m (Some lid) None = nothing m
-tells_beside m (Some lid) (Some message) =
+tells_beside m (Some way) None = nothing m
+tells_beside m (Some way) (Some message) =
     let control = control_of_message message in
-    asks_beside m (info_pending m.counter purpose.Control (modifier_of_control control)) (control_out m.standing m.counter lid control) refl refl
+    asks_beside m (info_pending m.counter purpose.Control (modifier_of_control control) way) (control_out m.standing m.counter way control) refl refl
+
+polls_beside : (m : Manager) (to : Option Way) → Beside m (polled_by m to)
+polls_beside m None = nothing m
+polls_beside m (Some way) = asks_beside m (poll_pending m.counter way) (poll_out m.counter way) refl refl
 
 moves_beside : (m : Manager) (bytes : List ℕ) (from : Option ℕ) (move : Transition) → Beside m (moved_on m bytes from move)
 moves_beside m bytes from move =
     let answered = answering (record m { standing = moved_to move.state m.standing }) bytes from (status_of move) in
-    beside_both m answered _ (record { writing = refl; many = refl; rising = λ r. r }) (tells_beside answered (acknowledged_at bytes from) move.message)
+    beside_both m answered _ (record { writing = refl; many = refl; rising = λ r. r }) (tells_beside answered (acknowledged_by bytes from) move.message)
 
 serves_beside : (m : Manager) (bytes : List ℕ) (from : Option ℕ) → Beside m (unless_spent m (served m bytes from)).manager
 serves_beside m bytes from =
@@ -93,10 +98,10 @@ serves_beside m bytes from =
     (moves_beside (request_counted m) bytes from (stepped m.standing.conduct m.standing.state (event.Control (number_in attribute_modifier bytes)))))
     (λ _. record { writing = refl; many = refl; rising = λ r. r }))
 
-hands_beside : (m : Manager) (lid : Option ℕ) → Beside m (handed_to m lid)
-hands_beside m lid =
+hands_beside : (m : Manager) (way : Option Way) → Beside m (handed_to m way)
+hands_beside m way =
     let moved = record m { standing = moved_to (handover_move m).state m.standing } in
-    beside_both m moved _ (record { writing = refl; many = refl; rising = λ r. r }) (tells_beside moved lid (handover_move m).message)
+    beside_both m moved _ (record { writing = refl; many = refl; rising = λ r. r }) (tells_beside moved way (handover_move m).message)
 
 sweep_beside : (m : Manager) (bytes : List ℕ) (s : Option Sweep) → Beside m (sweep_answered m bytes s).manager
 sweep_beside m bytes None = nothing m
@@ -199,13 +204,13 @@ call_rises m (Raise floor) rising = rising
 call_rises m (Merge floor sightings) rising = rising
 call_rises m (Poll lid) rising =
     cond_both (is_none (poll_fault m lid)) (after_poll m lid) m (λ (x : Manager). Rising x.counter x.pending)
-    (λ _. (asks_beside m (poll_pending m.counter (poll_path m lid)) (poll_out m.counter lid (poll_path m lid)) refl refl).rising rising) (λ _. rising)
+    (λ _. (polls_beside m (poll_way m lid)).rising rising) (λ _. rising)
 call_rises m Handover rising =
     cond_both (is_none (handover_fault m)) (after_handover m) m (λ (x : Manager). Rising x.counter x.pending)
-    (λ _. (hands_beside m (successor_lid m)).rising rising) (λ _. rising)
+    (λ _. (hands_beside m (successor_way m)).rising rising) (λ _. rising)
 call_rises m Yield rising =
     cond_both (is_none (yield_fault m)) (after_yield m) m (λ (x : Manager). Rising x.counter x.pending)
-    (λ _. (hands_beside m (heir_lid m)).rising rising) (λ _. rising)
+    (λ _. (hands_beside m (heir_way m)).rising rising) (λ _. rising)
 call_rises m Rediscover rising =
     cond_both (is_none (rediscover_fault m)) (after_rediscover m) m (λ (x : Manager). Rising x.counter x.pending) (λ _. rising) (λ _. rising)
 
@@ -401,12 +406,12 @@ module _ (m : Manager) (w : Writing) (writing : m.writing ≡ Some w) (first : C
   call_ends (Merge floor sightings) begins = from_beside _ (record { writing = refl; many = refl; rising = λ r. r })
   call_ends (Poll lid) begins =
       cond_both (is_none (poll_fault m lid)) (after_poll m lid) m (λ (x : Manager). StepsOn w m x 0)
-      (λ _. from_beside _ (asks_beside m (poll_pending m.counter (poll_path m lid)) (poll_out m.counter lid (poll_path m lid)) refl refl)) (λ _. from_beside m (nothing m))
+      (λ _. from_beside _ (polls_beside m (poll_way m lid))) (λ _. from_beside m (nothing m))
   call_ends Handover begins =
-      cond_both (is_none (handover_fault m)) (after_handover m) m (λ (x : Manager). StepsOn w m x 0) (λ _. from_beside _ (hands_beside m (successor_lid m)))
+      cond_both (is_none (handover_fault m)) (after_handover m) m (λ (x : Manager). StepsOn w m x 0) (λ _. from_beside _ (hands_beside m (successor_way m)))
       (λ _. from_beside m (nothing m))
   call_ends Yield begins =
-      cond_both (is_none (yield_fault m)) (after_yield m) m (λ (x : Manager). StepsOn w m x 0) (λ _. from_beside _ (hands_beside m (heir_lid m)))
+      cond_both (is_none (yield_fault m)) (after_yield m) m (λ (x : Manager). StepsOn w m x 0) (λ _. from_beside _ (hands_beside m (heir_way m)))
       (λ _. from_beside m (nothing m))
   call_ends Rediscover begins =
       cond_both (is_none (rediscover_fault m)) (after_rediscover m) m (λ (x : Manager). StepsOn w m x 0)

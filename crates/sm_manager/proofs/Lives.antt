@@ -25,8 +25,9 @@ use Rattle.sm_manager.specs.declared.pending.Pending.{Pending}
 use Rattle.sm_manager.specs.Packets.{Called, refused, done, answered_by, sweep_answered, request_answered, after_request, pending_for, unless_spent, packet_taken, sweep_timed_out, sweep_gave_up, request_gave_up, after_timeout, is_for_sweep, is_info_request}
 use Rattle.sm_manager.specs.declared.pending.Purpose.{Purpose}
 use Rattle.sm_manager.specs.declared.pending.Purpose.TheVariants as purpose
-use Rattle.sm_manager.specs.Election.{after_handover, handed_to, handover_fault, handover_move, heir_lid, rediscover_fault, after_rediscover, after_yield, successor_lid, yield_fault, poll_fault, after_poll, after_message}
-use Rattle.sm_manager.specs.SmInfoAnswers.{acknowledged_at, answering, controlled, request_counted, is_control, moved_on, replying, served}
+use Rattle.sm_manager.specs.Election.{after_handover, handed_to, handover_fault, handover_move, heir_way, rediscover_fault, after_rediscover, after_yield, successor_way, yield_fault, poll_fault, poll_way, polled_by, after_poll, after_message}
+use Rattle.sm_manager.specs.declared.way.Way.{Way}
+use Rattle.sm_manager.specs.SmInfoAnswers.{acknowledged_by, answering, controlled, request_counted, is_control, moved_on, replying, served}
 use Rattle.sm_manager.specs.Traps.{represses, repressing}
 use Rattle.sm_state.specs.Standing.{moved_to}
 use Rattle.sm_manager.specs.PlanFaults.{writing_fault}
@@ -88,14 +89,18 @@ unless_keeps m after e =
           refl;
     }) (λ _. e)
 
-telling_keeps : (m : Manager) (to : Option ℕ) (message : Option Message) → Keeps m (after_message m to message)
+telling_keeps : (m : Manager) (to : Option Way) (message : Option Message) → Keeps m (after_message m to message)
 telling_keeps m None message = record { store = refl; planning = refl }
-telling_keeps m (Some lid) None = record { store = refl; planning = refl }
-telling_keeps m (Some lid) (Some message) = record { store = refl; planning = refl }
+telling_keeps m (Some way) None = record { store = refl; planning = refl }
+telling_keeps m (Some way) (Some message) = record { store = refl; planning = refl }
+
+pub polling_keeps : (m : Manager) (to : Option Way) → Keeps m (polled_by m to)
+polling_keeps m None = record { store = refl; planning = refl }
+polling_keeps m (Some way) = record { store = refl; planning = refl }
 
 moving_keeps : (m : Manager) (bytes : List ℕ) (from : Option ℕ) (move : Transition) → Keeps m (moved_on m bytes from move)
 moving_keeps m bytes from move =
-    let k = telling_keeps (answering (record m { standing = moved_to move.state m.standing }) bytes from (status_of move)) (acknowledged_at bytes from)
+    let k = telling_keeps (answering (record m { standing = moved_to move.state m.standing }) bytes from (status_of move)) (acknowledged_by bytes from)
     move.message in
     record { store = k.store; planning = k.planning }
 
@@ -150,9 +155,9 @@ module _ (m : Manager) where
   taking_keeps [] = record { store = refl; planning = refl }
   taking_keeps (packet ∷ packets) = record { store = refl; planning = refl }
 
-  pub handing_keeps : (lid : Option ℕ) → Keeps m (handed_to m lid)
-  handing_keeps lid =
-      let k = telling_keeps (record m { standing = moved_to (handover_move m).state m.standing }) lid (handover_move m).message in
+  pub handing_keeps : (way : Option Way) → Keeps m (handed_to m way)
+  handing_keeps way =
+      let k = telling_keeps (record m { standing = moved_to (handover_move m).state m.standing }) way (handover_move m).message in
       record { store = k.store; planning = k.planning }
 
   -- so it is with each call
@@ -184,15 +189,12 @@ module _ (m : Manager) where
   takes (Raise floor) = record { store = raised_is_merge m.store floor; planning = refl }
   takes (Merge floor sightings) = record { store = refl; planning = refl }
   takes (Poll lid) =
-      let t = stays (Poll lid) (cond_both (is_none (poll_fault m lid)) (after_poll m lid) m (λ (x : Manager). Keeps m x) (λ _. record {
-        store = refl;
-        planning =
-            refl;
-      }) (λ _. record { store = refl; planning = refl })) in
+      let t = stays (Poll lid) (cond_both (is_none (poll_fault m lid)) (after_poll m lid) m (λ (x : Manager). Keeps m x)
+      (λ _. polling_keeps m (poll_way m lid)) (λ _. record { store = refl; planning = refl })) in
       record { store = t.store; planning = t.planning }
   takes Handover =
       let t = stays Handover
-      (cond_both (is_none (handover_fault m)) (after_handover m) m (λ (x : Manager). Keeps m x) (λ _. handing_keeps (successor_lid m)) (λ _. record {
+      (cond_both (is_none (handover_fault m)) (after_handover m) m (λ (x : Manager). Keeps m x) (λ _. handing_keeps (successor_way m)) (λ _. record {
         store =
             refl;
         planning = refl;
@@ -200,7 +202,7 @@ module _ (m : Manager) where
       record { store = t.store; planning = t.planning }
   takes Yield =
       let t = stays Yield
-      (cond_both (is_none (yield_fault m)) (after_yield m) m (λ (x : Manager). Keeps m x) (λ _. handing_keeps (heir_lid m)) (λ _. record {
+      (cond_both (is_none (yield_fault m)) (after_yield m) m (λ (x : Manager). Keeps m x) (λ _. handing_keeps (heir_way m)) (λ _. record {
         store =
             refl;
         planning = refl;

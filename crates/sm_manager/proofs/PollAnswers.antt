@@ -13,6 +13,9 @@ use Rattle.smp_bytes.specs.Requests.{answer_packet, directed, lid_routed}
 use Rattle.smp_bytes.proofs.Answered.{answer_reads_back}
 use Rattle.smp_bytes.proofs.FieldLaws.{number_in-alike}
 use Rattle.smp_bytes.proofs.Made.{directed_reads_back, lid_routed_reads_back}
+use Rattle.sm_manager.specs.Election.{path_of_way}
+use Rattle.sm_manager.specs.declared.way.Way.{Way}
+use Rattle.sm_manager.specs.declared.way.Way.TheVariants.{Along, ToLid}
 use Rattle.sm_manager.specs.PollLaws.{AnswersReachPolls, IsTakenForPoll}
 
 -- a packet with the ports of a path one by one has them
@@ -58,9 +61,10 @@ module _ (number status : ℕ) (payload : List ℕ) (few : number < 2 ^ 32) (sma
     transaction : number_in transaction_id (answer_packet request status payload) ≡ number
     transaction = same_field transaction_id (omega arith) (omega arith) ∙ reads.transaction_id
 
-    taken : (path : Option (List ℕ)) → goes_by (answer_packet request status payload) path ≡ true
-        → IsTakenForPoll (answer_packet request status payload) number path
-    taken path goes =
+    taken : (way : Way) → goes_by (answer_packet request status payload) (path_of_way way) ≡ true
+        → IsTakenForPoll (answer_packet request status payload) number way
+    taken way goes =
+        let path = path_of_way way in
         let packet = answer_packet request status payload in
         record {
           answers = and_from (number_in method packet == get_resp) (is_answer packet number sm_info 0 path) (eq-eqb _ _ holds.method)
@@ -88,12 +92,12 @@ module _ (number status : ℕ) (payload : List ℕ) (few : number < 2 ^ 32) (sma
             ∙ ap (λ n. number_in (initial_path n) request) same ∙ way.ports i less
 
 pub answers_reach_polls : AnswersReachPolls
-answers_reach_polls number None status payload few short small whole =
+answers_reach_polls number (ToLid lid) status payload few short small whole =
     let reads = lid_routed_reads_back get sm_info 0 number (replicate 64 0) (fits number status payload few small whole) in
-    taken number status payload few small whole (lid_routed get sm_info 0 number (replicate 64 0)) reads.0 None
+    taken number status payload few small whole (lid_routed get sm_info 0 number (replicate 64 0)) reads.0 (ToLid lid)
     (ap not ((holds number status payload few small whole (lid_routed get sm_info 0 number (replicate 64 0)) reads.0).class
     ∙ ap (λ n. n == 0x81) reads.1.class))
-answers_reach_polls number (Some path) status payload few short small whole =
+answers_reach_polls number (Along path) status payload few short small whole =
     let reads = directed_reads_back get sm_info 0 number path (replicate 64 0) (fits number status payload few small whole) short in
-    taken number status payload few small whole (directed get sm_info 0 number path (replicate 64 0)) reads.0 (Some path)
+    taken number status payload few small whole (directed get sm_info 0 number path (replicate 64 0)) reads.0 (Along path)
     (over_path number status payload few small whole (directed get sm_info 0 number path (replicate 64 0)) reads.0 path reads.1)

@@ -1,7 +1,7 @@
 -- If there is room, each end port has a LID.
 use Rattle.std.proofs.Common.{◌≡◌, ℕ, ◌+◌, Bool, true, false, cond, List, [], ◌∷◌, ◌++◌, refl, sym, ap, ◌∙◌, subst}
 use Rattle.std.proofs.lemmas.Option.{same_Some}
-use Rattle.std.specs.Prelude.{◌^◌, Contains, IsSome, None, Option, Some, if◌then◌else◌, is_none, nat_le, option_and_then}
+use Rattle.std.specs.Prelude.{◌^◌, Contains, IsSome, None, Option, Some, if◌then◌else◌, is_none, nat_le, option_and_then, option_map}
 use Rattle.fact_store.specs.View.{Facts, cells_of}
 use Rattle.subnet_view.specs.declared.end_port.EndPort.{EndPort}
 use Rattle.subnet_view.specs.EndPort.{end_ports, is_end_port}
@@ -19,10 +19,12 @@ use Rattle.sm_state.specs.Control.{control_of_message, modifier_of_control}
 use Rattle.sm_manager.specs.declared.outgoing.Outgoing.{Outgoing}
 use Rattle.sm_manager.specs.declared.pending.Pending.{Pending}
 use Rattle.sm_manager.specs.declared.pending.Purpose.TheVariants.{Control}
+use Rattle.sm_manager.specs.declared.way.Way.{Way}
+use Rattle.sm_manager.specs.declared.way.Way.TheVariants.{ToLid}
 use Rattle.sm_state.specs.declared.standing.Standing.{Standing}
 use Rattle.sm_state.specs.declared.election.SeenManager.{SeenManager}
 use Rattle.sm_manager.specs.declared.fault.ManagerFault.{ManagerFault}
-use Rattle.sm_manager.specs.Election.{control_out, control_sent, handed_to, handover_move, receiver_fault, receiver_lid, receiver_port, info_pending, port_seen, after_message, unless_lid}
+use Rattle.sm_manager.specs.Election.{control_out, control_sent, handed_to, handover_move, planned_fault, planned_way, receiver_lid, receiver_port, info_pending, port_seen, after_message, unless_way}
 use Rattle.sm_manager.specs.Manager.{Manager}
 use Rattle.sm_manager.specs.PlanFaults.{number_fault, or_else, plan_fault, room_fault, unless_numbers}
 use Rattle.sm_manager.specs.declared.fault.ManagerFault.TheVariants.{Nobody}
@@ -66,22 +68,22 @@ seen_is_end cells (Some s) e h = by_test (is_end_port cells s.guid s.port) refl 
 -- a port that is an end port has a LID of the plan, if there is one
 pub with_lid : (lmc : ℕ) (facts : Facts) (p : EndPort) (later : Option ManagerFault) → is_end_port (cells_of facts) p.node p.port ≡ true
     → or_else (plan_fault lmc (cells_of facts)) later
-    ≡ or_else (plan_fault lmc (cells_of facts)) (or_else (unless_lid (lid_of (lids lmc (cells_of facts)) p)) later)
+    ≡ or_else (plan_fault lmc (cells_of facts)) (or_else (unless_way (option_map ToLid (lid_of (lids lmc (cells_of facts)) p))) later)
 with_lid lmc facts p later is = by_fault (plan_fault lmc (cells_of facts)) refl
   where
-    given : (o : Option ℕ) → IsSome o → later ≡ or_else (unless_lid o) later
+    given : (o : Option ℕ) → IsSome o → later ≡ or_else (unless_way (option_map ToLid o)) later
     given None e = absurd (cc e)
     given (Some lid) e = refl
 
     by_fault : (o : Option ManagerFault) → plan_fault lmc (cells_of facts) ≡ o
-        → or_else o later ≡ or_else o (or_else (unless_lid (lid_of (lids lmc (cells_of facts)) p)) later)
+        → or_else o later ≡ or_else o (or_else (unless_way (option_map ToLid (lid_of (lids lmc (cells_of facts)) p))) later)
     by_fault None e = given (lid_of (lids lmc (cells_of facts)) p) (end_port_has_lid lmc facts p e is)
     by_fault (Some why) e = refl
 
 -- if the receiver was seen at an end port, a handover is refused if the plan is, or if numbers are lacking
 pub judged_with_lid : (before m : Manager) (receiver : Option SeenManager) (s : SeenManager) (p : EndPort) (are_numbers : Bool) → before ≡ m → receiver ≡ Some s
     → port_seen (cells_of m.store) s ≡ Some p → are_numbers ≡ nat_le (before.counter + 1) (2 ^ 32)
-    → or_else (plan_fault m.planning.lmc (cells_of m.store)) (unless_numbers are_numbers) ≡ receiver_fault m receiver
+    → or_else (plan_fault m.planning.lmc (cells_of m.store)) (unless_numbers are_numbers) ≡ planned_fault m receiver
 judged_with_lid before m receiver s p are_numbers same there seen enough =
     let cells = cells_of m.store in
     let plan = plan_fault m.planning.lmc cells in
@@ -91,19 +93,19 @@ judged_with_lid before m receiver s p are_numbers same there seen enough =
     ap (λ (b : Bool). or_else plan (unless_numbers b)) (enough ∙ ap (λ (x : Manager). nat_le (x.counter + 1) (2 ^ 32)) same)
     ∙ ap (or_else plan) (unless_so_many m.counter 1)
     ∙ with_lid m.planning.lmc m.store p number (seen_is_end cells receiver p port)
-    ∙ ap (λ o. or_else plan (or_else (unless_lid o) number)) (sym lid)
-    ∙ sym (ap (λ (o : Option SeenManager). if is_none o then Some Nobody else or_else plan (or_else (unless_lid (receiver_lid m receiver)) number)) there)
+    ∙ ap (λ o. or_else plan (or_else (unless_way (option_map ToLid o)) number)) (sym lid)
+    ∙ sym (ap (λ (o : Option SeenManager). if is_none o then Some Nobody else or_else plan (or_else (unless_way (planned_way m receiver)) number)) there)
 
 -- what goes to the receiver
-pub handed_is : (m : Manager) (to : Option ℕ) (lid : ℕ) (message : Message) → to ≡ Some lid → (handover_move m).message ≡ Some message
-    → control_sent (record m { standing = moved_to (handover_move m).state m.standing }) lid (control_of_message message) ≡ handed_to m to
-handed_is m to lid message e f = sym (λ i. after_message (record m { standing = moved_to (handover_move m).state m.standing }) (e i) (f i))
+pub handed_is : (m : Manager) (to : Option Way) (way : Way) (message : Message) → to ≡ Some way → (handover_move m).message ≡ Some message
+    → control_sent (record m { standing = moved_to (handover_move m).state m.standing }) way (control_of_message message) ≡ handed_to m to
+handed_is m to way message e f = sym (λ i. after_message (record m { standing = moved_to (handover_move m).state m.standing }) (e i) (f i))
 
-pub handed_parts : (m : Manager) (standing : Standing) (counter : ℕ) (pending : List Pending) (outgoing : List Outgoing) (to : Option ℕ) (lid : ℕ) (message : Message)
-    → to ≡ Some lid → (handover_move m).message ≡ Some message → standing ≡ moved_to (handover_move m).state m.standing → counter ≡ m.counter + 1
-    → pending ≡ m.pending ++ info_pending m.counter Control (modifier_of_control (control_of_message message)) ∷ []
-    → outgoing ≡ m.outgoing ++ control_out standing m.counter lid (control_of_message message) ∷ []
+pub handed_parts : (m : Manager) (standing : Standing) (counter : ℕ) (pending : List Pending) (outgoing : List Outgoing) (to : Option Way) (way : Way) (message : Message)
+    → to ≡ Some way → (handover_move m).message ≡ Some message → standing ≡ moved_to (handover_move m).state m.standing → counter ≡ m.counter + 1
+    → pending ≡ m.pending ++ info_pending m.counter Control (modifier_of_control (control_of_message message)) way ∷ []
+    → outgoing ≡ m.outgoing ++ control_out standing m.counter way (control_of_message message) ∷ []
     → record m { standing = standing; counter = counter; pending = pending; outgoing = outgoing } ≡ handed_to m to
-handed_parts m standing counter pending outgoing to lid message e f moved number waits out =
-    let sent = out ∙ ap (λ s. m.outgoing ++ control_out s m.counter lid (control_of_message message) ∷ []) moved in
-    (λ i. record m { standing = moved i; counter = number i; pending = waits i; outgoing = sent i }) ∙ handed_is m to lid message e f
+handed_parts m standing counter pending outgoing to way message e f moved number waits out =
+    let sent = out ∙ ap (λ s. m.outgoing ++ control_out s m.counter way (control_of_message message) ∷ []) moved in
+    (λ i. record m { standing = moved i; counter = number i; pending = waits i; outgoing = sent i }) ∙ handed_is m to way message e f

@@ -1,5 +1,6 @@
 -- The life of a manager: a list of calls, and what they take in.
-use Rattle.std.specs.Prelude.{◌≡◌, ℕ, List, [], ◌∷◌, ◌++◌, Option, Some, None, Result, Ok, Err, if◌then◌else◌, is_none, max}
+use Rattle.std.specs.Prelude.{◌≡◌, ℕ, List, [], ◌∷◌, ◌++◌, Option, Some, None, Result, Ok, Err}
+use Rattle.std.specs.Prelude.{if◌then◌else◌, is_none, max}
 use Rattle.reply_facts.specs.Report.{Sightings}
 use Rattle.fact_store.specs.Seen.{HaveSameMembers}
 use Rattle.fact_store.specs.View.{view_at, cells_of}
@@ -12,7 +13,8 @@ use Rattle.sweep.specs.Sweep.{Sweep}
 use Rattle.lid_assign.specs.Lids.{IsNoRoom}
 use Rattle.plan_steps.specs.Arrival.{EveryPacketArrives}
 use Rattle.plan_steps.specs.Plan.{plan_of}
-use Rattle.sm_manager.specs.Manager.{Manager, new_manager, begin_fault, after_begin_sweep, after_raise_floor, after_merge, after_take_outgoing}
+use Rattle.sm_manager.specs.Manager.{Manager, new_manager, begin_fault, after_begin_sweep}
+use Rattle.sm_manager.specs.Manager.{after_raise_floor, after_merge, after_take_outgoing}
 use Rattle.sm_manager.specs.Election.{after_handover, handover_fault, poll_fault, after_poll}
 use Rattle.sm_manager.specs.Election.{after_rediscover, after_yield, rediscover_fault, yield_fault}
 use Rattle.sm_manager.specs.Packets.{after_packet, after_timeout, is_for_sweep, is_info_request}

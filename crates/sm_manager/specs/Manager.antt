@@ -1,6 +1,7 @@
 -- A subnet manager: what it knows, its last sweep, the packets that it has queued, and the calls on it. InfiniBand
 -- Architecture Specification, Volume 1: subnet management, subnet manager; topology discovery.
-use Rattle.std.specs.Prelude.{◌≡◌, ℕ, ◌+◌, ◌-◌, ◌^◌, max, Bool, false, not, List, [], ◌∷◌, ◌++◌, map, ◌==◌, if◌then◌else◌, Option, Some, None}
+use Rattle.std.specs.Prelude.{◌≡◌, ℕ, ◌+◌, ◌-◌, ◌^◌, max, Bool, false, not, List, [], ◌∷◌, ◌++◌}
+use Rattle.std.specs.Prelude.{map, ◌==◌, if◌then◌else◌, Option, Some, None}
 use Rattle.fact_store.specs.Seen.{newest_of}
 use Rattle.fact_store.specs.View.{Facts, cells_of, no_facts, raised}
 use Rattle.plan_steps.specs.Phase.{Phase}

@@ -1,6 +1,7 @@
 -- What a manager answers to a request for its SMInfo, and to a control. InfiniBand Architecture Specification, Volume
 -- 1: subnet management, SMInfo; management methods and status.
-use Rattle.std.specs.Prelude.{ℕ, Bool, ◌&&◌, ◌||◌, not, List, [], ◌∷◌, ◌++◌, ◌==◌, if◌then◌else◌, Option, None}
+use Rattle.std.specs.Prelude.{ℕ, Bool, ◌&&◌, ◌||◌, not, List, [], ◌∷◌, ◌++◌, ◌==◌, if◌then◌else◌}
+use Rattle.std.specs.Prelude.{Option, None, option_map}
 use Rattle.smp_bytes.specs.Field.{bytes_in, number_in}
 use Rattle.smp_bytes.specs.Header.{get, set, done, invalid_field, method_not_supported}
 use Rattle.smp_bytes.specs.Packet.{method, attribute_modifier, attribute_data, is_directed}
@@ -10,6 +11,8 @@ use Rattle.sm_state.specs.declared.event.Event.TheVariants as event
 use Rattle.sm_state.specs.declared.transition.Transition.{Transition}
 use Rattle.sm_state.specs.Transitions.{status_of, stepped}
 use Rattle.sm_manager.specs.declared.outgoing.Outgoing.{Outgoing}
+use Rattle.sm_manager.specs.declared.way.Way.{Way}
+use Rattle.sm_manager.specs.declared.way.Way.TheVariants.{ToLid}
 use Rattle.sm_state.specs.declared.standing.Standing.{Standing}
 use Rattle.sm_manager.specs.Election.{after_message}
 use Rattle.sm_manager.specs.Manager.{Manager}
@@ -47,17 +50,17 @@ request_counted m = record m { standing = after_request_heard m.standing }
 abbrev pub is_control : Standing → List ℕ → Bool
 is_control s packet = number_in method packet == set && (is_live s.conduct || not (is_directed packet))
 
--- the LID to which a control is acknowledged: that of its sender; None for a control along a directed route, which is
--- not acknowledged
-abbrev pub acknowledged_at : List ℕ → Option ℕ → Option ℕ
-acknowledged_at packet from = if is_directed packet then None else from
+-- the way of the acknowledgement of a control: to the LID of its sender; None for a control along a directed route,
+-- which is not acknowledged
+abbrev pub acknowledged_by : List ℕ → Option ℕ → Option Way
+acknowledged_by packet from = if is_directed packet then None else option_map ToLid from
 
 -- the manager after its state has moved by `move` and the answer was queued. The message of `move` is queued after
 -- the answer, if `move` has one and the packet came by LIDs
 abbrev pub moved_on : Manager → List ℕ → Option ℕ → Transition → Manager
 moved_on m packet from move =
     after_message (answering (record m { standing = moved_to move.state m.standing }) packet from (status_of move))
-    (acknowledged_at packet from) move.message
+    (acknowledged_by packet from) move.message
 
 -- the manager after the control in `packet` has moved its state and was answered
 abbrev pub controlled : Manager → List ℕ → Option ℕ → Manager

@@ -1,12 +1,15 @@
 -- Which steps of a writing were answered with status 0, call by call. A plan is written when all steps that count
 -- were.
-use Rattle.std.specs.Prelude.{◌≡◌, ◌≢◌, ◌↔◌, ℕ, ◌+◌, Bool, true, false, ◌&&◌, List, [], ◌∷◌, length, ◌==◌, if◌then◌else◌, Option, Some, None, is_none}
+use Rattle.std.specs.Prelude.{◌≡◌, ◌≢◌, ◌↔◌, ℕ, ◌+◌, Bool, true, false, ◌&&◌, List, [], ◌∷◌, length}
+use Rattle.std.specs.Prelude.{◌==◌, if◌then◌else◌, Option, Some, None, is_none}
 use Rattle.smp_bytes.specs.Header.{done}
 use Rattle.smp_bytes.specs.Packet.{fault_of, status}
 use Rattle.smp_bytes.specs.declared.smp_fault.SmpFault.{SmpFault}
 use Rattle.plan_steps.specs.Phase.{Phase}
 use Rattle.sm_manager.specs.declared.pending.Pending.{Pending}
-use Rattle.sm_manager.specs.CallLists.{Call, BeginSweep, WriteSteps, Take, Packet, Timeout, Raise, Merge, Poll, Handover, Yield, Rediscover, after_call, after_calls}
+use Rattle.sm_manager.specs.CallLists.{Call, BeginSweep, WriteSteps, Take, Packet, Timeout, Raise}
+use Rattle.sm_manager.specs.CallLists.{Merge, Poll, Handover, Yield, Rediscover, after_call}
+use Rattle.sm_manager.specs.CallLists.{after_calls}
 use Rattle.sm_manager.specs.Manager.{Manager, new_manager}
 use Rattle.sm_manager.specs.Packets.{is_for_sweep, is_info_request, pending_for, request_answered}
 use Rattle.plan_steps.specs.Planning.{Planning}

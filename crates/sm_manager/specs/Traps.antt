@@ -3,7 +3,8 @@
 -- (TrapRepress).
 use Rattle.std.specs.Prelude.{ℕ, Bool, ◌&&◌, not, List, [], ◌∷◌, ◌++◌, ◌==◌, Option}
 use Rattle.smp_bytes.specs.Field.{Field, bytes_in, number_in}
-use Rattle.smp_bytes.specs.Packet.{attribute_data, attribute_id, attribute_modifier, is_directed, method, transaction_id}
+use Rattle.smp_bytes.specs.Packet.{attribute_data, attribute_id, attribute_modifier, is_directed}
+use Rattle.smp_bytes.specs.Packet.{method, transaction_id}
 use Rattle.smp_bytes.specs.Requests.{lid_routed}
 use Rattle.sm_manager.specs.declared.outgoing.Outgoing.{Outgoing}
 use Rattle.sm_manager.specs.declared.traps.Trap.{Trap}

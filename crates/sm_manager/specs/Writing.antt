@@ -1,6 +1,7 @@
 -- Writing a plan: its steps are sent phase by phase, each phase once no step of the previous phase is outstanding.
 -- InfiniBand Architecture Specification, Volume 1: subnet initialization; linear forwarding tables; port states.
-use Rattle.std.specs.Prelude.{ℕ, suc, ◌+◌, ◌^◌, Bool, false, ◌&&◌, ◌||◌, not, List, [], ◌∷◌, ◌++◌, length, drop, nat_lt, ◌==◌, if◌then◌else◌, Option, Some, None}
+use Rattle.std.specs.Prelude.{ℕ, suc, ◌+◌, ◌^◌, Bool, false, ◌&&◌, ◌||◌, not, List, [], ◌∷◌, ◌++◌}
+use Rattle.std.specs.Prelude.{length, drop, nat_lt, ◌==◌, if◌then◌else◌, Option, Some, None}
 use Rattle.std.specs.List.{list_any}
 use Rattle.fact_store.specs.View.{cells_of}
 use Rattle.plan_steps.specs.Plan.{plan_of}

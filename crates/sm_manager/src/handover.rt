@@ -7,23 +7,23 @@ ghost use Rattle.lid_assign.specs.Lids.{lid_of, lids};
 ghost use Rattle.subnet_view.specs.EndPort.{is_end_port};
 ghost use Rattle.smp_bytes.specs.Judges.{Judges, JudgesButFor};
 ghost use Rattle.sm_manager.specs.Election.{after_handover, handed_to, handing_fault, handover_fault};
-ghost use Rattle.sm_manager.specs.Election.{after_rediscover, after_yield, receiver_fault, receiver_lid};
-ghost use Rattle.sm_manager.specs.Election.{rediscover_fault, yield_fault};
-ghost use Rattle.sm_manager.specs.Election.{port_seen};
-ghost use Rattle.sm_manager.specs.Election.{control_out, info_pending, poll_fault, poll_out, poll_path, poll_pending};
-ghost use Rattle.sm_manager.specs.Election.{after_poll, is_way_out, path_seen, polled_path, unless_way};
+ghost use Rattle.sm_manager.specs.Election.{after_rediscover, after_yield, rediscover_fault, yield_fault};
+ghost use Rattle.sm_manager.specs.Election.{planned_fault, port_seen, receiver_fault, receiver_lid, receiver_way};
+ghost use Rattle.sm_manager.specs.Election.{after_poll, control_out, info_pending, poll_fault, poll_way};
+ghost use Rattle.sm_manager.specs.Election.{along, if_way_out, is_way_out, path_seen, unless_way, way_seen};
 ghost use Rattle.sm_manager.specs.Election.{message_count, message_out, message_pending};
 ghost use Rattle.sm_manager.specs.declared.pending.Purpose.TheVariants.{Control as ForControl};
 ghost use Rattle.sm_state.specs.Control.{modifier_of_control};
 ghost use Rattle.sm_manager.specs.Fault.{is_memory};
 ghost use Rattle.sm_manager.specs.Manager.{after_verdict};
-ghost use Rattle.sm_manager.specs.PlanFaults.{or_else, plan_fault};
+ghost use Rattle.sm_manager.specs.PlanFaults.{number_fault, or_else, plan_fault};
 
 use crate::fault::ManagerFault;
 use crate::manager::Manager;
 use crate::manager_requests::{ManagerRequests, make_room, reserve};
 use crate::outgoing::Outgoing;
 use crate::pending::Purpose;
+use crate::way::Way;
 use crate::write_steps::where_numbered;
 use attr_codec::Attribute;
 use fact_store::Store;
@@ -63,38 +63,40 @@ impl Manager {
         if !self.standing.is_in(SmState::Standby) {
             return Err(ManagerFault::NotStandby);
         }
-        let path = self.poll_path(&lid)?;
+        let way = self.poll_way(lid)?;
         make_room(1, 1, &mut self.requests, &mut self.outgoing)?;
-        send_poll(lid, path, &mut self.requests, &mut self.outgoing);
+        let poll = self
+            .requests
+            .send_info(Purpose::Poll, Method::GET, 0, way, &[0; 64]);
+        self.outgoing.push_back_reserved(poll);
         Ok(())
     }
 
-    /// Returns `None` if `lid` is not `None`, since the poll is then sent to this LID. Otherwise returns the path
-    /// along which the poll is sent. Returns `Nobody` if `lid` is `None` and there is no path to a manager to poll.
-    fn poll_path(&self, lid: &Option<Lid>) -> Result<Option<Path<63>>, ManagerFault>
-        ensures judged { Judges result (unless_way lid.now (polled_path self.now)) }
-        ensures path { IfOk result (λ path. path ≡ poll_path self.now lid.now) }
+    /// Returns the way of a poll: to `lid` or, if `lid` is `None`, to the manager to poll. Returns `Nobody` if there is
+    /// no way to that one.
+    fn poll_way(&self, lid: Option<Lid>) -> Result<Way, ManagerFault>
+        ensures judged { Judges result (unless_way (poll_way self.now lid)) }
+        ensures way { IfOk result (λ way. poll_way self.now lid ≡ Some way) }
     {
-        if lid.is_some() {
-            return Ok(None);
-        }
-        match self.polled_path() {
-            Some(path) => Ok(Some(path.copy())),
-            None => Err(ManagerFault::Nobody),
+        match lid {
+            Some(lid) => Ok(Way::ToLid(lid)),
+            None => self.way_seen(polled(&self.standing.info(), &self.seen)),
         }
     }
 
-    /// Returns the path along which a poll without a LID is sent. Returns `None` if the last sweep saw no manager to
-    /// poll, or has no path to that manager that leaves by this manager's port and has at most 63 hops.
-    fn polled_path(&self) -> Option<&Path<63>>
-        ensures { option_copied result ≡ polled_path self.now }
+    /// Returns the way to the port where the manager `seen` was seen: along the path by which the last sweep first
+    /// reached that port. Returns `Nobody` if `seen` is `None`, if there is no such path, or if the path does not leave
+    /// by this manager's port or has more than 63 hops.
+    fn way_seen(&self, seen: Option<SeenManager>) -> Result<Way, ManagerFault>
+        ensures judged { Judges result (unless_way (way_seen self.now seen)) }
+        ensures way { IfOk result (λ way. way_seen self.now seen ≡ Some way) }
     {
-        let polled = polled(&self.standing.info(), &self.seen)?;
-        let path = self.path_seen(&polled)?;
-        if is_way_out(self.port, path) {
-            Some(path)
-        } else {
-            None
+        let Some(seen) = seen else {
+            return Err(ManagerFault::Nobody);
+        };
+        match self.path_seen(&seen) {
+            None => Err(ManagerFault::Nobody),
+            Some(path) => way_along(self.port, path),
         }
     }
 
@@ -111,15 +113,17 @@ impl Manager {
 
     /// Asks the successor to take over. The successor is the greatest manager that this one hears, that the last
     /// sweep saw in Standby or Master, and that wins over this one. If several managers are equal, the successor is
-    /// the first of them. Queues a HANDOVER to the LID that the plan gives to the port where the successor was seen.
-    /// This manager stays Master until the successor acknowledges or, under the live conduct, answers with status 0.
-    /// Computes the plan's LIDs anew.
+    /// the first of them. Under the live conduct, queues a HANDOVER along the path by which the sweep reached the port
+    /// where the successor was seen. Otherwise queues it to the LID that the plan gives to this port, and computes the
+    /// plan's LIDs anew. This manager stays Master until the successor acknowledges or, under the live conduct, answers
+    /// with status 0.
     ///
     /// # Errors
     ///
-    /// Returns the first of these that applies: `NotMaster`; `Nobody` if there is no successor; `NoRoom`; `Nobody` if
-    /// the successor's port is not known to be an end port and thus has no LID in the plan; `SequenceSpent`;
-    /// `Memory`.
+    /// Returns the first of these that applies: `NotMaster`; `Nobody` if there is no successor or, under the live
+    /// conduct, no usable path to it; `NoRoom`; `Nobody` if the successor's port is not known to be an end port and
+    /// thus has no LID in the plan; `SequenceSpent`; `Memory`. The live conduct needs no LID, and so neither `NoRoom`
+    /// nor the second `Nobody` applies.
     pub fn handover(&mut self) -> Result<(), ManagerFault>
         ensures judged { JudgesButFor is_memory result (handover_fault self.old) }
         ensures ok { OnOk result (self.new ≡ after_handover self.old) }
@@ -129,14 +133,13 @@ impl Manager {
         self.hand_to(successor)
     }
 
-    /// Asks the heir to take over, although this manager wins over it. The heir is the greatest master that this manager
-    /// hears and that the last sweep saw or, if it saw no master, the greatest standby that it hears; ties go to the
-    /// first. A master that gets a HANDOVER looks at the subnet anew. Otherwise as `handover`.
+    /// Asks the heir to take over, although this manager wins over it. The heir is the greatest master that this
+    /// manager hears and that the last sweep saw or, if it saw no master, the greatest standby that it hears; ties go
+    /// to the first. A master that gets a HANDOVER looks at the subnet anew. Otherwise as `handover`.
     ///
     /// # Errors
     ///
-    /// Returns the first of these that applies: `NotMaster`; `Nobody` if there is no heir; `NoRoom`; `Nobody` if the
-    /// heir's port is not known to be an end port and thus has no LID in the plan; `SequenceSpent`; `Memory`.
+    /// As `handover`, with the heir in place of the successor.
     pub fn yield_up(&mut self) -> Result<(), ManagerFault>
         ensures judged { JudgesButFor is_memory result (yield_fault self.old) }
         ensures ok { OnOk result (self.new ≡ after_yield self.old) }
@@ -164,12 +167,11 @@ impl Manager {
         }
     }
 
-    /// Queues a HANDOVER to the LID that the plan gives to the port where the manager `receiver` was seen. Returns the
-    /// first of these that applies: `NotMaster`; `Nobody` if `receiver` is `None`; `NoRoom`; `Nobody` if the receiver's
-    /// port is not known to be an end port; `SequenceSpent`; `Memory`.
+    /// Queues a HANDOVER to the port where the manager `receiver` was seen. Returns the first of these that applies:
+    /// `NotMaster`; the fault of `receiver_way`.
     fn hand_to(&mut self, receiver: Option<SeenManager>) -> Result<(), ManagerFault>
         ensures judged { JudgesButFor is_memory result (handing_fault self.old receiver) }
-        ensures ok { OnOk result (self.new ≡ handed_to self.old (receiver_lid self.old receiver)) }
+        ensures ok { OnOk result (self.new ≡ handed_to self.old (receiver_way self.old receiver)) }
         ensures err { OnErr result (self.new ≡ self.old) }
     {
         let transition = step(
@@ -180,11 +182,11 @@ impl Manager {
         let Some(message) = transition.message else {
             return Err(ManagerFault::NotMaster);
         };
-        let lid = self.receiver_lid(receiver)?;
+        let way = self.receiver_way(receiver)?;
         reserve(1, 1, &mut self.requests, &mut self.outgoing)?;
         self.standing.move_to(transition.state);
         send_control(
-            lid,
+            way,
             message.control(),
             &self.standing,
             &mut self.requests,
@@ -193,11 +195,44 @@ impl Manager {
         Ok(())
     }
 
-    /// Returns the LID that the plan gives to the port where the manager `receiver` was seen. Returns the first of these
-    /// that applies: `Nobody` if `receiver` is `None`; `NoRoom`; `Nobody` if the receiver's port is not known to be an
-    /// end port; `SequenceSpent` if no number is left for the request; `Memory`.
-    fn receiver_lid(&self, receiver: Option<SeenManager>) -> Result<Lid, ManagerFault>
+    /// Returns the way of a HANDOVER to the port where the manager `receiver` was seen: under the live conduct the path
+    /// by which the last sweep first reached this port, and otherwise to its LID in the plan. Returns the first of
+    /// these that applies: `Nobody` if `receiver` is `None` or, under the live conduct, there is no such way;
+    /// otherwise the fault of `receiver_lid`; `SequenceSpent` if no number is left for the request; `Memory`.
+    fn receiver_way(&self, receiver: Option<SeenManager>) -> Result<Way, ManagerFault>
         ensures judged { JudgesButFor is_memory result (receiver_fault self.now receiver) }
+        ensures way { IfOk result (λ way. receiver_way self.now receiver ≡ Some way) }
+        ensures number { OnOk result (self.now.counter < 2 ^ 32) }
+    {
+        if self.standing.conduct.is_live() {
+            self.numbered_way(receiver)
+        } else {
+            let lid = self.receiver_lid(receiver)?;
+            Ok(Way::ToLid(lid))
+        }
+    }
+
+    /// Returns the way to the port where the manager `receiver` was seen. Returns the first of these that applies:
+    /// `Nobody` if there is no such way; `SequenceSpent` if no number is left for a request.
+    fn numbered_way(&self, receiver: Option<SeenManager>) -> Result<Way, ManagerFault>
+        ensures judged { Judges result
+            (or_else (unless_way (way_seen self.now receiver)) (number_fault (self.now.counter + 1))) }
+        ensures way { IfOk result (λ way. way_seen self.now receiver ≡ Some way) }
+        ensures number { OnOk result (self.now.counter < 2 ^ 32) }
+    {
+        let way = self.way_seen(receiver)?;
+        if self.requests.has_numbers(1) {
+            Ok(way)
+        } else {
+            Err(ManagerFault::SequenceSpent)
+        }
+    }
+
+    /// Returns the LID that the plan gives to the port where the manager `receiver` was seen. Returns the first of
+    /// these that applies: `Nobody` if `receiver` is `None`; `NoRoom`; `Nobody` if the receiver's port is not known to
+    /// be an end port; `SequenceSpent` if no number is left for the request; `Memory`.
+    fn receiver_lid(&self, receiver: Option<SeenManager>) -> Result<Lid, ManagerFault>
+        ensures judged { JudgesButFor is_memory result (planned_fault self.now receiver) }
         ensures lid { IfOk result (λ lid. receiver_lid self.now receiver ≡ Some lid) }
         ensures number { OnOk result (self.now.counter < 2 ^ 32) }
     {
@@ -262,6 +297,18 @@ fn port_seen(store: &Store, seen: &SeenManager) -> Option<EndPort>
     })
 }
 
+/// Returns the way along `path`. Returns `Nobody` if the path does not leave by `port` or has more than 63 hops.
+fn way_along(port: PortNum, path: &Path<63>) -> Result<Way, ManagerFault>
+    ensures judged { Judges result (unless_way (along (if_way_out port (Some path.now)))) }
+    ensures way { IfOk result (λ way. along (if_way_out port (Some path.now)) ≡ Some way) }
+{
+    if is_way_out(port, path) {
+        Ok(Way::Along(path.copy()))
+    } else {
+        Err(ManagerFault::Nobody)
+    }
+}
+
 /// Returns whether `path` leaves by `port` and has at most 63 hops.
 fn is_way_out(port: PortNum, path: &Path<63>) -> bool
     ensures { result ≡ is_way_out port path.now }
@@ -272,58 +319,37 @@ fn is_way_out(port: PortNum, path: &Path<63>) -> bool
     }
 }
 
-/// Queues a poll along `path` or, if `path` is `None`, by LIDs. The packet is addressed to `lid`. `requests` must
-/// have memory and a number for the poll, and `outgoing` memory for its packet. Does not allocate.
-fn send_poll(
-    lid: Option<Lid>,
-    path: Option<Path<63>>,
-    requests: &mut ManagerRequests,
-    outgoing: &mut VecDeque<Outgoing>,
-)
-    requires number { requests.old.counter < 2 ^ 32 }
-    requires room { 0 < requests.old.room }
-    requires outgoing { deque_len outgoing.old < deque_capacity outgoing.old }
-    ensures counter { requests.new.counter ≡ requests.old.counter + 1 }
-    ensures pending { requests.new.pending
-        ≡ requests.old.pending ++ poll_pending requests.old.counter path ∷ [] }
-    ensures outgoing { outgoing.new.items
-        ≡ outgoing.old.items ++ poll_out requests.old.counter lid path ∷ [] }
-{
-    let packet = requests.send_poll(path);
-    outgoing.push_back_reserved(Outgoing { packet, to: lid });
-}
-
-/// Queues `message` as a control to the LID `to`. Does nothing if `to` or `message` is `None`. Otherwise `requests`
+/// Queues `message` as a control that goes `way`. Does nothing if `way` or `message` is `None`. Otherwise `requests`
 /// must have memory and a number for the control, and `outgoing` memory for its packet. Does not allocate.
 pub(crate) fn send_message(
-    to: &Option<Lid>,
+    way: Option<Way>,
     message: &Option<Message>,
     standing: &Standing,
     requests: &mut ManagerRequests,
     outgoing: &mut VecDeque<Outgoing>,
 )
-    requires number { requests.old.counter + message_count to.now message.now ≤ 2 ^ 32 }
-    requires room { message_count to.now message.now ≤ requests.old.room }
-    requires outgoing { deque_len outgoing.old + message_count to.now message.now ≤ deque_capacity outgoing.old }
-    ensures counter { requests.new.counter ≡ requests.old.counter + message_count to.now message.now }
+    requires number { requests.old.counter + message_count way message.now ≤ 2 ^ 32 }
+    requires room { message_count way message.now ≤ requests.old.room }
+    requires outgoing { deque_len outgoing.old + message_count way message.now ≤ deque_capacity outgoing.old }
+    ensures counter { requests.new.counter ≡ requests.old.counter + message_count way message.now }
     ensures pending { requests.new.pending ≡ requests.old.pending
-        ++ message_pending requests.old.counter to.now message.now }
+        ++ message_pending requests.old.counter way message.now }
     ensures outgoing { outgoing.new.items ≡ outgoing.old.items
-        ++ message_out standing.now requests.old.counter to.now message.now }
+        ++ message_out standing.now requests.old.counter way message.now }
 {
-    match to {
+    match way {
         None => {}
-        Some(lid) => match message {
+        Some(way) => match message {
             None => {}
-            Some(message) => send_control(*lid, message.control(), standing, requests, outgoing),
+            Some(message) => send_control(way, message.control(), standing, requests, outgoing),
         },
     }
 }
 
-/// Queues `control` to the LID `to`, with the SMInfo of `standing`. `requests` must have memory and a number for the
+/// Queues `control`, which goes `way`, with the SMInfo of `standing`. `requests` must have memory and a number for the
 /// control, and `outgoing` memory for its packet. Does not allocate.
 fn send_control(
-    to: Lid,
+    way: Way,
     control: Control,
     standing: &Standing,
     requests: &mut ManagerRequests,
@@ -334,15 +360,12 @@ fn send_control(
     requires outgoing { deque_len outgoing.old < deque_capacity outgoing.old }
     ensures counter { requests.new.counter ≡ requests.old.counter + 1 }
     ensures pending { requests.new.pending ≡ requests.old.pending
-        ++ info_pending requests.old.counter ForControl (modifier_of_control control) ∷ [] }
+        ++ info_pending requests.old.counter ForControl (modifier_of_control control) way ∷ [] }
     ensures outgoing { outgoing.new.items
-        ≡ outgoing.old.items ++ control_out standing.now requests.old.counter to control ∷ [] }
+        ≡ outgoing.old.items ++ control_out standing.now requests.old.counter way control ∷ [] }
 {
     let modifier = control.modifier();
     let data = standing.info_with(control).encode();
-    let packet = requests.send_info(Purpose::Control, Method::SET, modifier, &data);
-    outgoing.push_back_reserved(Outgoing {
-        packet,
-        to: Some(to),
-    });
+    let out = requests.send_info(Purpose::Control, Method::SET, modifier, way, &data);
+    outgoing.push_back_reserved(Outgoing { ..out });
 }

@@ -17,6 +17,7 @@ mod pending;
 mod progress;
 mod sm_info_answers;
 mod traps;
+mod way;
 mod write_steps;
 mod writing;
 
@@ -26,3 +27,4 @@ pub use outgoing::Outgoing;
 pub use pending::{Pending, Purpose};
 pub use progress::Progress;
 pub use traps::Trap;
+pub use way::Way;

@@ -2,9 +2,7 @@ ghost use Rattle.std.specs.Prelude.{◌≡◌, ◌+◌, ◌<◌, ◌≤◌, ◌^
 ghost use Rattle.std.specs.Prelude.{option_copied, option_map, find, slice_get, None, Ok, Option};
 ghost use Rattle.plan_steps.specs.Step.{set_packet};
 ghost use Rattle.request_table.specs.Numbers.{IsIndexFor};
-ghost use Rattle.smp_bytes.specs.Header.{sm_info};
-ghost use Rattle.smp_bytes.specs.Requests.{lid_routed};
-ghost use Rattle.sm_manager.specs.Election.{info_pending, poll_packet, poll_pending};
+ghost use Rattle.sm_manager.specs.Election.{info_out, info_pending};
 ghost use Rattle.sm_manager.specs.ManagerRequests.{AreNumbered, how_many, is_for_step, is_step, no_step_waits};
 ghost use Rattle.sm_manager.specs.ManagerRequests.{none_counts, with_number, without_number};
 ghost use Rattle.sm_manager.specs.Packets.{answers};
@@ -18,9 +16,10 @@ ghost use Rattle.sm_manager.specs.PlanFaults.{number_fault};
 use crate::fault::ManagerFault;
 use crate::outgoing::Outgoing;
 use crate::pending::{Pending, Purpose};
+use crate::way::Way;
 use plan_steps::Step;
 use request_table::RequestTable;
-use smp_bytes::{AttributeId, Method, Path, Smp};
+use smp_bytes::{AttributeId, Method, Smp};
 use std::alloc::{AllocError, Global};
 use std::collections::VecDeque;
 use std::marker::Model;
@@ -125,55 +124,35 @@ impl ManagerRequests {
         packet
     }
 
-    /// Adds a request for SMInfo by LIDs under the next number, and returns its packet. `purpose` must not be a step.
-    /// There must be memory for the request, and the next number must fit in 32 bits. Does not allocate.
+    /// Adds a request for SMInfo that goes `way` under the next number, and returns its packet. `purpose` must not be a
+    /// step. There must be memory for the request, and the next number must fit in 32 bits. Does not allocate.
     pub(crate) fn send_info(
         &mut self,
         purpose: Purpose,
         method: Method,
         modifier: u32,
+        way: Way,
         payload: &[u8; 64],
-    ) -> Smp
+    ) -> Outgoing
         requires purpose { is_for_step purpose ≡ false }
         requires room { 0 < self.old.room }
         requires number { self.old.counter < 2 ^ 32 }
-        ensures packet { result
-            ≡ lid_routed method.0 sm_info modifier self.old.counter payload.now }
+        ensures packet { result ≡ info_out method.0 modifier self.old.counter way payload.now }
         ensures counter { self.new.counter ≡ self.old.counter + 1 }
         ensures pending { self.new.pending
-            ≡ self.old.pending ++ info_pending self.old.counter purpose modifier ∷ [] }
+            ≡ self.old.pending ++ info_pending self.old.counter purpose modifier way ∷ [] }
     {
         let number = self.table.next();
+        let packet = way.packet(method, modifier, number, payload);
+        let to = way.lid();
         self.table.push(Pending {
             number: number as u32,
             purpose,
             attribute: AttributeId::SM_INFO.0,
             modifier,
-            path: None,
+            path: way.into_path(),
         });
-        Smp::lid_routed(method, AttributeId::SM_INFO, modifier, number, payload)
-    }
-
-    /// Adds a poll under the next number, and returns its packet. The poll goes along `path` or, if `path` is `None`,
-    /// by LIDs. There must be memory for the poll, and the next number must fit in 32 bits. Does not allocate.
-    pub(crate) fn send_poll(&mut self, path: Option<Path<63>>) -> Smp
-        requires room { 0 < self.old.room }
-        requires number { self.old.counter < 2 ^ 32 }
-        ensures packet { result ≡ poll_packet self.old.counter path }
-        ensures counter { self.new.counter ≡ self.old.counter + 1 }
-        ensures pending { self.new.pending
-            ≡ self.old.pending ++ poll_pending self.old.counter path ∷ [] }
-    {
-        let number = self.table.next();
-        let packet = poll_packet(number, &path);
-        self.table.push(Pending {
-            number: number as u32,
-            purpose: Purpose::Poll,
-            attribute: AttributeId::SM_INFO.0,
-            modifier: 0,
-            path,
-        });
-        packet
+        Outgoing { packet, to }
     }
 
     /// Returns the outstanding request at `index`, in ascending order of number, or `None` if at most `index`
@@ -238,18 +217,6 @@ impl ManagerRequests {
             self.counting -= 1;
         }
         ended
-    }
-}
-
-/// Returns the packet of the poll with the number `number`, which must fit in 32 bits. The poll goes along `path` or,
-/// if `path` is `None`, by LIDs.
-fn poll_packet(number: u64, path: &Option<Path<63>>) -> Smp
-    requires { number < 2 ^ 32 }
-    ensures { result ≡ poll_packet number path.now }
-{
-    match path {
-        Some(path) => Smp::directed(Method::GET, AttributeId::SM_INFO, 0, number, path, &[0; 64]),
-        None => Smp::lid_routed(Method::GET, AttributeId::SM_INFO, 0, number, &[0; 64]),
     }
 }
 

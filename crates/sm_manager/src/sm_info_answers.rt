@@ -4,7 +4,7 @@ ghost use Rattle.smp_bytes.specs.Judges.{JudgesButFor};
 ghost use Rattle.sm_manager.specs.Election.{message_count};
 ghost use Rattle.sm_manager.specs.Fault.{is_memory};
 ghost use Rattle.sm_manager.specs.Packets.{is_info_request, unless_spent};
-ghost use Rattle.sm_manager.specs.SmInfoAnswers.{acknowledged_at, answer_data, answer_out, controlled, is_control};
+ghost use Rattle.sm_manager.specs.SmInfoAnswers.{acknowledged_by, answer_data, answer_out, controlled, is_control};
 ghost use Rattle.sm_manager.specs.SmInfoAnswers.{replying, served};
 ghost use Rattle.sm_manager.specs.SmInfoAnswers.{status_for};
 ghost use Rattle.sm_state.specs.Standing.{moved_to};
@@ -15,6 +15,7 @@ use crate::handover::send_message;
 use crate::manager::Manager;
 use crate::manager_requests::make_room;
 use crate::outgoing::Outgoing;
+use crate::way::Way;
 use attr_codec::Attribute;
 use sm_state::{Event, Message, Standing, Transition, step};
 use smp_bytes::{AttributeId, Lid, Method, Smp, SmpClass, Status};
@@ -73,14 +74,14 @@ impl Manager {
             Event::Control(smp.attribute_modifier()),
         );
         let message = transition.message;
-        let to = acknowledged_at(smp, from);
-        let count = message_count(&to, &message);
+        let way = acknowledged_by(smp, from);
+        let count = message_count(&way, &message);
         make_room(count, count + 1, &mut self.requests, &mut self.outgoing)?;
         self.standing.count_request();
         let answer = move_on(&transition, smp, &from, &mut self.standing);
         self.outgoing.push_back_reserved(answer);
         send_message(
-            &to,
+            way,
             &message,
             &self.standing,
             &mut self.requests,
@@ -120,14 +121,14 @@ fn answer(smp: &Smp, from: &Option<Lid>, status: Status, standing: &Standing) ->
     Outgoing { packet, to }
 }
 
-/// Returns the LID to which the control `smp` is acknowledged: `from`, or `None` if `smp` came along a directed
+/// Returns the way of the acknowledgement of the control `smp`: to `from`, or `None` if `smp` came along a directed
 /// route.
-fn acknowledged_at(smp: &Smp, from: Option<Lid>) -> Option<Lid>
-    ensures { result ≡ acknowledged_at smp.now from }
+fn acknowledged_by(smp: &Smp, from: Option<Lid>) -> Option<Way>
+    ensures { result ≡ acknowledged_by smp.now from }
 {
     match smp.class() {
         SmpClass::DirectedRoute => None,
-        SmpClass::LidRouted => from,
+        SmpClass::LidRouted => from.map(Way::ToLid),
     }
 }
 
@@ -166,12 +167,11 @@ fn status_for(smp: &Smp) -> Status
     }
 }
 
-/// Returns the number of requests that are sent for `message`: 0 if `message` or the LID `to` is `None`, and
-/// otherwise 1.
-fn message_count(to: &Option<Lid>, message: &Option<Message>) -> usize
-    ensures { result ≡ message_count to.now message.now }
+/// Returns the number of requests that are sent for `message`: 0 if `message` or `way` is `None`, and otherwise 1.
+fn message_count(way: &Option<Way>, message: &Option<Message>) -> usize
+    ensures { result ≡ message_count way.now message.now }
 {
-    if to.is_some() && message.is_some() {
+    if way.is_some() && message.is_some() {
         1
     } else {
         0

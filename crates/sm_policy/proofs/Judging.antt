@@ -1,6 +1,6 @@
 -- When plans are judged and written.
 use Rattle.std.proofs.Common.{◌≡◌, ℕ, ◌≤◌, Bool, true, false, cond, refl, subst}
-use Rattle.std.proofs.lemmas.Bool.{leb-true}
+use Rattle.std.proofs.lemmas.Bool.{cond_both, leb-true}
 use Rattle.std.specs.Prelude.{nat_le, nat_lt, Option, Some, None}
 use Rattle.sm_state.specs.declared.state.SmState.{SmState}
 use Rattle.sm_state.specs.declared.state.SmState.TheVariants.{NotActive, Discovering, Standby, Master}
@@ -12,9 +12,9 @@ use Rattle.sm_policy.specs.declared.policy.Policy.{Policy}
 use Rattle.sm_policy.specs.declared.rival.Rival.{Rival}
 use Rattle.sm_policy.specs.declared.rival.Rival.TheVariants.{Lesser, Greater}
 use Rattle.sm_policy.specs.declared.comparison.Comparison.TheVariants.{NoPlan, Same, Differs}
-use Rattle.sm_policy.specs.Policy.{Decision, forgotten, patience, still, wanting}
+use Rattle.sm_policy.specs.Policy.{Decision, forgotten, patience, still, waited_longer, wanting}
 use Rattle.sm_policy.specs.PolicyLaws.{IsAlone, JudgesAsMaster, MayJudge, WritesAPlan}
-use Rattle.sm_policy.specs.Swept.{counts, dealt, ended, is_past, may_plan, meeting_at, swept_in}
+use Rattle.sm_policy.specs.Swept.{counts, dealt, ended, is_past, leaves_it, may_plan, meeting_at, swept_in}
 
 -- a decision among two that are not to judge is not to judge
 neither : (b : Bool) (x y : Decision) → (x.act ≡ Judge → ⊥) → (y.act ≡ Judge → ⊥) → (cond b x y).act ≡ Judge → ⊥
@@ -40,15 +40,16 @@ offered_lately now m e = by_past (is_past now m.since) refl e
     by_past true past h = absurd (cc h)
     by_past false past h = (leb-true patience m.handovers h, past)
 
-meeting_stays : (now : ℕ) (w : Bool) (p : Policy) → (ended now w p).meeting ≡ p.meeting
-meeting_stays now true p = refl
-meeting_stays now false p = refl
+meeting_stays : (now : ℕ) (w : Bool) (rival : Option Rival) (p : Policy) → (ended now w rival p).meeting ≡ p.meeting
+meeting_stays now true rival p = refl
+meeting_stays now false rival p =
+    cond_both (leaves_it p.state rival) p (waited_longer now p) (λ (x : Policy). x.meeting ≡ p.meeting) (λ _. refl) (λ _. refl)
 
 pub judges_as_master : JudgesAsMaster
 judges_as_master now w rival p e = by_stale p.is_stale refl e
   where
     q : Policy
-    q = ended now w p
+    q = ended now w rival p
 
     by_rival : (r : Option Rival) → (swept_in Master now r q).act ≡ Judge → IsAlone now r p × (may_plan q ≡ true)
     by_rival None h = (tt, chosen (may_plan q) h)
@@ -61,7 +62,7 @@ judges_as_master now w rival p e = by_stale p.is_stale refl e
             → (cond b (record { policy = m; act = cond (may_plan m) Judge HandOver }) (dealt other (wanting (forgotten m)))).act ≡ Judge
             → IsAlone now (Some other) p × (may_plan q ≡ true)
         by_offers true offers i = (
-          subst (λ (x : Meeting). (patience ≤ x.handovers) × (is_past now x.since ≡ false)) (meeting_stays now w p) (offered_lately now q.meeting offers),
+          subst (λ (x : Meeting). (patience ≤ x.handovers) × (is_past now x.since ≡ false)) (meeting_stays now w rival p) (offered_lately now q.meeting offers),
           chosen (may_plan q) i,
         )
         by_offers false offers i = absurd (deals other (wanting (forgotten m)) i)

@@ -1,5 +1,5 @@
 -- A manager never waits for long.
-use Rattle.std.proofs.Common.{◌≡◌, ℕ, ◌≤◌, ◌<◌, Bool, true, false, cond, [], ◌∷◌, refl, subst, arith}
+use Rattle.std.proofs.Common.{◌≡◌, ℕ, ◌≤◌, ◌<◌, Bool, true, false, cond, [], ◌∷◌, refl, sym, ap, ◌∙◌, subst, arith}
 use Rattle.std.proofs.lemmas.Bool.{cond_both}
 use Rattle.std.specs.Prelude.{◌≢◌, ◌^◌, max, nat_le, nat_lt, Option, Some, None}
 use Rattle.sm_state.specs.declared.state.SmState.{SmState}
@@ -16,7 +16,7 @@ use Rattle.sm_policy.specs.Policy.{Decision, announced_every, forgotten, in_stat
 use Rattle.sm_policy.specs.Judged.{failed, judged, once_more, settled, stood, taking}
 use Rattle.sm_policy.specs.PolicyLaws.{IsDueBy, NeverWaitsLong, News, Moved, Wanted, TakenOver, Resumed, Polled, Rested, Swept, Judged, Writing, Wrote, Handing, Handed, Rise, Told, after_news, after_told, longest_wait}
 use Rattle.sm_policy.specs.Resting.{call_due, call_due_in, earlier, is_due, poll_due, poll_due_in, rest_due, rested, sweep_due, sweep_due_in}
-use Rattle.sm_policy.specs.Swept.{counts, dealt, ended, meeting_at, met, swept_in}
+use Rattle.sm_policy.specs.Swept.{counts, dealt, ended, leaves_it, meeting_at, met, swept_in}
 use Rattle.sm_state.specs.Standing.{one_more}
 
 -- a sweep began at `began`, and the times at which something may be due are not long after the time `now`
@@ -74,12 +74,18 @@ module _ (timing : Timing) (now : ℕ) (small : now < 2 ^ 64) where
       (λ _. record { same = h.same; begun = omega arith; earliest = omega arith; next_sweep = h.next_sweep; next_poll = h.next_poll; next_call = h.next_call })
       (λ _. h)))
 
-  ended_prompt : (w : Bool) (p : Policy) → Prompt p → Prompt (ended now w p)
-  ended_prompt true p h =
+  ended_prompt : (w : Bool) (r : Option Rival) (p : Policy) → Prompt p → Prompt (ended now w r p)
+  ended_prompt true r p h =
       record { same = h.same; begun = h.begun; earliest = h.earliest; next_sweep = omega arith; next_poll = h.next_poll; next_call = h.next_call }
-  ended_prompt false p h =
-      let b = longest_bounds p.state in
-      record { same = h.same; begun = h.begun; earliest = omega arith; next_sweep = omega arith; next_poll = h.next_poll; next_call = h.next_call }
+  ended_prompt false r p h =
+      let k = cond_both (leaves_it p.state r) p (waited_longer now p) Prompt (λ _. h) (λ _. waited_prompt p h) in
+      later_sweep (cond (leaves_it p.state r) p (waited_longer now p)) p.timing h.same k
+    where
+      later_sweep : (x : Policy) (t : Timing) → t ≡ timing → Prompt x
+          → Prompt (record x { gaps = one_more p.gaps; activity = Rests; next_sweep = later_by t.every now })
+      later_sweep x t e k =
+          let every = ap (λ (u : Timing). u.every) (e ∙ sym k.same) in
+          record { same = k.same; begun = k.begun; earliest = k.earliest; next_sweep = omega (arith, every); next_poll = k.next_poll; next_call = k.next_call }
 
   dealt_prompt : (r : Rival) (p : Policy) → Prompt p → Prompt (dealt r p).policy
   dealt_prompt Greater p h =
@@ -139,9 +145,9 @@ module _ (timing : Timing) (now : ℕ) (small : now < 2 ^ 64) where
       h
   news_prompt Rested p h = rested_prompt p h
   news_prompt (Swept w r) p h =
-      cond_both p.is_stale _ (swept_in p.state now r (ended now w p)) (λ (d : Decision). Prompt d.policy)
+      cond_both p.is_stale _ (swept_in p.state now r (ended now w r p)) (λ (d : Decision). Prompt d.policy)
       (λ _. h)
-      (λ _. swept_prompt p.state r (ended now w p) (ended_prompt w p h))
+      (λ _. swept_prompt p.state r (ended now w r p) (ended_prompt w r p h))
   news_prompt (Judged v ports) p h = judged_prompt v ports p h
   news_prompt (Writing has_begun) p h =
       cond_both has_begun _ (failed now p) Prompt
@@ -153,9 +159,7 @@ module _ (timing : Timing) (now : ℕ) (small : now < 2 ^ 64) where
       (λ _. failed_prompt p h)
   news_prompt (Handing is_out) p h =
       h
-  news_prompt Handed p h =
-      cond_both _ _ _ Prompt
-      (λ _. h) (λ _. h)
+  news_prompt Handed p h = h
 
 later_prompt : (timing : Timing) (since now : ℕ) (p : Policy) → since ≤ now → IsPrompt timing since p → IsPrompt timing now p
 later_prompt timing since now p rises h =

@@ -3,6 +3,8 @@ use Rattle.std.specs.Prelude.{ℕ, Bool, true, ◌&&◌, ◌||◌, nat_lt, if◌
 use Rattle.sm_state.specs.Standing.{one_more}
 use Rattle.sm_policy.specs.declared.act.Act.TheVariants.{HandOver, Settle, Write}
 use Rattle.sm_policy.specs.declared.activity.Activity.TheVariants.{Rests, Writes}
+use Rattle.sm_policy.specs.declared.write_cause.WriteCause.{WriteCause}
+use Rattle.sm_policy.specs.declared.write_cause.WriteCause.TheVariants.{Again, For, New}
 use Rattle.sm_policy.specs.declared.policy.Policy.{Policy}
 use Rattle.sm_policy.specs.declared.ports.Ports.{Ports}
 use Rattle.sm_policy.specs.declared.comparison.Comparison.{Comparison}
@@ -60,6 +62,12 @@ abbrev pub judged : ℕ → Comparison → Ports → Policy → Decision
 judged now NoPlan ports p = still (waited_longer now p)
 judged now Differs ports p = anew p
 judged now Same ports p = if p.written.stands then stood now ports p else anew p
+
+-- why the plan is written, if it is, given how it compares to what was written last, and the ports that the sweep read
+abbrev pub cause_of : Comparison → Ports → Policy → WriteCause
+cause_of NoPlan ports p = New
+cause_of Differs ports p = New
+cause_of Same ports p = if p.written.stands then For ports else Again
 
 -- writings --------------------------------------------------------------------------------------------
 

@@ -1,7 +1,8 @@
 -- What a manager does next, decided by the time, by its state and by what its last sweep saw: what it remembers, and
 -- what news change. Times are in milliseconds, from any origin. InfiniBand Architecture Specification, Volume 1: subnet
 -- management, subnet manager (sweeping, polling, handover).
-use Rattle.std.specs.Prelude.{ℕ, ◌+◌, ◌-◌, ◌*◌, ◌^◌, min, Bool, true, false, ◌&&◌, ◌||◌, not, nat_lt, if◌then◌else◌, None}
+use Rattle.std.specs.Prelude.{ℕ, ◌+◌, ◌-◌, ◌*◌, ◌^◌, min, Bool, true, false, ◌&&◌, ◌||◌, not}
+use Rattle.std.specs.Prelude.{nat_lt, if◌then◌else◌, None}
 use Rattle.sm_state.specs.declared.state.SmState.{SmState}
 use Rattle.sm_state.specs.declared.state.SmState.TheVariants.{Discovering, Master}
 use Rattle.sm_state.specs.Standing.{one_more}
@@ -44,10 +45,6 @@ announced_every = 10000
 abbrev pub ignored_for : ℕ
 ignored_for = 60000
 
--- for how long the end of a handover is waited for: the other manager acknowledges it after its answer
-abbrev pub acknowledged_in : ℕ
-acknowledged_in = 1000
-
 -- within which time ports that name another master are taken back a few times only
 abbrev pub taken_back_within : ℕ
 taken_back_within = 600000
@@ -76,7 +73,6 @@ new_policy timing =
       next_sweep = 0;
       next_poll = 0;
       next_call = 0;
-      handed = None;
       faults = 0;
       gaps = 0;
       masterless = 0;

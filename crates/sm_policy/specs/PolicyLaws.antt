@@ -1,6 +1,7 @@
 -- The laws of decisions: a manager acts when something is due and only then, never waits for long, and judges its plan
 -- only as master.
-use Rattle.std.specs.Prelude.{◌≡◌, ◌≢◌, ◌≤◌, ◌<◌, ◌↔◌, ℕ, ◌-◌, ◌^◌, max, Bool, true, false, List, [], ◌∷◌, Option, Some, None}
+use Rattle.std.specs.Prelude.{◌≡◌, ◌≢◌, ◌≤◌, ◌<◌, ◌↔◌, ℕ, ◌-◌, ◌^◌, max, Bool, true, false, List}
+use Rattle.std.specs.Prelude.{[], ◌∷◌, Option, Some, None}
 use Rattle.sm_state.specs.declared.state.SmState.{SmState}
 use Rattle.sm_state.specs.declared.state.SmState.TheVariants.{NotActive, Master}
 use Rattle.sm_policy.specs.declared.act.Act.{Act}
@@ -12,7 +13,8 @@ use Rattle.sm_policy.specs.declared.rival.Rival.{Rival}
 use Rattle.sm_policy.specs.declared.timing.Timing.{Timing}
 use Rattle.sm_policy.specs.declared.comparison.Comparison.{Comparison}
 use Rattle.sm_policy.specs.declared.comparison.Comparison.TheVariants.{NoPlan}
-use Rattle.sm_policy.specs.Policy.{announced_every, later_by, longest, moved, new_policy, patience, polled, resumed, taken_over, wanting}
+use Rattle.sm_policy.specs.Policy.{announced_every, later_by, longest, moved, new_policy, patience}
+use Rattle.sm_policy.specs.Policy.{polled, resumed, taken_over, wanting}
 use Rattle.sm_policy.specs.Judged.{judged, writing, wrote}
 use Rattle.sm_policy.specs.Resting.{call_due, handed, handing, is_due, poll_due, rest_due, rested}
 use Rattle.sm_policy.specs.Swept.{ended, is_past, may_plan, swept}
@@ -38,9 +40,9 @@ DoesNothingTwice =
 
 -- never waiting for long -----------------------------------------------------------------------------
 
--- what may happen to a manager at some time: it came into a state; a sweep is asked for; a HANDOVER came to a master; it
--- stood still; a poll was answered; it does what is due while it rests; a sweep is over; its plan was judged; a writing
--- was asked for, or is over; a handover was asked for, or its request is no longer out
+-- what may happen to a manager at some time: it came into a state; a sweep is asked for; a HANDOVER came to a master;
+-- it stood still; a poll was answered; it does what is due while it rests; a sweep is over; its plan was judged; a
+-- writing was asked for, or is over; a handover was asked for, or its request is no longer out
 pub data News : Type 0 where
   Moved : (state : SmState) → News
   Wanted : News
@@ -68,7 +70,7 @@ after_news now (Judged comparison ports) p = (judged now comparison ports p).pol
 after_news now (Writing has_begun) p = writing now has_begun p
 after_news now (Wrote is_written) p = (wrote now is_written p).policy
 after_news now (Handing is_out) p = handing is_out p
-after_news now Handed p = handed now p
+after_news now Handed p = handed p
 
 -- news, each with its time
 abbrev pub Told : Type 0
@@ -93,8 +95,8 @@ abbrev pub IsDueBy : ℕ → Option ℕ → Type 0
 IsDueBy until None = ⊥
 IsDueBy until (Some time) = time ≤ until
 
--- whatever happened to a new manager, what it does once it rests is due within `longest_wait` of the last news, if it is
--- not Not-active: it never waits for others alone, and no failure stops it for longer
+-- whatever happened to a new manager, what it does once it rests is due within `longest_wait` of the last news, if it
+-- is not Not-active: it never waits for others alone, and no failure stops it for longer
 abbrev pub NeverWaitsLong : Type 0
 NeverWaitsLong =
     (timing : Timing) (told : Told) (now : ℕ) → Rise 0 told now → (after_told told (new_policy timing)).state ≢ NotActive
@@ -102,8 +104,8 @@ NeverWaitsLong =
 
 -- judging as master ---------------------------------------------------------------------------------
 
--- no other master was seen, or the one that was seen has been offered the subnet a few times, in a meeting that began not
--- long ago
+-- no other master was seen, or the one that was seen has been offered the subnet a few times, in a meeting that began
+-- not long ago
 abbrev pub IsAlone : ℕ → Option Rival → Policy → Type 0
 IsAlone now None p = Unit {0}
 IsAlone now (Some rival) p = (patience ≤ p.meeting.handovers) × (is_past now p.meeting.since ≡ false)
@@ -114,7 +116,7 @@ pub record MayJudge (now : ℕ) (is_whole : Bool) (rival : Option Rival) (p : Po
   pub master : p.state ≡ Master
   pub alone : IsAlone now rival p
   pub fresh : p.is_stale ≡ false
-  pub known : may_plan (ended now is_whole p) ≡ true
+  pub known : may_plan (ended now is_whole rival p) ≡ true
 
 abbrev pub JudgesAsMaster : Type 0
 JudgesAsMaster =

@@ -8,7 +8,7 @@ use Rattle.sm_policy.specs.declared.activity.Activity.TheVariants.{Rests, Sweeps
 use Rattle.sm_policy.specs.declared.policy.Policy.{Policy}
 use Rattle.sm_policy.specs.declared.rival.Rival.{Rival}
 use Rattle.sm_policy.specs.declared.rival.Rival.TheVariants.{Lesser}
-use Rattle.sm_policy.specs.Policy.{Decision, acknowledged_in, announced_every, is_master, later_by, shortest, still}
+use Rattle.sm_policy.specs.Policy.{Decision, announced_every, later_by, shortest, still}
 
 -- when what is due ---------------------------------------------------------------------------------
 
@@ -23,8 +23,8 @@ call_due_in Standby (Some Lesser) next = Some next
 call_due_in state master next = None
 
 -- when the next sweep begins, if `wanted` is the time at which one that is asked for may begin, and `regular` the time
--- at which a master sweeps unasked: a manager that discovers, or is standby and knows no master, sweeps as soon as it may.
--- None if no sweep is due
+-- at which a master sweeps unasked: a manager that discovers, or is standby and knows no master, sweeps as soon as it
+-- may. None if no sweep is due
 abbrev pub sweep_due_in : SmState → Option Rival → Bool → ℕ → ℕ → Option ℕ
 sweep_due_in NotActive master is_wanted wanted regular = None
 sweep_due_in Discovering master is_wanted wanted regular = Some wanted
@@ -84,27 +84,13 @@ rested now p =
 
 -- a handover was asked for: it goes on if its request is out, else the manager rests
 abbrev pub handing : Bool → Policy → Policy
-handing is_out p = record p { activity = if is_out then Hands else Rests; handed = None }
+handing is_out p = record p { activity = if is_out then Hands else Rests }
 
--- whether the end of a handover is still waited for, `since` being when its request was answered
-abbrev pub is_awaited : ℕ → Option ℕ → Bool
-is_awaited now None = true
-is_awaited now (Some since) = nat_le now (later_by acknowledged_in since)
-
--- since when the end of a handover is waited for
-abbrev pub awaited_since : ℕ → Option ℕ → ℕ
-awaited_since now None = now
-awaited_since now (Some since) = since
-
--- a handover whose request is no longer out: a master waits a while for the acknowledgement, by which it becomes
--- standby, and then rests
-abbrev pub handed : ℕ → Policy → Policy
-handed now p =
-    if is_master p.state && is_awaited now p.handed then record p { handed = Some (awaited_since now p.handed) }
-    else record p { activity = Rests; handed = None }
+-- the request of a handover is no longer out: the manager is standby if the other one has taken over, and rests
+abbrev pub handed : Policy → Policy
+handed p = record p { activity = Rests }
 
 -- when the policy has something to do next while no request is out; None if it waits for others alone
 abbrev pub due_in : Activity → ℕ → Policy → Option ℕ
 due_in Rests now p = rest_due p
-due_in Hands now p = Some (later_by 1 (later_by acknowledged_in (awaited_since now p.handed)))
 due_in activity now p = Some now

@@ -1,5 +1,6 @@
 -- What a manager does when its sweep is over: it deals with other masters first, and then judges its plan.
-use Rattle.std.specs.Prelude.{ℕ, Bool, true, false, ◌&&◌, ◌||◌, not, nat_le, nat_lt, ◌==◌, if◌then◌else◌, Option, Some, None}
+use Rattle.std.specs.Prelude.{ℕ, Bool, true, false, ◌&&◌, ◌||◌, not, nat_le, nat_lt, ◌==◌}
+use Rattle.std.specs.Prelude.{if◌then◌else◌, Option, Some, None}
 use Rattle.sm_state.specs.declared.state.SmState.{SmState}
 use Rattle.sm_state.specs.declared.state.SmState.TheVariants.{Standby, Master}
 use Rattle.sm_state.specs.Standing.{one_more}
@@ -9,7 +10,8 @@ use Rattle.sm_policy.specs.declared.activity.Activity.TheVariants.{Rests}
 use Rattle.sm_policy.specs.declared.policy.Policy.{Policy}
 use Rattle.sm_policy.specs.declared.rival.Rival.{Rival}
 use Rattle.sm_policy.specs.declared.rival.Rival.TheVariants.{Lesser, Greater}
-use Rattle.sm_policy.specs.Policy.{Decision, forgotten, ignored_for, is_master, later_by, nobody_met, patience, still, waited_longer, wanting}
+use Rattle.sm_policy.specs.Policy.{Decision, forgotten, ignored_for, is_master, later_by}
+use Rattle.sm_policy.specs.Policy.{nobody_met, patience, still, waited_longer, wanting}
 
 -- answers that lack ----------------------------------------------------------------------------------
 
@@ -17,14 +19,23 @@ use Rattle.sm_policy.specs.Policy.{Decision, forgotten, ignored_for, is_master, 
 abbrev pub whole : Policy → Policy
 whole p = record p { gaps = 0; faults = if is_master p.state then p.faults else 0 }
 
--- a sweep is over that lacks answers
-abbrev pub gaping : ℕ → Policy → Policy
-gaping now p = waited_longer now (record p { gaps = one_more p.gaps })
+-- whether a manager in this state that saw the given master leaves it to that one what lacks answers: it is standby
+abbrev pub leaves_it : SmState → Option Rival → Bool
+leaves_it Standby (Some rival) = true
+leaves_it state rival = false
 
--- a sweep is over, whole or not. The next one of a master is due a period later
-abbrev pub ended : ℕ → Bool → Policy → Policy
-ended now is_whole p =
-    record (if is_whole then whole p else gaping now p) { activity = Rests; next_sweep = later_by p.timing.every now }
+-- a sweep is over that lacks answers: another one is asked for, unless a standby saw a master
+abbrev pub gaping : ℕ → Option Rival → Policy → Policy
+gaping now rival p =
+    record (if leaves_it p.state rival then p else waited_longer now p) { gaps = one_more p.gaps }
+
+-- a sweep is over, whole or not, that saw the given master. The next one of a master is due a period later
+abbrev pub ended : ℕ → Bool → Option Rival → Policy → Policy
+ended now is_whole rival p =
+    record (if is_whole then whole p else gaping now rival p) {
+      activity = Rests;
+      next_sweep = later_by p.timing.every now;
+    }
 
 -- whether a plan may be made of what is known: the last sweep has every answer, or several in a row had not, and the
 -- manager is not strict
@@ -106,4 +117,4 @@ swept_in state now rival p = still p
 abbrev pub swept : ℕ → Bool → Option Rival → Policy → Decision
 swept now is_whole rival p =
     if p.is_stale then still (record p { activity = Rests; is_stale = false })
-    else swept_in p.state now rival (ended now is_whole p)
+    else swept_in p.state now rival (ended now is_whole rival p)

@@ -10,7 +10,7 @@ pub enum Activity {
     Sweeps,
     /// A writing runs.
     Writes,
-    /// A HANDOVER is out, or its acknowledgement is waited for.
+    /// A HANDOVER is out.
     Hands,
 }
 

@@ -1,6 +1,6 @@
 //! What a master does about its plan.
 ghost use Rattle.std.specs.Prelude.{◌≡◌};
-ghost use Rattle.sm_policy.specs.Judged.{anew, failed, judged, may_bring_up};
+ghost use Rattle.sm_policy.specs.Judged.{anew, cause_of, failed, judged, may_bring_up};
 ghost use Rattle.sm_policy.specs.Judged.{may_take, once_more, recent_takings, settled};
 ghost use Rattle.sm_policy.specs.Judged.{stood, taking, writing, wrote};
 
@@ -9,6 +9,7 @@ use crate::activity::Activity;
 use crate::comparison::Comparison;
 use crate::policy::{PATIENCE, Policy, later_by};
 use crate::ports::Ports;
+use crate::write_cause::WriteCause;
 
 /// Within which time ports that name another master are taken back a few times only.
 const TAKEN_BACK_WITHIN: u64 = 600_000;
@@ -32,6 +33,22 @@ impl Policy {
                     self.look_after(now, ports)
                 } else {
                     self.write_anew()
+                }
+            }
+        }
+    }
+
+    /// Returns why the plan is written, if `judge` says so of `comparison` and `ports`.
+    pub fn cause(&self, comparison: Comparison, ports: Ports) -> WriteCause
+        ensures { result ≡ cause_of comparison ports self.now }
+    {
+        match comparison {
+            Comparison::NoPlan | Comparison::Differs => WriteCause::New,
+            Comparison::Same => {
+                if self.written.stands {
+                    WriteCause::For(ports)
+                } else {
+                    WriteCause::Again
                 }
             }
         }

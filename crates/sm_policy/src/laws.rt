@@ -16,7 +16,8 @@ pub fn does_nothing_twice()
 {}
 
 /// Whatever happened to a manager, at times that do not fall, what it does once it rests is due within ten seconds of
-/// the last news, or within its period or that of its polls if these are longer, unless another manager has disabled it.
+/// the last news, or within its period or that of its polls if these are longer, unless another manager has disabled
+/// it.
 #[tactic(auto, using(crate::proofs::Prompt::never_waits_long))]
 pub fn never_waits_long()
     ensures { NeverWaitsLong }

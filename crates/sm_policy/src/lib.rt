@@ -14,6 +14,7 @@ mod resting;
 mod rival;
 mod swept;
 mod timing;
+mod write_cause;
 mod written;
 
 pub use act::Act;
@@ -25,4 +26,5 @@ pub use ports::Ports;
 pub use resting::is_master;
 pub use rival::Rival;
 pub use timing::Timing;
+pub use write_cause::WriteCause;
 pub use written::Written;

@@ -40,8 +40,6 @@ pub struct Policy {
     pub next_poll: u64,
     /// When a standby announces itself to a lesser master next.
     pub next_call: u64,
-    /// Since when the end of a handover is waited for. `None` if its request is still out, or there is none.
-    pub handed: Option<u64>,
     /// The number of failures in a row, which is also how long is waited after the next one.
     pub faults: u32,
     /// The number of sweeps in a row that lacked answers.
@@ -81,7 +79,6 @@ impl Policy {
             next_sweep: 0,
             next_poll: 0,
             next_call: 0,
-            handed: None,
             faults: 0,
             gaps: 0,
             masterless: 0,

@@ -1,8 +1,7 @@
 //! What a manager does while no request is out and nothing runs.
 ghost use Rattle.std.specs.Prelude.{◌≡◌};
-ghost use Rattle.sm_policy.specs.Policy.{is_master, later_by};
-ghost use Rattle.sm_policy.specs.Resting.{awaited_since, call_due, due_in, earlier};
-ghost use Rattle.sm_policy.specs.Resting.{handed, handing, is_awaited, is_due};
+ghost use Rattle.sm_policy.specs.Policy.{is_master};
+ghost use Rattle.sm_policy.specs.Resting.{call_due, due_in, earlier, handed, handing, is_due};
 ghost use Rattle.sm_policy.specs.Resting.{poll_due, rest_due, rested, sweep_due, sweeping};
 
 use crate::act::Act;
@@ -13,8 +12,6 @@ use sm_state::SmState;
 
 /// From one announcement of a standby to a lesser master to the next.
 const ANNOUNCED_EVERY: u64 = 10_000;
-/// For how long the end of a handover is waited for: the other manager acknowledges it after its answer.
-const ACKNOWLEDGED_IN: u64 = 1000;
 
 impl Policy {
     /// Returns what a manager that rests does at the time `now`: it polls, or else announces itself, or else sweeps,
@@ -109,11 +106,7 @@ impl Policy {
     {
         match self.activity {
             Activity::Rests => self.rest_due(),
-            Activity::Hands => {
-                let until = later_by(ACKNOWLEDGED_IN, awaited_since(now, self.handed));
-                Some(later_by(1, until))
-            }
-            Activity::Sweeps | Activity::Writes => Some(now),
+            Activity::Sweeps | Activity::Writes | Activity::Hands => Some(now),
         }
     }
 
@@ -126,20 +119,14 @@ impl Policy {
         } else {
             Activity::Rests
         };
-        self.handed = None;
     }
 
-    /// Notes, at the time `now`, that the request of a handover is no longer out. If the manager is still master, waits
-    /// a second for the acknowledgement. Otherwise, and after that, rests.
-    pub fn handed(&mut self, now: u64)
-        ensures { self.new ≡ handed now self.old }
+    /// Notes that the request of a handover is no longer out. The manager rests: it is standby if the other one has
+    /// taken over.
+    pub fn end_handover(&mut self)
+        ensures { self.new ≡ handed self.old }
     {
-        if is_master(self.state) && is_awaited(now, self.handed) {
-            self.handed = Some(awaited_since(now, self.handed));
-        } else {
-            self.activity = Activity::Rests;
-            self.handed = None;
-        }
+        self.activity = Activity::Rests;
     }
 }
 
@@ -171,26 +158,5 @@ fn is_due(now: u64, due: Option<u64>) -> bool
     match due {
         None => false,
         Some(time) => time <= now,
-    }
-}
-
-/// Returns whether the end of a handover is still waited for at `now`. `since` is when its request was answered, or
-/// `None` if that is just now.
-fn is_awaited(now: u64, since: Option<u64>) -> bool
-    ensures { result ≡ is_awaited now since }
-{
-    match since {
-        None => true,
-        Some(since) => now <= later_by(ACKNOWLEDGED_IN, since),
-    }
-}
-
-/// Returns since when the end of a handover is waited for: `since`, or `now` if `since` is `None`.
-fn awaited_since(now: u64, since: Option<u64>) -> u64
-    ensures { result ≡ awaited_since now since }
-{
-    match since {
-        None => now,
-        Some(since) => since,
     }
 }

@@ -1,7 +1,7 @@
 //! What a manager does when its sweep is over.
 ghost use Rattle.std.specs.Prelude.{◌≡◌};
 ghost use Rattle.sm_policy.specs.Policy.{forgotten, wanting};
-ghost use Rattle.sm_policy.specs.Swept.{counts, dealt, ended, is_past, judging};
+ghost use Rattle.sm_policy.specs.Swept.{counts, dealt, ended, is_past, judging, leaves_it};
 ghost use Rattle.sm_policy.specs.Swept.{masterless_by, may_plan, meeting_at, met};
 ghost use Rattle.sm_policy.specs.Swept.{offered, reigned, stood_by, swept, swept_in};
 
@@ -32,7 +32,7 @@ impl Policy {
             self.is_stale = false;
             return Act::Wait;
         }
-        self.end_sweep(now, is_whole);
+        self.end_sweep(now, is_whole, rival);
         match self.state {
             SmState::Standby => self.stand_by(rival),
             SmState::Master => self.reign(now, rival),
@@ -40,9 +40,10 @@ impl Policy {
         }
     }
 
-    /// Notes that a sweep is over at the time `now`, and whether it has every answer.
-    fn end_sweep(&mut self, now: u64, is_whole: bool)
-        ensures { self.new ≡ ended now is_whole self.old }
+    /// Notes that a sweep is over at the time `now`, whether it has every answer, and which master it saw. If it lacks
+    /// answers, asks for another one, unless a standby saw a master, to whom it leaves that.
+    fn end_sweep(&mut self, now: u64, is_whole: bool, rival: Option<Rival>)
+        ensures { self.new ≡ ended now is_whole rival self.old }
     {
         if is_whole {
             self.gaps = 0;
@@ -53,7 +54,9 @@ impl Policy {
             };
         } else {
             self.gaps = self.gaps.saturating_add(1);
-            self.wait_longer(now);
+            if !leaves_it(self.state, rival) {
+                self.wait_longer(now);
+            }
         }
         self.activity = Activity::Rests;
         self.next_sweep = later_by(u64::from(self.timing.every), now);
@@ -163,6 +166,17 @@ impl Policy {
         ensures { result ≡ may_plan self.now }
     {
         self.gaps == 0 || (!self.timing.is_strict && self.gaps > PATIENCE)
+    }
+}
+
+/// Returns whether a manager in `state` that saw the master `rival` leaves it to that one what lacks answers: it is
+/// standby.
+fn leaves_it(state: SmState, rival: Option<Rival>) -> bool
+    ensures { result ≡ leaves_it state rival }
+{
+    match (state, rival) {
+        (SmState::Standby, Some(_)) => true,
+        (_, _) => false,
     }
 }
 
