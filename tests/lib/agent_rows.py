@@ -11,7 +11,7 @@ from collections.abc import Callable
 import live_agents
 import paths
 import sample_fabrics
-from live_agents import GET, PORT_INFO, SET, SWITCH_INFO, TABLE, field
+from live_agents import GET, GROUPS, PORT_INFO, SET, SWITCH_INFO, TABLE, field
 
 TIMED_OUT = 110
 SEAT = "H1", 1
@@ -19,7 +19,7 @@ SEAT = "H1", 1
 Bend = Callable[[bytes, bytes], "bytes | None"]
 SHARED = "common.c port.c keys.c ask.c report.c sweep.c names.c".split()
 SOURCES = {
-    "record": ["record.c", "generation.c", "lanes.c", "levels.c", *SHARED],
+    "record": ["record.c", "generation.c", "lanes.c", "trees.c", "levels.c", *SHARED],
     "send": ["send.c", "subnet.c", "wanted.c", "judge.c", *SHARED],
 }
 
@@ -149,6 +149,39 @@ REFUSED = (
     ("block 0 ff0001", "block 0 ff0000", "LID 2 ends at switch 0000000000000010, which does not own it"),
     ("block 0 ff0100", "block 0 ff0300", "leaves switch 0000000000000020 by port 3 to a port that does not own it"),
 )
+
+
+def of_groups(folder: pathlib.Path) -> list[tuple[bool, str]]:
+    """Returns what holds of multicast tables that are recorded: entries over 16 ports, more than one block, up to the
+    greatest group that a switch tells, and none where an answer is missing."""
+    found = []
+    subnet = Subnet(folder, sample_fabrics.star(20))
+    agents, first, last = subnet.agents, bytearray(64), bytearray(64)
+    first[0:2], first[62:64] = (1 << 1 | 1 << 15).to_bytes(2, "big"), (1 << 2).to_bytes(2, "big")
+    last[0:2] = (1 << 1 | 1 << 4).to_bytes(2, "big")
+    agents.groups = {("S1", 0): bytes(first), ("S1", 1 << 28): bytes(last), ("S1", 1): bytes(first)}
+    zero, end = "group c000 0000000000000010 1 15 17 20\n", "group c01f 0000000000000010 2\n"
+    above = "group c020 0000000000000010 1 15\ngroup c03f 0000000000000010 2\n"
+    for room, top, wanted, asked in (
+        (64, 0, zero + end + above, 4), (64, 0xC01F, zero + end, 2), (64, 0xC000, zero, 2), (64, 0xBFFF, "", 0),
+        (33, 0, zero + end + above.split("\n", 1)[0] + "\n", 4), (64, 0xC040, zero + end + above, 4), (0, 0, "", 0),
+    ):
+        agents.group_room, agents.group_top = room, top
+        status = subnet.run("record", "-g", 7, "-M", "groups", "x.reports")
+        text, count = (folder / "groups").read_text(), [field(it, 16, 2) for it in subnet.asked].count(GROUPS)
+        found.append((status == 0 and text == f"groups\n{wanted}", f"groups up to {top:x} of {room}: {text}"))
+        found.append((count == asked, f"groups up to {top:x} of {room}: {count} blocks are asked for"))
+        (folder / "groups").unlink()
+    subnet.bend = silent(GROUPS, 1 << 28)
+    agents.group_room, agents.group_top = 32, 0
+    why = "MulticastForwardingTable block 0 position 1 of node 0000000000000010: no answer"
+    for words, is_there in ((), False), (("-p",), True):
+        status = subnet.run("record", "-g", 7, "-r", 0, "-M", "groups", "-T", "held", *words, "x.reports")
+        found.append((status == 1 and why in subnet.said, f"a block without an answer: {status} {subnet.said}"))
+        found.append(((folder / "groups").exists() == is_there and (folder / "held").exists(), f"written: {words}"))
+        (folder / "held").unlink()
+    found.append((subnet.run("record", "-M", "x.reports", "x.reports") == 2, "one file for two outputs"))
+    return found
 
 
 def judged(folder: pathlib.Path) -> list[tuple[bool, str]]:

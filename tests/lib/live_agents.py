@@ -7,7 +7,7 @@ import struct
 
 from sample_fabrics import ROOM, Fabric, Port
 
-NODE_INFO, SWITCH_INFO, PORT_INFO, TABLE = 0x11, 0x12, 0x15, 0x19
+NODE_INFO, SWITCH_INFO, PORT_INFO, TABLE, GROUPS = 0x11, 0x12, 0x15, 0x19, 0x1B
 GET, SET, ANSWER = 1, 2, 0x81
 DIRECTED, PERMISSIVE = 0x81, 65535
 DOWN, INITIALIZE, ACTIVE = 1, 2, 4
@@ -23,14 +23,17 @@ class Agents:
     """The agents of a fabric of sample_fabrics, all in their first state.
 
     `images` is a source of random numbers for all other values that ports and switches report. Without it they are 0.
+    `room` is the size of each table.
     `read` has each attribute as it was first reported, and `sets` each one that was set, by node, attribute and
-    modifier."""
+    modifier. `groups` has blocks of multicast tables by node and modifier, `group_room` how many groups a switch has
+    room for, and `group_top` its greatest one, 0 if it tells none."""
 
     def __init__(self, fabric: Fabric, seat: Port, images: random.Random | None = None) -> None:
         self.fabric, self.seat, self.images = fabric, seat, images
         self.read, self.sets = {}, []
         self.lids, self.masters, self.tops, self.tables = {}, {}, {}, {}
-        self.states = {}
+        self.states, self.room = {}, ROOM
+        self.groups, self.group_room, self.group_top = {}, None, 0
         for name in fabric.nodes:
             for port in range(fabric.ports(name) + 1):
                 wired = (name, port) in fabric.peers
@@ -119,7 +122,9 @@ class Agents:
         elif attribute == SWITCH_INFO and is_switch:
             if is_set:
                 self.tops[name] = field(packet, 64 + 6, 2)
-            data[0:2] = ROOM.to_bytes(2, "big")
+            data[0:2] = self.room.to_bytes(2, "big")
+            if self.group_room is not None:
+                data[4:6], data[18:20] = self.group_room.to_bytes(2, "big"), self.group_top.to_bytes(2, "big")
             data[6:8] = self.tops.get(name, 0).to_bytes(2, "big")
         elif attribute == PORT_INFO:
             port = modifier if is_switch else modifier or came_by
@@ -140,6 +145,8 @@ class Agents:
             if is_set:
                 self.tables[name, modifier] = packet[64:128]
             data[:] = self.tables.get((name, modifier), b"\xff" * BLOCK)
+        elif attribute == GROUPS and is_switch and not is_set:
+            data[:] = self.groups.get((name, modifier), bytes(BLOCK))
         else:
             return None
         return bytes(data)

@@ -23,6 +23,7 @@ MAGIC = (
 BEGINS = {
     "names": r'\s*0x[0-9a-fA-F]{1,16}\s+"',
     "lanes": r"lanes [0-9a-f]{32}|sl2vl [0-9a-f]{16} |levels? \d|levels [0-9a-f]{16}/",
+    "groups": r"groups$",
     "topology": r'(Switch|Hca) \d+ "',
     "JSON": r'\{"',
     "page": r"<!doctype html|<\?xml|<svg",
@@ -44,6 +45,7 @@ TOLD = {
     "dump of lanes": "a dump of lanes or service levels: `from-dumps --lanes` takes it",
     "names": "a node name map: tools take it by --names",
     "lanes": "a text of lanes: `ibsm audit --lanes` takes it",
+    "groups": "a text of multicast tables: trees takes it",
     "topology": "a topology: `ibsm run` takes it",
     "list of switches": "a list of GUIDs, as roots or an order: plans take it by --roots or --order",
     "JSON": "JSON: it is the end of a way, and jq reads it",

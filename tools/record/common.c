@@ -122,7 +122,8 @@ static const char *name_of(uint16_t attribute)
 {
 	return attribute == NODE_DESCRIPTION ? "NodeDescription" : attribute == NODE_INFO ? "NodeInfo" :
 	       attribute == SWITCH_INFO ? "SwitchInfo" : attribute == PORT_INFO ? "PortInfo" :
-	       attribute == LANE_TABLE ? "SLtoVLMappingTable" : "LinearForwardingTable";
+	       attribute == LANE_TABLE ? "SLtoVLMappingTable" :
+	       attribute == MULTICAST_TABLE ? "MulticastForwardingTable" : "LinearForwardingTable";
 }
 
 /* Says `what` of a request, named by its path in the form that smpquery -D takes. */
@@ -142,6 +143,8 @@ void say_of(const struct request *request, const char *what)
 		fprintf(stderr, " block %u", request->modifier);
 	if (request->attribute == PORT_INFO)
 		fprintf(stderr, " of port %u", request->modifier);
+	if (request->attribute == MULTICAST_TABLE)
+		fprintf(stderr, " block %u position %u", request->modifier & 0x1ff, request->modifier >> 28);
 	if (request->attribute == LANE_TABLE)
 		fprintf(stderr, " from port %u to port %u", request->modifier >> 8, request->modifier & 255);
 	if (request->context == ABOUT)

@@ -37,6 +37,7 @@ static const char usage_text[] =
 "  -S, --levels           with --lanes, also ask the subnet administration for the service level from each end port to\n"
 "                         each LID, and write them there too\n"
 "  -A, --adapters         with --levels, ask for paths between ports of adapters alone\n"
+"  -M, --multicast FILE   also read the multicast tables of switches, and write them for `ibsm trees`\n"
 "  -q, --quiet            neither progress nor a summary\n"
 "  -v, --verbose          name every request without a reply, not only the first 20\n"
 "  -h, --help             this text\n"
@@ -57,7 +58,7 @@ static const struct option words[] = {
 	{ "ca", 1, 0, 'C' }, { "port", 1, 0, 'P' }, { "generation", 1, 0, 'g' }, { "outstanding", 1, 0, 'n' },
 	{ "timeout", 1, 0, 't' }, { "retries", 1, 0, 'r' }, { "m-key", 1, 0, 'k' }, { "m-keys", 1, 0, 'K' },
 	{ "tables", 1, 0, 'T' }, { "names", 1, 0, 'N' }, { "after", 1, 0, 'a' }, { "partial", 0, 0, 'p' }, { "lanes", 1, 0, 'L' },
-	{ "levels", 0, 0, 'S' }, { "adapters", 0, 0, 'A' },
+	{ "levels", 0, 0, 'S' }, { "adapters", 0, 0, 'A' }, { "multicast", 1, 0, 'M' },
 	{ "quiet", 0, 0, 'q' }, { "verbose", 0, 0, 'v' }, { "help", 0, 0, 'h' }, { "version", 0, 0, 'V' }, { 0 }
 };
 
@@ -70,6 +71,7 @@ static void take_option(int letter)
 	case 'T': options.tables = optarg; break;
 	case 'N': options.names = optarg; break;
 	case 'L': options.lanes = optarg; break;
+	case 'M': options.trees = optarg; break;
 	case 'S': options.levels = 1; break;
 	case 'A': options.adapters = 1; break;
 	case 'p': options.partial = 1; break;
@@ -83,13 +85,13 @@ static void take_option(int letter)
 /* Refuses options that name the same file for two outputs. */
 static void tell_apart(void)
 {
-	const char *names[] = { options.file, options.tables, options.names, options.lanes };
+	const char *names[] = { options.file, options.tables, options.names, options.lanes, options.trees };
 	int i, j, count = sizeof names / sizeof *names;
 
 	for (i = 0; i < count; i++)
 		for (j = 0; j < i; j++)
 			if (names[i] && names[j] && !strcmp(names[i], names[j]))
-				end(USAGE, "the recording, the tables, the names and the lanes cannot be one file");
+				end(USAGE, "the recording, the tables, the names, the lanes and the trees cannot be one file");
 }
 
 static void parse(int count, char **texts)
@@ -97,7 +99,7 @@ static void parse(int count, char **texts)
 	int letter;
 
 	called = texts[0];
-	while ((letter = getopt_long(count, texts, "C:P:g:n:t:r:k:K:T:N:L:SAa:pqvhV", words, NULL)) != -1)
+	while ((letter = getopt_long(count, texts, "C:P:g:n:t:r:k:K:T:N:L:M:SAa:pqvhV", words, NULL)) != -1)
 		take_option(letter);
 	if (optind + 1 != count)
 		take_option('?');
@@ -152,10 +154,10 @@ static void finish(struct whole_file *file, const char *name, int is_there)
 		commit_file(file);
 }
 
-static int record(struct whole_file *tables, struct whole_file *names, struct whole_file *lanes)
+static int record(struct whole_file *tables, struct whole_file *names, struct whole_file *lanes, struct whole_file *trees)
 {
 	double begun = now();
-	int has_tables = 0, has_lanes = 0;
+	int has_tables = 0, has_lanes = 0, has_trees = 0;
 
 	sweep(keep_reply);
 	if (!counts.kept)
@@ -164,6 +166,8 @@ static int record(struct whole_file *tables, struct whole_file *names, struct wh
 		has_tables = read_tables() || options.partial;
 	if (options.lanes)
 		has_lanes = read_lanes() || options.partial;
+	if (options.trees)
+		has_trees = read_trees() || options.partial;
 	if (options.names)
 		read_names();	/* the last to find nodes by GUID: a missing name is not a gap in the tables */
 	sort_found();
@@ -177,11 +181,14 @@ static int record(struct whole_file *tables, struct whole_file *names, struct wh
 		print_lanes(lanes->file);
 	if (has_lanes && options.levels)
 		print_levels(lanes->file);
+	if (has_trees)
+		print_trees(trees->file);
 	clear_line();
 	commit_file(&report);
 	finish(tables, options.tables, has_tables);
 	finish(names, options.names, 1);
 	finish(lanes, options.lanes, has_lanes);
+	finish(trees, options.trees, has_trees);
 	remove_begun_files();
 	close_port();
 	if (!options.quiet)
@@ -190,6 +197,8 @@ static int record(struct whole_file *tables, struct whole_file *names, struct wh
 		say("%s is not written, since replies that it needs are missing", options.tables);
 	if (options.lanes && !has_lanes)
 		say("%s is not written, since replies that it needs are missing", options.lanes);
+	if (options.trees && !has_trees)
+		say("%s is not written, since replies that it needs are missing", options.trees);
 	if (!counts.silent && !counts.left_out && !counts.too_far)
 		return WHOLE;
 	say("NOT WHOLE: %lu requests without a reply, %lu replies left out, %lu ports over %d hops away",
@@ -199,7 +208,7 @@ static int record(struct whole_file *tables, struct whole_file *names, struct wh
 
 int main(int count, char **texts)
 {
-	static struct whole_file tables, names, lanes;
+	static struct whole_file tables, names, lanes, trees;
 
 	parse(count, texts);
 	number_sweep();
@@ -216,7 +225,9 @@ int main(int count, char **texts)
 		begin_file(&names, options.names);
 	if (options.lanes)
 		begin_file(&lanes, options.lanes);
+	if (options.trees)
+		begin_file(&trees, options.trees);
 	if (fwrite("IBSMREP1", 8, 1, report.file) != 1)
 		end(NO_FABRIC, "cannot write %s: %s", options.file, strerror(errno));
-	return record(&tables, &names, &lanes);
+	return record(&tables, &names, &lanes, &trees);
 }

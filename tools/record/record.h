@@ -7,7 +7,7 @@
 #include <stdio.h>
 
 enum { NODE_DESCRIPTION = 0x10, NODE_INFO = 0x11, SWITCH_INFO = 0x12, PORT_INFO = 0x15, LANE_TABLE = 0x17 };
-enum { FORWARDING_TABLE = 0x19 };
+enum { FORWARDING_TABLE = 0x19, MULTICAST_TABLE = 0x1b };
 enum { ALONE = 16 };	/* a port has only data lane 0, and no SL-to-VL map */
 enum context { START, VIA, ABOUT };
 enum node_type { ADAPTER = 1, SWITCH = 2, ROUTER = 3 };
@@ -31,7 +31,7 @@ struct request {
 };
 
 struct options {
-	char *adapter, *file, *tables, *names, *lanes, *after, *m_keys;
+	char *adapter, *file, *tables, *names, *lanes, *trees, *after, *m_keys;
 	int port, timeout_ms, tries, outstanding, quiet, verbose, partial, levels, adapters;
 	uint32_t generation;
 	uint64_t m_key;
@@ -118,11 +118,13 @@ struct lid {
 };
 struct node {
 	uint64_t guid;
-	uint8_t type;
+	uint8_t type, ports;
 	struct path path;	/* the first path that reached it */
 	uint16_t top;		/* a switch's top, and its table in whole blocks up to there */
 	uint8_t *table;
-	uint8_t lacks;		/* a missing reply about it: 1 about a port, 2 about its table, 4 about its lanes */
+	uint16_t group_room, group_top;	/* for how many groups a switch has room, and its greatest one, if it tells that */
+	uint16_t *groups;	/* by group from C000 on, the ports to which a switch copies it, as masks of 16 */
+	uint8_t lacks;		/* a missing reply: 1 about a port, 2 about its table, 4 about its lanes, 8 about groups */
 	uint8_t asked[256];	/* an adapter's ports whose PortInfo was asked */
 	uint8_t *name;		/* ends with 0; NULL if it was not asked for or given */
 	int is_shared;		/* another node has this name too */
@@ -154,6 +156,10 @@ uint8_t level_of_manager(void);
 /* lanes.c: the SL-to-VL maps of switches. Returns 0 if a reply is missing. */
 int read_lanes(void);
 void print_lanes(FILE *file);
+
+/* trees.c: the multicast forwarding tables of switches. Returns 0 if a reply is missing. */
+int read_trees(void);
+void print_trees(FILE *file);
 
 /* levels.c: the service levels that the subnet administration gives. Returns 0 if an answer is missing. */
 int read_levels(void);

@@ -88,6 +88,7 @@ static void on_node_info(const struct request *request, const uint8_t *info)
 
 	if (is_new)
 		node = learn(guid, type, &request->path);
+	node->ports = ports;
 	if (node->type == SWITCH) {
 		if (!is_new)
 			return;
@@ -176,9 +177,11 @@ static void note_gap(const struct request *request)
 {
 	struct node *node = request->context == ABOUT ? find(request->guid) : NULL;
 
-	missing += request->attribute != NODE_INFO && request->attribute != LANE_TABLE;
+	missing += request->attribute != NODE_INFO && request->attribute != LANE_TABLE &&
+		   request->attribute != MULTICAST_TABLE;
 	if (node && request->attribute != NODE_DESCRIPTION)
-		node->lacks |= request->attribute == PORT_INFO ? 1 : request->attribute == LANE_TABLE ? 4 : 2;
+		node->lacks |= request->attribute == PORT_INFO ? 1 : request->attribute == LANE_TABLE ? 4 :
+			       request->attribute == MULTICAST_TABLE ? 8 : 2;
 }
 
 int is_good(const struct request *request, uint8_t *reply)
@@ -214,6 +217,13 @@ int is_good(const struct request *request, uint8_t *reply)
 	return 0;
 }
 
+static void note_switch(struct node *node, const uint8_t *info)
+{
+	node->top = get(info + 6, 2);
+	node->group_room = get(info + 4, 2);
+	node->group_top = get(info + 18, 2);
+}
+
 static void take(const struct request *request, uint8_t *reply)
 {
 	if (!is_good(request, reply))
@@ -224,7 +234,7 @@ static void take(const struct request *request, uint8_t *reply)
 	} else if (request->attribute == PORT_INFO) {
 		on_port_info(request, reply + ATTRIBUTE);
 	} else {
-		find(request->guid)->top = get(reply + ATTRIBUTE + 6, 2);
+		note_switch(find(request->guid), reply + ATTRIBUTE);
 	}
 	seen(request, reply);
 }
