@@ -242,7 +242,7 @@ AWAY_VALUE = {
     "switches": [{"guid": TWO} | {word: value for word, value in CUTS_VALUE["cables"][0].items() if word != "ends"}],
     **{word: CUTS_VALUE[word] for word in ("count", "harmless", "uncut", "names")},
 }
-LOOP = f"credit loop on one lane {ONE}/1 {TWO}/2\nlids 3 300\n"
+LOOP = f"credit loop on one lane {ONE}/1 {TWO}/2\nlids 300 3\n"
 TEXTS = (
     ("facts", FACTS, FACTS_VALUE),
     ("tables", TABLES, TABLES_VALUE),
@@ -291,7 +291,7 @@ TEXTS = (
         )
     ),
     ("next", "credit loop none\n", {"form": "next", "credit_loop": [], "lids": [], "order": []}),
-    ("next", LOOP, {"form": "next", "credit_loop": [f"{ONE}/1", f"{TWO}/2"], "lids": [3, 300], "order": []}),
+    ("next", LOOP, {"form": "next", "credit_loop": [f"{ONE}/1", f"{TWO}/2"], "lids": [300, 3], "order": []}),
     (
         "next",
         f"credit loop none\n0x{TWO}\n0x{ONE}\n",
@@ -396,10 +396,12 @@ def faults(room: Room) -> None:
         (FACTS + "floor 3\n", "it", "line 12 is no line"),
         (TABLES.replace("02" * 64, "02" * 63), "it", "line 4 is no line of a text of tables"),
         ("block 0 " + "02" * 64 + "\n", "it --form tables", "line 1 is no line of a text of tables"),
-        (LOOP.replace("lids 3 300\n", ""), "it", "no whole text of next"),
+        (LOOP.replace("lids 300 3\n", ""), "it", "no whole text of next"),
         (CHANGED, "it --form audit", "line 1 is no line of a text of audit"),
         ("".join(CHANGED.splitlines(True)[:-1]), "it", "no whole text of compare"),
         (CHANGED + CHANGED, "it", "line 11 is no line of a text of compare"),
+        ("".join(CHANGED.splitlines(True)[:-1]) + "equal\n", "it", "line 10 is no line of a text of compare"),
+        ("gone node 1\n", "it --form compare", "line 1 is no line of a text of compare"),
         ("equal\nequal\n", "it", "line 2 is no line of a text of compare"),
         ("".join(CUTS.splitlines(True)[:-1]), "it", "no whole text of what-if"),
         ("", "it", "it: no text"),

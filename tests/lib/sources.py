@@ -180,5 +180,5 @@ class Code:
 def codes() -> Iterator[Code]:
     """Yields each source file below crates/, without tests."""
     for path in sorted(CRATES.glob("*/src/**/*.rt")):
-        if not {"tests", "tests.rt"} & set(path.parts):
+        if not {"tests", "tests.rt"} & set(path.relative_to(CRATES).parts):
             yield Code(path.relative_to(CRATES), path.read_text())

@@ -1,5 +1,6 @@
 pub mod ByLane
 pub mod Changed
+pub mod Computed
 pub mod Detour
 pub mod Stages
 pub mod Travelled

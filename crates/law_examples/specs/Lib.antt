@@ -1,4 +1,5 @@
 pub mod ByLane
+pub mod Computed
 pub mod Examples
 pub mod Stages
 pub mod Weaker

@@ -1,5 +1,6 @@
 //! Fabrics, tables and packets that meet the premises of laws, and examples that distinguish laws from weaker ones.
 ghost use Rattle.law_examples.specs.ByLane.{SomePacketChangesLane};
+ghost use Rattle.law_examples.specs.Computed.{BestIsPicked, ClaimsAreKept, NewestFactsStand, SettledLidsStay};
 ghost use Rattle.law_examples.specs.Examples.{SomeFabricIsSeen, SomePacketTravels, SomeTablesChange};
 ghost use Rattle.law_examples.specs.Stages.{SomeStagesGo, SomeStepsAreHanded};
 ghost use Rattle.law_examples.specs.Weaker.{FloorsStayInGroupings, NoSwitchTwice};
@@ -50,4 +51,27 @@ pub fn floors_stay_in_groupings()
 /// A route that passes two switches and then the first one again is not a route of any routing rule.
 pub fn no_switch_twice()
     ensures law { NoSwitchTwice }
+{}
+
+/// Of sightings of some ports, a view has the value of the newest generation, or that it is disputed if two values were
+/// seen in that generation, and nothing from below its floor, whatever the order and the repetition of the sightings.
+pub fn newest_facts_stand()
+    ensures law { NewestFactsStand }
+{}
+
+/// Under LMC 1, of three adapters that claim 5, 6 and 6 the second one keeps its claim, and the others get 2 and 4.
+pub fn claims_are_kept()
+    ensures law { ClaimsAreKept }
+{}
+
+/// If each port claims the LID that it has, another adapter, whose port GUID comes before those of all other adapters,
+/// moves no LID.
+pub fn settled_lids_stay()
+    ensures law { SettledLidsStay }
+{}
+
+/// Of some managers, a master hands over to the greatest standby that it hears and that wins, and yields to a lesser
+/// master, which a standby would poll.
+pub fn best_is_picked()
+    ensures law { BestIsPicked }
 {}
