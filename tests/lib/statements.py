@@ -13,6 +13,11 @@ from definitions import Item, Target, definition, is_of_kit
 COMMENTS = "--", "//"
 
 
+def is_of_laws(path: pathlib.Path) -> bool:
+    """Returns whether a file of code has laws: src/laws.rt, or one of src/laws/."""
+    return path.name == "laws.rt" or path.parent.name == "laws"
+
+
 @functools.cache
 def functions() -> dict[str, pathlib.Path]:
     """Returns each function of the crates that has a contract, as CRATE::NAME, with its file. Of several functions of
@@ -21,7 +26,7 @@ def functions() -> dict[str, pathlib.Path]:
     for crate in sorted(crates()):
         for path in files_of(crate):
             for it in FUNCTION.finditer(source_of(path)):
-                if re.search(r"\b(?:requires|ensures)\b", it[0]) and (path.name == "laws.rt" or it[1] not in found):
+                if re.search(r"\b(?:requires|ensures)\b", it[0]) and (is_of_laws(path) or it[1] not in found):
                     found[f"{crate}::{it[1]}"] = path
     return found
 
@@ -34,7 +39,7 @@ def named(law: str) -> list[str]:
         crate, *_, name = law.split("::")
         return [it for it in (f"{crate}::{name}",) if it in every]
     found = [it for it in every if it.partition("::")[2] == law]
-    return [it for it in found if every[it].name == "laws.rt"] or found
+    return [it for it in found if is_of_laws(every[it])] or found
 
 
 @functools.cache
