@@ -4,3 +4,9 @@ pub mod Firsts
 pub mod Sited
 pub mod Surveyed
 pub mod ToldLines
+pub mod Rising
+pub mod Ties
+pub mod Named
+pub mod Found
+pub mod Known
+pub mod Gaps

@@ -6,6 +6,9 @@ pub mod Packets
 pub mod Pairs
 pub mod Site
 pub mod Unmatched
+pub mod Gaps
+pub mod InOrder
+pub mod NamedPorts
 pub use Rattle.audit_ways.specs.ChannelList
 pub use Rattle.audit_ways.specs.Figures
 pub use Rattle.audit_ways.specs.PacketWay

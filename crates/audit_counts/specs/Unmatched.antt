@@ -4,7 +4,7 @@ use Rattle.std.specs.List.{list_any}
 use Rattle.subnet_view.specs.declared.end_port.EndPort.{EndPort}
 use Rattle.subnet_view.specs.EndPort.{end_ports}
 use Rattle.subnet_view.specs.Reading.{Cells, is_usable, switches}
-use Rattle.fact_gaps.specs.Gaps.{unjoined_ports, unusable_nodes}
+use Rattle.audit_counts.specs.Gaps.{unjoined_ports, unusable_nodes}
 use Rattle.held_tables.specs.declared.held.HeldLid.{HeldLid}
 use Rattle.held_tables.specs.Held.{HeldPlan}
 use Rattle.held_tables.specs.Owners.{has_several_owners}

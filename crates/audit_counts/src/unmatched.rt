@@ -5,8 +5,8 @@ ghost use Rattle.audit_counts.specs.Unmatched.{IsUnmatched, has_lid, is_held, li
 ghost use Rattle.audit_counts.specs.Unmatched.{tableless_among, twice, unjoined, unknown, unowned, unowned_among};
 ghost use Rattle.audit_counts.specs.Unmatched.{unusable};
 
+use crate::fact_gaps::{unjoined_ports, unusable_nodes};
 use crate::first_few::FirstFew;
-use fact_gaps::{unjoined_ports, unusable_nodes};
 use fact_store::Store;
 use held_tables::{Held, HeldLid};
 use packet_walks::{Network, is_same_end};

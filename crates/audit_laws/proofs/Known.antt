@@ -12,8 +12,8 @@ use Rattle.reply_facts.specs.Known.{kind_in, link_of, node_of, peer_in, value_in
 use Rattle.fact_store.specs.View.{cells_of}
 use Rattle.subnet_view.specs.Reading.{Cells, is_switch_in}
 use Rattle.subnet_view.proofs.Taken.{found_in}
-use Rattle.fact_gaps.specs.NamedPorts.{far_node, far_port, own_port}
-use Rattle.fact_gaps.proofs.Gaps.{ports_law}
+use Rattle.audit_counts.specs.NamedPorts.{far_node, far_port, own_port}
+use Rattle.audit_counts.proofs.Gaps.{ports_law}
 use Rattle.audit_report.specs.Passing.{EachNodeIsKnown}
 use Rattle.audit_laws.specs.Laws.{AreKnown, PassingAuditsKnowAll}
 

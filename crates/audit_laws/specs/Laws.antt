@@ -12,7 +12,7 @@ use Rattle.fact_store.specs.View.{Facts, cells_of, AreInRange}
 use Rattle.subnet_view.specs.EndPort.{IsNodeWith}
 use Rattle.subnet_view.specs.Reading.{Cells}
 use Rattle.subnet_view.specs.FabricAgreement.{Part, IsEndPortIn}
-use Rattle.fact_gaps.specs.Gaps.{IsKnownNode, IsKnownPort, unjoined_ports}
+use Rattle.audit_counts.specs.Gaps.{IsKnownNode, IsKnownPort, unjoined_ports}
 use Rattle.lid_assign.specs.Lids.{IsNoRoom}
 use Rattle.lft_blocks.specs.Rule.{RuleValue}
 use Rattle.lft_blocks.specs.Plan.{plan_of}

@@ -11,8 +11,8 @@ use Rattle.subnet_view.specs.EndPort.{end_ports}
 use Rattle.subnet_view.specs.Reading.{Cells, switches}
 use Rattle.subnet_view.proofs.Members.{contains_here, contains_later, contains_cases, contains_none, list_any_true, list_any_at}
 use Rattle.subnet_view.proofs.Apart.{contains_map, contains-from_map}
-use Rattle.fact_gaps.specs.Gaps.{unusable_nodes}
-use Rattle.fact_gaps.proofs.Gaps.{nodes_law}
+use Rattle.audit_counts.specs.Gaps.{unusable_nodes}
+use Rattle.audit_counts.proofs.Gaps.{nodes_law}
 use Rattle.lid_assign.specs.Lids.{Given, IsNoRoom, lids, lmc_of, top_of, top_among}
 use Rattle.lid_assign.proofs.LidLaws.{lids_law}
 use Rattle.lft_blocks.specs.Rule.{RuleValue}

@@ -8,8 +8,8 @@ use Rattle.fact_store.specs.Coded.{facts_code}
 use Rattle.subnet_view.specs.declared.end_port.EndPort.{EndPort}
 use Rattle.subnet_view.specs.EndPort.{end_ports}
 use Rattle.subnet_view.specs.Reading.{Cells, switches}
-use Rattle.fact_gaps.specs.Gaps.{IsKnownNode}
-use Rattle.fact_gaps.specs.NamedPorts.{IsNamedNode}
+use Rattle.audit_counts.specs.Gaps.{IsKnownNode}
+use Rattle.audit_counts.specs.NamedPorts.{IsNamedNode}
 use Rattle.held_tables.specs.contracts.held.Held as held_plan
 use Rattle.held_tables.specs.declared.held.HeldLid.{HeldLid}
 use Rattle.held_tables.specs.declared.held.HeldSwitch.{HeldSwitch}

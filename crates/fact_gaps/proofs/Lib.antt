@@ -1,6 +1,0 @@
-pub mod Rising
-pub mod Ties
-pub mod Named
-pub mod Found
-pub mod Known
-pub mod Gaps

@@ -1,3 +1,0 @@
-pub mod Gaps
-pub mod InOrder
-pub mod NamedPorts
