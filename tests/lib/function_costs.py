@@ -42,7 +42,7 @@ COUNTED = {
     "order of tables by switches": ("told_order::told::told_order",),
     "next by switches, from the other rule": (
         "packet_walks::lid_cursor::LidCursor::switch_steps", "packet_walks::lid_cursor::LidCursor::entries",
-        "next_tables::held_arrivals::hops", "ordered_steps::rightness::are_right", "next_tables::step::next_tables",
+        "next_tables::held_arrivals::hops", "next_tables::rightness::are_right", "next_tables::step::next_tables",
         "audit_channels::waits::Waits::add", "audit_channels::order::order_channels",
     ),
     "next by switches, in the order of the tables": (

@@ -16,9 +16,9 @@ use Rattle.spread_labels.proofs.ByPositions.{position_less}
 use Rattle.spread_routes.proofs.Indices.{leads_below}
 use Rattle.next_tables.specs.SwitchPositions.{AreRight, is_bad, is_down, is_up, position_at}
 use Rattle.next_tables.proofs.Hops.{leads_within, to_within}
-use Rattle.ordered_steps.specs.Rightness.{are_right}
-use Rattle.ordered_steps.proofs.ToldRight.{rightness_is_told}
-use Rattle.ordered_steps.proofs.Turns.{not_true}
+use Rattle.next_tables.specs.Rightness.{are_right}
+use Rattle.next_tables.proofs.by_order.ToldRight.{rightness_is_told}
+use Rattle.next_tables.proofs.by_order.Turns.{not_true}
 use Rattle.told_order.specs.ToldOrder.{IsImpliedOrder, all_left, position_in}
 use Rattle.told_order.proofs.Agreed.{told_orders_agree, told_orders_are_stable}
 use Rattle.told_order.proofs.Orders.{bad_is, is_le, some_order_is_told, told_orders_are_right}

@@ -45,7 +45,7 @@ use Rattle.next_tables.proofs.ByLid.{first_of}
 use Rattle.next_tables.proofs.Entries.{at_mapped}
 use Rattle.next_tables.proofs.Hops.{placed, taken_same, to_same}
 use Rattle.next_tables.proofs.Mixtures.{at}
-use Rattle.ordered_steps.specs.OrderedStepLaws.{DeliverFrom}
+use Rattle.next_tables.specs.OrderedStepLaws.{DeliverFrom}
 use Rattle.two_orders.specs.declared.labels.Sides.{Sides}
 use Rattle.two_orders.specs.Labels.{both_down, goes_on, is_side, label_at, leads, leads_on, may_follow}
 use Rattle.two_orders.specs.TwoOrders.{TwoOrders}

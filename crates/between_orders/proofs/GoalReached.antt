@@ -20,12 +20,12 @@ use Rattle.subnet_view.specs.Reading.{port_count_of}
 use Rattle.next_tables.specs.SwitchPositions.{AreRight, IsOrder, Leads, position_at, switch_at}
 use Rattle.next_tables.specs.SettledRule.{step_at}
 use Rattle.next_tables.proofs.Hops.{none_taken, placed, to_within}
-use Rattle.ordered_steps.specs.OrderedStepLaws.{AreStepsByOrder, DeliverFrom, IsLineStep}
-use Rattle.ordered_steps.proofs.EndRight.{end_right_by_any}
-use Rattle.ordered_steps.proofs.Goal.{end_in_twice_as_many}
-use Rattle.ordered_steps.proofs.Lost.{rule_is_tried, tried_is_choice}
-use Rattle.ordered_steps.proofs.Round.{next_deliver_or_drop_by_order}
-use Rattle.ordered_steps.proofs.Turns.{next_are_right}
+use Rattle.next_tables.specs.OrderedStepLaws.{AreStepsByOrder, DeliverFrom, IsLineStep}
+use Rattle.next_tables.proofs.by_order.EndRight.{end_right_by_any}
+use Rattle.next_tables.proofs.by_order.Goal.{end_in_twice_as_many}
+use Rattle.next_tables.proofs.by_order.Lost.{rule_is_tried, tried_is_choice}
+use Rattle.next_tables.proofs.by_order.Round.{next_deliver_or_drop_by_order}
+use Rattle.next_tables.proofs.by_order.Turns.{next_are_right}
 use Rattle.two_orders.specs.declared.labels.Sides.{Sides}
 use Rattle.two_orders.specs.LabelLaws.{grown_twice}
 use Rattle.two_orders.specs.Labels.{label_at}

@@ -16,10 +16,10 @@ use Rattle.next_tables.specs.OrderRule.{IsNextByOrder}
 use Rattle.next_tables.specs.SwitchPositions.{Leads, position_at}
 use Rattle.next_tables.specs.NextTables.{IsKept, ordered_for}
 use Rattle.next_tables.proofs.Hops.{none_to}
-use Rattle.ordered_steps.specs.OrderedStepLaws.{AreNextByOrder, DeliverFrom}
-use Rattle.ordered_steps.proofs.OrderedTables.{ordered_tables_are_next}
-use Rattle.ordered_steps.proofs.Round.{all_are_step, all_follow_the_rule}
-use Rattle.ordered_steps.proofs.ToldRight.{rightness_is_told}
+use Rattle.next_tables.specs.OrderedStepLaws.{AreNextByOrder, DeliverFrom}
+use Rattle.next_tables.proofs.by_order.OrderedTables.{ordered_tables_are_next}
+use Rattle.next_tables.proofs.by_order.Round.{all_are_step, all_follow_the_rule}
+use Rattle.next_tables.proofs.by_order.ToldRight.{rightness_is_told}
 use Rattle.told_order.specs.ToldOrder.{IsImpliedOrder}
 use Rattle.told_order.proofs.Orders.{some_order_is_told}
 use Rattle.two_orders.specs.Growth.{grown_by, key_of, positions_in}

@@ -22,11 +22,11 @@ use Rattle.spread_routes.proofs.Names.{all_positioned, position_within}
 use Rattle.held_tables.specs.Tables.{owners_of}
 use Rattle.next_tables.specs.NextTables.{IsKept}
 use Rattle.next_tables.specs.SwitchPositions.{AreRight, IsOrder, position_at}
-use Rattle.ordered_steps.specs.Rightness.{are_right}
-use Rattle.ordered_steps.proofs.OrderedTables.{ordered_tables_are_next}
-use Rattle.ordered_steps.proofs.ToldRight.{rightness_is_told}
-use Rattle.ordered_steps.proofs.Lost.{rule_is_tried}
-use Rattle.ordered_steps.proofs.Round.{all_are_step, all_follow_the_rule}
+use Rattle.next_tables.specs.Rightness.{are_right}
+use Rattle.next_tables.proofs.by_order.OrderedTables.{ordered_tables_are_next}
+use Rattle.next_tables.proofs.by_order.ToldRight.{rightness_is_told}
+use Rattle.next_tables.proofs.by_order.Lost.{rule_is_tried}
+use Rattle.next_tables.proofs.by_order.Round.{all_are_step, all_follow_the_rule}
 use Rattle.told_order.specs.ToldOrder.{IsImpliedOrder, all_left}
 use Rattle.told_order.proofs.Orders.{told_orders_are_right}
 use Rattle.two_orders.specs.Growth.{grown_by, key_of, positions_in}

@@ -20,7 +20,7 @@ use Rattle.next_tables.specs.OrderRule.{tried, tried_at, tried_entry, turns_well
 use Rattle.next_tables.specs.SettledRule.{comes_to, delivers, step_at}
 use Rattle.next_tables.proofs.Hops.{to_within}
 use Rattle.next_tables.proofs.Steps.{at_index}
-use Rattle.ordered_steps.proofs.Turns.{below_at}
+use Rattle.next_tables.proofs.by_order.Turns.{below_at}
 
 pub alike : (a b : Bool) → (a ≡ true → b ≡ true) → (b ≡ true → a ≡ true) → a ≡ b
 alike true b to from = sym (to refl)

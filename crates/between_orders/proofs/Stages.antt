@@ -17,8 +17,8 @@ use Rattle.next_tables.specs.NextTables.{IsKept, StepRuleValue, by_order, next_a
 use Rattle.next_tables.proofs.Entries.{at_mapped}
 use Rattle.next_tables.proofs.Hops.{leads_within, placed}
 use Rattle.next_tables.proofs.Whole.{entry_next, top_next}
-use Rattle.ordered_steps.specs.OrderedStepLaws.{DeliverFrom}
-use Rattle.ordered_steps.proofs.Round.{next_deliver_or_drop_by_order}
+use Rattle.next_tables.specs.OrderedStepLaws.{DeliverFrom}
+use Rattle.next_tables.proofs.by_order.Round.{next_deliver_or_drop_by_order}
 use Rattle.two_orders.specs.Growth.{grown_by, positions_in}
 use Rattle.two_orders.specs.LabelLaws.{grown_twice}
 use Rattle.two_orders.specs.TwoOrders.{TwoOrders}

@@ -16,9 +16,9 @@ use Rattle.next_tables.specs.SwitchPositions.{position_at, switch_at}
 use Rattle.next_tables.specs.SettledRule.{comes_to, step_at}
 use Rattle.next_tables.proofs.Hops.{none_to, to_same}
 use Rattle.next_tables.proofs.Steps.{at_index}
-use Rattle.ordered_steps.specs.OrderedStepLaws.{DeliverFrom, IsLineStep}
-use Rattle.ordered_steps.proofs.Lost.{tried_choice, tried_delivers}
-use Rattle.ordered_steps.proofs.Turns.{not_true}
+use Rattle.next_tables.specs.OrderedStepLaws.{DeliverFrom, IsLineStep}
+use Rattle.next_tables.proofs.by_order.Lost.{tried_choice, tried_delivers}
+use Rattle.next_tables.proofs.by_order.Turns.{not_true}
 use Rattle.two_orders.specs.declared.labels.Sides.{Sides}
 use Rattle.two_orders.specs.Labels.{label_at, leads_on}
 use Rattle.two_orders.specs.TwoOrders.{TwoOrders}

@@ -16,8 +16,8 @@ use Rattle.spread_labels.specs.LabelLaws.{IsSymmetric}
 use Rattle.spread_routes.proofs.Indices.{leads_below, there_and_back}
 use Rattle.next_tables.specs.SwitchPositions.{AreRight, Leads, is_bad, is_down, is_up}
 use Rattle.next_tables.proofs.Hops.{leads_within, to_within}
-use Rattle.ordered_steps.proofs.ToldRight.{rightness_is_told}
-use Rattle.ordered_steps.proofs.Turns.{not_true}
+use Rattle.next_tables.proofs.by_order.ToldRight.{rightness_is_told}
+use Rattle.next_tables.proofs.by_order.Turns.{not_true}
 use Rattle.told_order.specs.ToldOrder.{IsImpliedOrder, all_left, position_in}
 use Rattle.told_order.proofs.Orders.{all_within, apart, bad_is, is_le, taken_each}
 use Rattle.two_orders.specs.Agreement.{CouldGrow}

@@ -6,7 +6,7 @@ use Rattle.port_graph.specs.Walks.{Walk}
 use Rattle.subnet_view.specs.Reading.{Cells, switches}
 use Rattle.held_tables.specs.Held.{HeldPlan}
 use Rattle.next_tables.specs.SwitchPositions.{AreRight, Leads, position_at}
-use Rattle.ordered_steps.specs.Rightness.{are_right}
+use Rattle.next_tables.specs.Rightness.{are_right}
 use Rattle.told_order.specs.ToldOrder.{IsImpliedOrder, position_in}
 use Rattle.two_orders.specs.Agreement.{AgreesUpTo}
 use Rattle.two_orders.specs.Growth.{grown_by, positions_in}

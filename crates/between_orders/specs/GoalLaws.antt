@@ -13,7 +13,7 @@ use Rattle.next_tables.specs.OrderRule.{IsNextByOrder}
 use Rattle.next_tables.specs.SwitchPositions.{AreRight, IsOrder, position_at, switch_at}
 use Rattle.next_tables.specs.SettledRule.{step_at}
 use Rattle.next_tables.specs.NextTables.{IsKept, by_order, next_tables}
-use Rattle.ordered_steps.specs.OrderedStepLaws.{DeliverFrom, IsLineStep, IsStep}
+use Rattle.next_tables.specs.OrderedStepLaws.{DeliverFrom, IsLineStep, IsStep}
 use Rattle.two_orders.specs.declared.labels.Sides.{Sides}
 use Rattle.two_orders.specs.LabelLaws.{grown_twice}
 use Rattle.two_orders.specs.Labels.{label_at}

@@ -11,7 +11,7 @@ use Rattle.packet_walks.specs.declared.next_hop.NextHop.TheVariants.{Ends}
 use Rattle.next_tables.specs.SwitchPositions.{AreRight, switch_at}
 use Rattle.next_tables.specs.SettledRule.{step_at}
 use Rattle.next_tables.specs.NextTables.{IsKept}
-use Rattle.ordered_steps.specs.OrderedStepLaws.{DeliverFrom}
+use Rattle.next_tables.specs.OrderedStepLaws.{DeliverFrom}
 use Rattle.two_orders.specs.Growth.{positions_in}
 use Rattle.two_orders.specs.LabelLaws.{grown_twice}
 use Rattle.between_orders.specs.Agreement.{AreGrown, AreRightBy, ComeEverywhere, IsRightByGrown, TellsPositions, order_of_plan}

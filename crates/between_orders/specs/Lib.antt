@@ -4,4 +4,4 @@ pub mod GoalLaws
 pub mod HandedStages
 pub mod Orders
 pub mod TablesBetween
-pub use Rattle.ordered_steps.specs.Rightness
+pub use Rattle.next_tables.specs.Rightness

@@ -8,7 +8,7 @@ use Rattle.subnet_view.specs.Reading.{Cells}
 use Rattle.held_tables.specs.Held.{HeldPlan}
 use Rattle.spread_routes.specs.Rule.{by_index}
 use Rattle.next_tables.specs.SwitchPositions.{position_at}
-use Rattle.ordered_steps.specs.Rightness.{are_right}
+use Rattle.next_tables.specs.Rightness.{are_right}
 use Rattle.told_order.specs.ToldOrder.{IsImpliedOrder, position_in}
 use Rattle.two_orders.specs.Growth.{grown_by, positions_in}
 use Rattle.two_orders.specs.Trees.{tree}

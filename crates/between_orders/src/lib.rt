@@ -8,5 +8,5 @@ mod orders;
 mod step_goal;
 mod tables_between;
 
-pub use ordered_steps::are_right;
+pub use next_tables::are_right;
 pub use step_goal::{StepGoal, between};

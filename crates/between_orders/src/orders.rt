@@ -6,7 +6,7 @@ ghost use Rattle.spread_labels.specs.LabelLaws.{IsSymmetric};
 ghost use Rattle.told_order.specs.ToldOrder.{position_in};
 ghost use Rattle.between_orders.specs.Orders.{AreOrders, orders_from, told_positions};
 
-use ordered_steps::are_right;
+use next_tables::are_right;
 use packet_walks::Network;
 use port_graph::Adjacency;
 use std::alloc::{AllocError, Global};

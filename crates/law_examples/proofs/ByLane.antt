@@ -18,10 +18,10 @@ use Rattle.lanes_file.specs.WellFormed.{AreLanes, IsWellFormed}
 use Rattle.audit_channels.specs.Waiting.{RiseOnWays}
 use Rattle.next_tables.specs.OrderRule.{numbers_by}
 use Rattle.next_tables.specs.SwitchPositions.{AreRight}
-use Rattle.ordered_steps.specs.OrderedStepLaws.{IsStep}
-use Rattle.ordered_steps.specs.Rightness.{are_right}
-use Rattle.ordered_steps.proofs.ToldRight.{rightness_is_told}
-use Rattle.ordered_steps.proofs.Waits.{numbers_rise_by_order}
+use Rattle.next_tables.specs.OrderedStepLaws.{IsStep}
+use Rattle.next_tables.specs.Rightness.{are_right}
+use Rattle.next_tables.proofs.by_order.ToldRight.{rightness_is_told}
+use Rattle.next_tables.proofs.by_order.Waits.{numbers_rise_by_order}
 use Rattle.lane_channels.specs.Fabrics.{HoldLanes, IsCarried, IsLaneChannel, LaneMaps, TravelsAt, lane_at}
 use Rattle.lane_channels.specs.LaneNetwork.{SeenByLane}
 use Rattle.lane_channels.proofs.LaneLaws.{one_lane_suffices}

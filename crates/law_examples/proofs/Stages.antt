@@ -22,9 +22,9 @@ use Rattle.packet_walks.specs.HopsByTables.{next_hops_of}
 use Rattle.next_tables.specs.NextTables.{IsKept, by_order, next_at, next_tables}
 use Rattle.next_tables.specs.SettledRule.{step_at}
 use Rattle.next_tables.specs.SwitchPositions.{AreRight, Leads, position_at}
-use Rattle.ordered_steps.specs.OrderedStepLaws.{DeliverFrom}
-use Rattle.ordered_steps.specs.Rightness.{are_right}
-use Rattle.ordered_steps.proofs.ToldRight.{rightness_is_told}
+use Rattle.next_tables.specs.OrderedStepLaws.{DeliverFrom}
+use Rattle.next_tables.specs.Rightness.{are_right}
+use Rattle.next_tables.proofs.by_order.ToldRight.{rightness_is_told}
 use Rattle.two_orders.specs.Labels.{labels_from}
 use Rattle.two_orders.specs.Trees.{tree}
 use Rattle.two_orders.specs.TwoOrders.{TwoOrders}

@@ -6,7 +6,7 @@ use Rattle.held_tables.specs.declared.held.HeldLid.{HeldLid}
 use Rattle.held_tables.specs.Held.{HeldPlan}
 use Rattle.held_tables.specs.Tables.{entry_for}
 use Rattle.next_tables.specs.NextTables.{IsKept}
-use Rattle.ordered_steps.specs.OrderedStepLaws.{DeliverFrom}
+use Rattle.next_tables.specs.OrderedStepLaws.{DeliverFrom}
 use Rattle.two_orders.specs.Growth.{positions_in}
 use Rattle.between_orders.specs.Agreement.{AreRightBy, ComeEverywhere, IsRightByGrown, TellsPositions, order_of_plan}
 use Rattle.between_orders.specs.Between.{Goal}

@@ -26,10 +26,10 @@ use Rattle.next_tables.specs.SwitchPositions.{position_at}
 use Rattle.next_tables.specs.ChangingFabric.{IsBeingWritten, IsInChange, StandsStill}
 use Rattle.next_tables.proofs.BeingWritten.{written_tables_are_in_change}
 use Rattle.next_tables.proofs.ChangingFabric.{packets_arrive_while_tables_change}
-use Rattle.ordered_steps.proofs.ChangingFabric.{packets_arrive_by_order}
-use Rattle.ordered_steps.proofs.Lost.{rule_is_tried}
-use Rattle.ordered_steps.proofs.OrderedTables.{ordered_tables_are_next}
-use Rattle.ordered_steps.proofs.Round.{all_follow_the_rule}
+use Rattle.next_tables.proofs.by_order.ChangingFabric.{packets_arrive_by_order}
+use Rattle.next_tables.proofs.by_order.Lost.{rule_is_tried}
+use Rattle.next_tables.proofs.by_order.OrderedTables.{ordered_tables_are_next}
+use Rattle.next_tables.proofs.by_order.Round.{all_follow_the_rule}
 use Rattle.manager_laws.specs.Scene.{Event, Scene, after_events}
 use Rattle.manager_laws.proofs.Alike.{nodes_along}
 use Rattle.manager_laws.proofs.Answers.{Continues, begun}

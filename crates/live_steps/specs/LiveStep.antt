@@ -21,7 +21,7 @@ use Rattle.packet_walks.specs.HopsByTables.{IsBrought}
 use Rattle.next_tables.specs.NextTables.{IsKept, StepRuleValue, by_order, next_tables, settled_first}
 use Rattle.next_tables.specs.SwitchPositions.{AreRight, IsOrder, position_at}
 use Rattle.next_tables.specs.ChangingFabric.{ArrivesMeanwhile}
-use Rattle.ordered_steps.specs.OrderedStepLaws.{IsLineStep}
+use Rattle.next_tables.specs.OrderedStepLaws.{IsLineStep}
 use Rattle.manager_laws.specs.Scene.{CanHappen, Deliver, Event, IsQuiet, Scene, after_event, after_events}
 use Rattle.manager_laws.specs.Sets.{Carries, TakesSet}
 use Rattle.live_steps.specs.StepPlan.{HasNextBlock, HasWholeBlocks}

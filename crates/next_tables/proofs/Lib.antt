@@ -16,3 +16,4 @@ pub mod StepLaws
 pub mod Steps
 pub mod Waits
 pub mod Whole
+pub mod by_order

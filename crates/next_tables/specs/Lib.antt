@@ -9,4 +9,6 @@ pub mod NextTextIsRead
 pub mod OrderedEntries
 pub mod SettledStepLaws
 pub mod SettledEntries
+pub mod Rightness
+pub mod OrderedStepLaws
 pub use Rattle.audit_channels.specs.Column

@@ -7,6 +7,8 @@ ghost use Rattle.next_tables.specs.NextTextIsRead.{NextTextsAreRead, StepTextsAr
 ghost use Rattle.next_tables.specs.SettledStepLaws.{StepsEndInThePlan, StepsHealInTwo};
 ghost use Rattle.next_tables.specs.SettledStepLaws.{NextTablesAreSo, StepsFollowTheRule, StepsLoseNone, StepsSendNoneRound};
 
+pub mod by_order;
+
 /// If a LID has the same owners in the held tables and in the plan, a packet for the LID that the held tables deliver
 /// is delivered at the same end port under any loose mixtures (`IsLoose`) of the held and the next tables. The
 /// mixture may change while the packet travels.

@@ -30,7 +30,7 @@ use Rattle.next_tables.proofs.Steps.{at_index}
 use Rattle.next_tables.specs.SwitchPositions.{AreRight, Leads, is_bad, switch_at}
 use Rattle.plan_order_laws.specs.PlanLaws.{PlanTurnsRise}
 use Rattle.next_tables.proofs.Hops.{column_at, edge_at, leads_within}
-use Rattle.ordered_steps.proofs.Turns.{not_true}
+use Rattle.next_tables.proofs.by_order.Turns.{not_true}
 
 -- numbers of the rule, as where it is proved that they rise
 abbrev number_at : Routing → Cells → ℕ → ℕ → ℕ

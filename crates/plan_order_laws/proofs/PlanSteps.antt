@@ -17,10 +17,10 @@ use Rattle.plan_tables.specs.PlanTables.{held_plan}
 use Rattle.next_tables.specs.SwitchPositions.{AreApart, AreRight, IsOrder, switch_at}
 use Rattle.next_tables.proofs.Entries.{at_mapped, member}
 use Rattle.next_tables.proofs.Hops.{leads_at, leads_within, to_within, to_wired}
-use Rattle.ordered_steps.proofs.Goal.{end_in_twice_as_many}
-use Rattle.ordered_steps.proofs.Lost.{rule_is_tried}
-use Rattle.ordered_steps.proofs.Round.{all_are_step}
-use Rattle.ordered_steps.proofs.Waits.{numbers_rise_by_order}
+use Rattle.next_tables.proofs.by_order.Goal.{end_in_twice_as_many}
+use Rattle.next_tables.proofs.by_order.Lost.{rule_is_tried}
+use Rattle.next_tables.proofs.by_order.Round.{all_are_step}
+use Rattle.next_tables.proofs.by_order.Waits.{numbers_rise_by_order}
 use Rattle.plan_order_laws.specs.PlanLaws.{PlanOrdersAreOrders, PlansAreRight, StepsEndInPlans, StepsTowardsPlans, plan_position}
 use Rattle.plan_order_laws.proofs.NamedPositions.{named_position}
 use Rattle.plan_order_laws.proofs.PlanOrders.{spread_orders_are_orders, updown_orders_are_orders}

@@ -37,7 +37,7 @@ use Rattle.next_tables.proofs.Entries.{at_mapped, member}
 use Rattle.next_tables.proofs.Mixtures.{in_range}
 use Rattle.std.proofs.lemmas.List.{length-map}
 use Rattle.next_tables.specs.SwitchPositions.{IsWired, switch_at}
-use Rattle.ordered_steps.specs.OrderedStepLaws.{DeliverFrom}
+use Rattle.next_tables.specs.OrderedStepLaws.{DeliverFrom}
 use Rattle.plan_order_laws.specs.PlanLaws.{PlansCover}
 use Rattle.next_tables.proofs.Hops.{none_taken, none_to, placed}
 use Rattle.plan_order_laws.proofs.PlanOrders.{in_one, is_switch}

@@ -32,7 +32,7 @@ use Rattle.next_tables.proofs.Steps.{at_index}
 use Rattle.next_tables.specs.SwitchPositions.{AreRight, Leads, is_bad, is_down, is_up, switch_at}
 use Rattle.next_tables.proofs.Hops.{edge_at, leads_at, leads_within, to_within}
 use Rattle.plan_order_laws.proofs.PlanRight.{plan_turns_rise}
-use Rattle.ordered_steps.proofs.Turns.{not_true}
+use Rattle.next_tables.proofs.by_order.Turns.{not_true}
 
 module _ {X : Type 0} (p q : X → Bool) (more : (x : X) → p x ≡ true → q x ≡ true) (xs : List X) where
   pub counted_le : count_by p xs ≤ count_by q xs

@@ -15,7 +15,7 @@ use Rattle.held_tables.specs.Tables.{entry_for, owners_of}
 use Rattle.next_tables.specs.OrderRule.{IsNextByOrder, numbers_by}
 use Rattle.next_tables.specs.SwitchPositions.{AreApart, AreRight, IsOrder, IsWired, Leads, position_at, switch_at}
 use Rattle.next_tables.specs.Mixtures.{RiseInStep}
-use Rattle.ordered_steps.specs.OrderedStepLaws.{AreNextByOrder, DeliverFrom}
+use Rattle.next_tables.specs.OrderedStepLaws.{AreNextByOrder, DeliverFrom}
 
 -- if facts are in range and have room, and their plan sends packets for a LID along two channels one after the other,
 -- the rule's number of the second is greater than that of the first

@@ -10,8 +10,8 @@ use Rattle.held_tables.specs.Held.{HeldPlan, nothing_held}
 use Rattle.plan_order.specs.PlanOrder.{positions_by}
 use Rattle.plan_tables.specs.PlanTables.{planned}
 use Rattle.next_tables.specs.SwitchPositions.{AreRight, position_at}
-use Rattle.ordered_steps.specs.Rightness.{are_right}
-use Rattle.ordered_steps.proofs.ToldRight.{rightness_is_told}
+use Rattle.next_tables.specs.Rightness.{are_right}
+use Rattle.next_tables.proofs.by_order.ToldRight.{rightness_is_told}
 use Rattle.plan_order_laws.specs.PlanLaws.{plan_position}
 use Rattle.two_orders.specs.Growth.{grown_by, positions_in}
 use Rattle.next_run.specs.Agreement.{AgreeTo, AreGrown, TellsPositions, order_of_plan}

@@ -10,15 +10,15 @@ use Rattle.next_tables.specs.OrderRule.{numbers_by}
 use Rattle.next_tables.specs.SwitchPositions.{position_at}
 use Rattle.next_tables.specs.NextTables.{by_order, next_tables, settled_first}
 use Rattle.next_run.specs.StepOrder.{WaitOn, WaitsFor}
-use Rattle.ordered_steps.specs.Rightness.{are_right}
-use Rattle.ordered_steps.proofs.OrderedTables.{ordered_tables_are_next}
-use Rattle.ordered_steps.proofs.ToldRight.{rightness_is_told}
+use Rattle.next_tables.specs.Rightness.{are_right}
+use Rattle.next_tables.proofs.by_order.OrderedTables.{ordered_tables_are_next}
+use Rattle.next_tables.proofs.by_order.ToldRight.{rightness_is_told}
 use Rattle.plan_order_laws.specs.PlanLaws.{plan_position}
 use Rattle.plan_order_laws.proofs.PlanSteps.{steps_towards_plans}
 use Rattle.next_run.specs.Between.{Goal, IsGoal}
 use Rattle.next_run.specs.GoalLaws.{next_towards as next_to}
 use Rattle.next_run.proofs.Safe.{goals_are_safe}
-use Rattle.ordered_steps.proofs.Waits.{numbers_rise_by_order}
+use Rattle.next_tables.proofs.by_order.Waits.{numbers_rise_by_order}
 use Rattle.next_run.specs.NextRun.{stepped}
 use Rattle.plan_tables.specs.PlanTables.{planned}
 use Rattle.next_run.specs.StepLoops.{IsCycleInStep}

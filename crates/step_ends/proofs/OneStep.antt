@@ -6,7 +6,7 @@ use Rattle.held_tables.specs.Held.{HeldPlan}
 use Rattle.lft_blocks.specs.Rule.{RuleValue}
 use Rattle.plan_order.specs.PlanOrder.{positions_by}
 use Rattle.next_tables.specs.SwitchPositions.{position_at}
-use Rattle.ordered_steps.specs.Rightness.{are_right}
+use Rattle.next_tables.specs.Rightness.{are_right}
 use Rattle.next_run.specs.Between.{Goal, IsGoal}
 use Rattle.next_run.proofs.OneGoal.{one_goal}
 use Rattle.next_run.specs.LastOrder.{near_positions}

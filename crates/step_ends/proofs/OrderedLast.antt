@@ -17,8 +17,8 @@ use Rattle.next_tables.specs.OrderRule.{IsNextByOrder}
 use Rattle.next_tables.specs.SwitchPositions.{AreRight, position_at}
 use Rattle.next_tables.specs.NextTables.{IsKept, by_order, index_at, next_at, next_tables, ordered_for}
 use Rattle.next_tables.proofs.Whole.{entry_next, owners_next}
-use Rattle.ordered_steps.proofs.OrderedTables.{ordered_tables_are_next}
-use Rattle.ordered_steps.proofs.Round.{all_follow_the_rule, next_deliver_or_drop_by_order}
+use Rattle.next_tables.proofs.by_order.OrderedTables.{ordered_tables_are_next}
+use Rattle.next_tables.proofs.by_order.Round.{all_follow_the_rule, next_deliver_or_drop_by_order}
 use Rattle.plan_order_laws.specs.PlanLaws.{plan_position}
 use Rattle.plan_order_laws.proofs.PlanSteps.{steps_end_in_plans, steps_towards_plans}
 use Rattle.step_ends.proofs.Alone.{line_there, owner_there}

@@ -13,8 +13,8 @@ use Rattle.packet_walks.proofs.EntrySteps.{contains_at}
 use Rattle.next_tables.specs.NextTables.{by_order, next_tables, settled_first}
 use Rattle.next_tables.specs.SettledStepLaws.{stepped as settled}
 use Rattle.next_tables.proofs.Whole.{entry_next, top_next}
-use Rattle.ordered_steps.specs.Rightness.{are_right}
-use Rattle.ordered_steps.proofs.ToldRight.{rightness_is_told}
+use Rattle.next_tables.specs.Rightness.{are_right}
+use Rattle.next_tables.proofs.by_order.ToldRight.{rightness_is_told}
 use Rattle.plan_order_laws.specs.PlanLaws.{plan_position}
 use Rattle.next_run.specs.NextRun.{step_rule, stepped}
 use Rattle.plan_tables.specs.PlanTables.{planned}

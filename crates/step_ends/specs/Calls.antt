@@ -9,7 +9,7 @@ use Rattle.spread_routes.specs.SwitchOrder.{OrderValue}
 use Rattle.held_tables.specs.Held.{HeldPlan}
 use Rattle.plan_order.specs.PlanOrder.{positions_by}
 use Rattle.plan_tables.specs.PlanTables.{planned}
-use Rattle.ordered_steps.specs.Rightness.{are_right}
+use Rattle.next_tables.specs.Rightness.{are_right}
 use Rattle.plan_order_laws.specs.PlanLaws.{plan_position}
 use Rattle.two_orders.specs.Growth.{positions_in}
 use Rattle.next_run.specs.Agreement.{AreGrown, TellsPositions, order_of_plan}

@@ -5,7 +5,7 @@ use Rattle.lid_assign.specs.Lids.{IsNoRoom, lids}
 use Rattle.lft_blocks.specs.Rule.{RuleValue}
 use Rattle.held_tables.specs.Held.{HeldPlan}
 use Rattle.plan_tables.specs.PlanTables.{planned}
-use Rattle.ordered_steps.specs.Rightness.{are_right}
+use Rattle.next_tables.specs.Rightness.{are_right}
 use Rattle.plan_order_laws.specs.PlanLaws.{plan_position}
 use Rattle.next_run.specs.Between.{Goal}
 use Rattle.next_tables.specs.SwitchPositions.{position_at}

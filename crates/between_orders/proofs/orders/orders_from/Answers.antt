@@ -6,7 +6,7 @@ use Rattle.port_graph.specs.declared.edge.Edge.{Edge}
 use Rattle.port_graph.specs.Heads.{LeadToVertices}
 use Rattle.spread_labels.specs.LabelLaws.{IsSymmetric}
 use Rattle.next_tables.specs.SwitchPositions.{position_at}
-use Rattle.ordered_steps.specs.Rightness.{are_right}
+use Rattle.next_tables.specs.Rightness.{are_right}
 use Rattle.two_orders.specs.Growth.{grown_by, positions_in}
 use Rattle.two_orders.specs.Trees.{tree}
 use Rattle.two_orders.specs.TwoOrders.{TwoOrders, two_orders}

@@ -1,2 +1,0 @@
-pub mod Rightness
-pub mod OrderedStepLaws
