@@ -39,14 +39,14 @@ COUNTED = {
         "audit_channels::order::order_channels", "audit_counts::site::sites", "audit_ways::way_tally::WayTally::add",
     ),
     "audit by lane by switches": ("lane_channels::waits_by_lane::walk_at_level", "audit_channels::waits::Waits::add"),
-    "order of tables by switches": ("told_order::told::told_order",),
+    "order of tables by switches": ("held_order::told::told_order",),
     "next by switches, from the other rule": (
         "packet_walks::lid_cursor::LidCursor::switch_steps", "packet_walks::lid_cursor::LidCursor::entries",
         "next_tables::held_arrivals::hops", "next_tables::rightness::are_right", "next_tables::step::next_tables",
         "audit_channels::waits::Waits::add", "audit_channels::order::order_channels",
     ),
     "next by switches, in the order of the tables": (
-        "packet_walks::lid_cursor::LidCursor::switch_steps", "told_order::told::told_order",
+        "packet_walks::lid_cursor::LidCursor::switch_steps", "held_order::told::told_order",
         "two_orders::growth::grown_by", "two_orders::labels::label_each",
     ),
     "run by traps": ("schedule_world::world::World::deliver", "sm_manager::manager::Manager::on_packet"),

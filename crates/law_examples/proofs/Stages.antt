@@ -28,15 +28,15 @@ use Rattle.next_tables.proofs.by_order.ToldRight.{rightness_is_told}
 use Rattle.two_orders.specs.Labels.{labels_from}
 use Rattle.two_orders.specs.Trees.{tree}
 use Rattle.two_orders.specs.TwoOrders.{TwoOrders}
-use Rattle.told_order.specs.ToldOrder.{IsImpliedOrder, IsLast, MayBeLast, NoneFrom, is_left}
-use Rattle.told_order.specs.Turns.{IsTurn}
-use Rattle.between_orders.specs.Agreement.{ComeEverywhere, ComeTo, IsRightByGrown, TellsPositions, order_of_plan}
-use Rattle.between_orders.specs.Between.{Goal, IsGoal}
-use Rattle.between_orders.specs.GoalLaws.{IsGoalLine}
-use Rattle.between_orders.specs.HandedStages.{AreHandedSteps, HaveOwnLids, IsOwnLid, IsStage, IsWholePlan, handed}
-use Rattle.between_orders.specs.Orders.{edges_in, orders_from, told_positions}
-use Rattle.between_orders.specs.TablesBetween.{entries_towards, tables_between}
-use Rattle.between_orders.proofs.HandedSteps.{handed_steps_are_goal_steps}
+use Rattle.held_order.specs.ToldOrder.{IsImpliedOrder, IsLast, MayBeLast, NoneFrom, is_left}
+use Rattle.held_order.specs.Turns.{IsTurn}
+use Rattle.held_order.specs.Agreement.{ComeEverywhere, ComeTo, IsRightByGrown, TellsPositions, order_of_plan}
+use Rattle.held_order.specs.Between.{Goal, IsGoal}
+use Rattle.held_order.specs.GoalLaws.{IsGoalLine}
+use Rattle.held_order.specs.HandedStages.{AreHandedSteps, HaveOwnLids, IsOwnLid, IsStage, IsWholePlan, handed}
+use Rattle.held_order.specs.Orders.{edges_in, orders_from, told_positions}
+use Rattle.held_order.specs.TablesBetween.{entries_towards, tables_between}
+use Rattle.held_order.proofs.HandedSteps.{handed_steps_are_goal_steps}
 use Rattle.lft_blocks.proofs.Triangle.{cells, facts, facts_have, tables}
 use Rattle.law_examples.specs.Stages.{AreRightByPlan, SomeStagesGo, SomeStepsAreHanded}
 use Rattle.law_examples.proofs.Detour.{held_by, lid_cases, longer, nobody}

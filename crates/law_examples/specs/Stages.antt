@@ -8,11 +8,11 @@ use Rattle.held_tables.specs.Tables.{entry_for}
 use Rattle.next_tables.specs.NextTables.{IsKept}
 use Rattle.next_tables.specs.OrderedStepLaws.{DeliverFrom}
 use Rattle.two_orders.specs.Growth.{positions_in}
-use Rattle.between_orders.specs.Agreement.{AreRightBy, ComeEverywhere, IsRightByGrown, TellsPositions, order_of_plan}
-use Rattle.between_orders.specs.Between.{Goal}
-use Rattle.between_orders.specs.GoalLaws.{AreGoalSteps, IsGoalLine}
-use Rattle.between_orders.specs.HandedStages.{AreHandedSteps, HaveOwnLids, IsStage, IsWholePlan}
-use Rattle.between_orders.specs.Orders.{edges_in}
+use Rattle.held_order.specs.Agreement.{AreRightBy, ComeEverywhere, IsRightByGrown, TellsPositions, order_of_plan}
+use Rattle.held_order.specs.Between.{Goal}
+use Rattle.held_order.specs.GoalLaws.{AreGoalSteps, IsGoalLine}
+use Rattle.held_order.specs.HandedStages.{AreHandedSteps, HaveOwnLids, IsStage, IsWholePlan}
+use Rattle.held_order.specs.Orders.{edges_in}
 
 -- the tables are right for every LID by the plan's order, which grows by the positions `by`
 abbrev pub AreRightByPlan : Cells → List ℕ → HeldPlan → Type 0

@@ -37,7 +37,7 @@ pub fn some_steps_are_handed()
 {}
 
 /// Some stages go towards a whole plan from tables that are not right by the plan's order, and there are as many of
-/// them as `stages_are_few` (`between_orders`) asks for.
+/// them as `stages_are_few` (`held_order`) asks for.
 pub fn some_stages_go()
     ensures law { SomeStagesGo }
 {}

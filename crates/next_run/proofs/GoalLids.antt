@@ -7,8 +7,8 @@ use Rattle.fact_store.specs.View.{Facts, cells_of}
 use Rattle.lft_blocks.specs.Rule.{RuleValue}
 use Rattle.held_tables.specs.Held.{HeldPlan}
 use Rattle.next_tables.specs.NextTables.{first_moved}
-use Rattle.between_orders.specs.Between.{Goal}
-use Rattle.between_orders.proofs.Safe.{goal_lids}
+use Rattle.held_order.specs.Between.{Goal}
+use Rattle.held_order.proofs.Safe.{goal_lids}
 use Rattle.next_run.specs.NextRun.{Choice, IsChoice, IsGoalFrom, IsGoalNear, IsMade, IsMadeNear, choice_by, goal_or, next_by_choice, next_towards}
 use Rattle.next_run.specs.StepOrderText.{items_of, order_of_step}
 

@@ -1,10 +1,10 @@
 pub mod GoalLids
 pub mod Same
 pub mod StepIs
-pub use Rattle.between_orders.proofs.Agreement
-pub use Rattle.between_orders.proofs.Arrivals
-pub use Rattle.between_orders.proofs.HandedSteps
-pub use Rattle.between_orders.proofs.OneGoal
-pub use Rattle.between_orders.proofs.Safe
-pub use Rattle.between_orders.proofs.SameTables
-pub use Rattle.between_orders.proofs.Stages
+pub use Rattle.held_order.proofs.Agreement
+pub use Rattle.held_order.proofs.Arrivals
+pub use Rattle.held_order.proofs.HandedSteps
+pub use Rattle.held_order.proofs.OneGoal
+pub use Rattle.held_order.proofs.Safe
+pub use Rattle.held_order.proofs.SameTables
+pub use Rattle.held_order.proofs.Stages

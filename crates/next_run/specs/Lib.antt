@@ -3,9 +3,9 @@ pub mod LoopText
 pub mod NextRun
 pub mod StepLoops
 pub mod StepOrderText
-pub use Rattle.between_orders.specs.Agreement
-pub use Rattle.between_orders.specs.Between
-pub use Rattle.between_orders.specs.GoalLaws
-pub use Rattle.between_orders.specs.HandedStages
-pub use Rattle.between_orders.specs.Orders
+pub use Rattle.held_order.specs.Agreement
+pub use Rattle.held_order.specs.Between
+pub use Rattle.held_order.specs.GoalLaws
+pub use Rattle.held_order.specs.HandedStages
+pub use Rattle.held_order.specs.Orders
 pub use Rattle.step_loops.specs.StepOrder

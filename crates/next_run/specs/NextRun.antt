@@ -13,9 +13,9 @@ use Rattle.held_tables.specs.Held.{HeldPlan}
 use Rattle.plan_tables.specs.PlanTables.{planned}
 use Rattle.tables_file.specs.PrintedTables.{next_text}
 use Rattle.next_tables.specs.SwitchPositions.{position_at}
-use Rattle.between_orders.specs.Between.{Goal, IsGoal}
+use Rattle.held_order.specs.Between.{Goal, IsGoal}
 use Rattle.next_tables.specs.NextTables.{StepRuleValue, by_order, first_moved, next_tables, settled_first, value_of}
-use Rattle.between_orders.specs.Rightness.{are_right}
+use Rattle.held_order.specs.Rightness.{are_right}
 use Rattle.plan_order.specs.PlanOrder.{positions_by}
 use Rattle.next_tables.specs.declared.step_fault.StepFault.{StepFault}
 use Rattle.next_tables.specs.declared.step_fault.StepFault.TheVariants as steps

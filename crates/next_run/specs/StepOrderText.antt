@@ -4,7 +4,7 @@ use Rattle.std.specs.declared.alloc.Global.{Global}
 use Rattle.subnet_view.specs.Reading.{Cells}
 use Rattle.two_orders.specs.Growth.{positions_in}
 use Rattle.next_tables.specs.SwitchPositions.{switch_at}
-use Rattle.between_orders.specs.Between.{Goal}
+use Rattle.held_order.specs.Between.{Goal}
 use Rattle.sm_cli.specs.OrderText.{order_text}
 
 -- the GUIDs of the usable switches in the order of their positions

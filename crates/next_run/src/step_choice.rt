@@ -5,14 +5,14 @@ ghost use Rattle.fact_store.specs.View.{cells_of};
 ghost use Rattle.lft_blocks.specs.Rule.{RuleValue};
 ghost use Rattle.plan_order.specs.PlanOrder.{positions_by};
 ghost use Rattle.subnet_view.specs.Reading.{switches};
-ghost use Rattle.between_orders.specs.Between.{goal_of};
+ghost use Rattle.held_order.specs.Between.{goal_of};
 ghost use Rattle.next_run.specs.LastOrder.{near_positions};
 ghost use Rattle.next_run.specs.NextRun.{IsChoice, IsGoalFrom, choice_of};
 ghost use Rattle.next_run.specs.StepOrderText.{items_of};
 
 use crate::step_order_text::switches_by;
-use between_orders::{StepGoal, are_right, between};
 use fact_store::Refused;
+use held_order::{StepGoal, are_right, between};
 use held_tables::Held;
 use next_tables::StepRule;
 use packet_walks::Network;

@@ -7,7 +7,7 @@ use Rattle.fact_store.specs.View.{Facts, cells_of}
 use Rattle.subnet_view.specs.Reading.{Cells, switches}
 use Rattle.held_tables.specs.Held.{HeldPlan}
 use Rattle.next_tables.specs.SwitchPositions.{switch_at}
-use Rattle.told_order.specs.ToldOrder.{IsImpliedOrder}
+use Rattle.held_order.specs.ToldOrder.{IsImpliedOrder}
 use Rattle.sm_cli.specs.OrderText.{order_text}
 use Rattle.sm_cli.specs.InputTables.{AreNoTablesAndFiles, AreTablesAndFiles}
 use Rattle.sm_cli.specs.declared.fault.Fault.{Fault}

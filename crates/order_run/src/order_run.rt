@@ -7,17 +7,17 @@ ghost use Rattle.fact_store.specs.View.{cells_of};
 ghost use Rattle.subnet_view.specs.Reading.{switches};
 ghost use Rattle.sm_cli.specs.Fault.{IsOutputFault};
 ghost use Rattle.next_tables.specs.SwitchPositions.{switch_at};
-ghost use Rattle.told_order.specs.ToldOrder.{IsImpliedOrder};
+ghost use Rattle.held_order.specs.ToldOrder.{IsImpliedOrder};
 ghost use Rattle.order_run.specs.OrderRun.{HasPrintedOrder, IsOrderFault, IsOrderAnswer, told_switches};
 
 use byte_io::{Sink, Source};
 use fact_store::Store;
+use held_order::told_order;
 use held_tables::{Held, Subnet};
 use packet_walks::Network;
 use sm_cli::{Fault, read_tables_and_files, write_order};
 use smp_bytes::Guid;
 use std::alloc::{AllocError, Global};
-use told_order::told_order;
 
 /// Reads the tables from the first input, and then the files from the other inputs, one after the other. There must
 /// be at least one input. Returns whether, in some order of the usable switches, these tables send no packet for any

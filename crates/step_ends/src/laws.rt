@@ -61,7 +61,7 @@ pub fn ways_meet_at_most_all()
 {}
 
 /// The plan of a view with room is whole, as `handed_steps_end`, `stages_make_whole` and `stages_are_few`
-/// (`between_orders`) require.
+/// (`held_order`) require.
 pub fn plans_are_whole()
     ensures law { PlansAreWhole }
 {}

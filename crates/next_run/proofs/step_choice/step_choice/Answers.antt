@@ -5,9 +5,9 @@ use Rattle.fact_store.specs.View.{cells_of}
 use Rattle.plan_order.specs.PlanOrder.{positions_by}
 use Rattle.next_tables.specs.NextTables.{by_order}
 use Rattle.next_tables.specs.SwitchPositions.{position_at}
-use Rattle.between_orders.specs.Between.{goal_of}
-use Rattle.between_orders.specs.Rightness.{are_right}
-use Rattle.between_orders.specs.declared.step_goal.StepGoal.{StepGoal}
+use Rattle.held_order.specs.Between.{goal_of}
+use Rattle.held_order.specs.Rightness.{are_right}
+use Rattle.held_order.specs.declared.step_goal.StepGoal.{StepGoal}
 use Rattle.next_run.specs.LastOrder.{near_positions}
 use Rattle.next_run.specs.NextRun.{IsGoalFrom}
 use Rattle.next_run.specs.StepOrderText.{items_of, switches_by}

@@ -7,7 +7,7 @@ use Rattle.std.specs.Option.{option_map}
 use Rattle.fact_store.specs.View.{Facts, cells_of}
 use Rattle.subnet_view.specs.Reading.{switches}
 use Rattle.held_tables.specs.Held.{HeldPlan}
-use Rattle.told_order.specs.ToldOrder.{IsImpliedOrder}
+use Rattle.held_order.specs.ToldOrder.{IsImpliedOrder}
 use Rattle.sm_cli.specs.OrderText.{order_text}
 use Rattle.order_run.specs.OrderRun.{told_switches}
 use Rattle.order_run.proofs.order_run.answer.Goals as goal

@@ -1,0 +1,11 @@
+pub mod LastByTurns
+pub mod ToldLaws
+pub mod ToldOrder
+pub mod Turns
+pub mod Agreement
+pub mod Between
+pub mod GoalLaws
+pub mod HandedStages
+pub mod Orders
+pub mod TablesBetween
+pub use Rattle.next_tables.specs.Rightness

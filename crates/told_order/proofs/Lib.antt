@@ -1,4 +1,0 @@
-pub mod Agreed
-pub mod MayBeLast
-pub mod Noted
-pub mod Orders

@@ -1,7 +1,0 @@
--- None of those that stand behind may be the last.
-use Rattle.told_order.specs.LastByTurns.{NoneFromBy}
-use Rattle.told_order.specs.Turns.{lists_of}
-use Rattle.told_order.proofs.last_by_turns.last_of.Given as goal
-
-abbrev pub invariant-loop-index : goal.invariant-loop-index
-invariant-loop-index l = NoneFromBy (lists_of l.turns) l.preferred l.left l.index

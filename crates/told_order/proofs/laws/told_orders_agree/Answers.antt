@@ -1,5 +1,0 @@
-use Rattle.told_order.proofs.Agreed.{told_orders_agree}
-use Rattle.told_order.proofs.laws.told_orders_agree.Goals as goal
-
-pub returns : goal.returns
-returns c = record { law = told_orders_agree }

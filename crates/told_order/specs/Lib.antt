@@ -1,4 +1,0 @@
-pub mod LastByTurns
-pub mod ToldLaws
-pub mod ToldOrder
-pub mod Turns
