@@ -15,7 +15,7 @@ use Rattle.sm_cli.specs.declared.fault.Fault.{Fault}
 use Rattle.sm_cli.specs.declared.fault.Fault.TheVariants.{Open, File, Text, NoRoom, Write, Memory}
 use Rattle.audit_run.specs.AuditRun.{HasAudited, IsAuditFault}
 use Rattle.next_run.specs.NextRun.{HasStepped, IsStepFault, texts_before}
-use Rattle.order_run.specs.OrderRun.{HasPrintedOrder, IsOrderFault}
+use Rattle.next_run.specs.OrderRun.{HasPrintedOrder, IsOrderFault}
 use Rattle.record_file.specs.declared.file_fault.FileFault.TheVariants.{Read}
 use Rattle.schedule_run.specs.Run.{HasRun, IsRunFault}
 use Rattle.serve_task.specs.RunServe.{HasServedLines, IsServeFault}

@@ -3,6 +3,7 @@ pub mod LoopText
 pub mod NextRun
 pub mod StepLoops
 pub mod StepOrderText
+pub mod OrderRun
 pub use Rattle.held_order.specs.Agreement
 pub use Rattle.held_order.specs.Between
 pub use Rattle.held_order.specs.GoalLaws

@@ -1,7 +1,7 @@
 -- The inputs were read, and the order that they tell was written.
 use Rattle.std.proofs.Common.{inr}
 use Rattle.std.proofs.lemmas.Result.{IfErr-weaker, IfOk-weaker}
-use Rattle.order_run.proofs.order_run.run_order_of_tables.Goals as goal
+use Rattle.next_run.proofs.order_run.run_order_of_tables.Goals as goal
 
 pub returns-clause-done : goal.returns-clause-done
 returns-clause-done g c =

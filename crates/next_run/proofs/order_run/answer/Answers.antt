@@ -9,8 +9,8 @@ use Rattle.subnet_view.specs.Reading.{switches}
 use Rattle.held_tables.specs.Held.{HeldPlan}
 use Rattle.held_order.specs.ToldOrder.{IsImpliedOrder}
 use Rattle.sm_cli.specs.OrderText.{order_text}
-use Rattle.order_run.specs.OrderRun.{told_switches}
-use Rattle.order_run.proofs.order_run.answer.Goals as goal
+use Rattle.next_run.specs.OrderRun.{told_switches}
+use Rattle.next_run.proofs.order_run.answer.Goals as goal
 
 -- an option is there if what it is mapped to is
 map_there : {A B : Type 0} (f : A → B) (o : Option A) → is_some o ≡ is_some (option_map f o)

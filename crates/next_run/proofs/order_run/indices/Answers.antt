@@ -1,7 +1,7 @@
 -- All numbers of the range are collected.
 use Rattle.std.proofs.Common.{arith, refl}
 use Rattle.std.proofs.lemmas.Iterator.{YieldsList-from_range, items_from_collect}
-use Rattle.order_run.proofs.order_run.indices.Goals as goal
+use Rattle.next_run.proofs.order_run.indices.Goals as goal
 
 pub returns : goal.returns
 returns c =

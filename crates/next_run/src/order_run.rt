@@ -8,7 +8,7 @@ ghost use Rattle.subnet_view.specs.Reading.{switches};
 ghost use Rattle.sm_cli.specs.Fault.{IsOutputFault};
 ghost use Rattle.next_tables.specs.SwitchPositions.{switch_at};
 ghost use Rattle.held_order.specs.ToldOrder.{IsImpliedOrder};
-ghost use Rattle.order_run.specs.OrderRun.{HasPrintedOrder, IsOrderFault, IsOrderAnswer, told_switches};
+ghost use Rattle.next_run.specs.OrderRun.{HasPrintedOrder, IsOrderFault, IsOrderAnswer, told_switches};
 
 use byte_io::{Sink, Source};
 use fact_store::Store;

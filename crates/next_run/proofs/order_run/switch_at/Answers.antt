@@ -4,7 +4,7 @@ use Rattle.std.proofs.lemmas.Option.{unwrap_or-slice_get}
 use Rattle.std.specs.Option.{unwrap_or}
 use Rattle.fact_store.specs.View.{cells_of}
 use Rattle.subnet_view.specs.Reading.{switches}
-use Rattle.order_run.proofs.order_run.switch_at.Goals as goal
+use Rattle.next_run.proofs.order_run.switch_at.Goals as goal
 
 pub returns : goal.returns
 returns c =
