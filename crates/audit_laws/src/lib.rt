@@ -1,4 +1,0 @@
-//! What audits promise about fabrics.
-#![tactic(auto)]
-
-pub mod laws;

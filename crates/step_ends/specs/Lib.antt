@@ -1,4 +1,0 @@
-pub mod Calls
-pub mod StepEnds
-pub mod StepLaws
-pub mod WholePlans

@@ -1,4 +1,0 @@
-//! How repeated steps of whole tables end.
-#![tactic(auto)]
-
-pub mod laws;

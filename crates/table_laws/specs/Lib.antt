@@ -1,0 +1,6 @@
+pub mod AuditLaws
+pub mod PlanLaws
+pub mod Calls
+pub mod StepEnds
+pub mod StepLaws
+pub mod WholePlans
