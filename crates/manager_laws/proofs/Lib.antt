@@ -51,3 +51,7 @@ pub mod WritingLists
 pub mod WritingSweeps
 pub mod WritingTaken
 pub mod Writings
+pub mod takeover
+pub mod masters
+pub mod sweep_ends
+pub mod writing_ends

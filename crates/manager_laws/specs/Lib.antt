@@ -8,3 +8,13 @@ pub mod Sweeping
 pub mod Truth
 pub mod WritingPings
 pub mod Written
+pub mod AfterCut
+pub mod Claims
+pub mod OnePlan
+pub mod Takeover
+pub mod Known
+pub mod Masters
+pub mod OwnRuns
+pub mod StaysInForce
+pub mod SweepEnds
+pub mod WritingEnds

@@ -8,6 +8,11 @@ ghost use Rattle.manager_laws.specs.Sweeping.{AcceptedFactsAreTrue};
 ghost use Rattle.manager_laws.specs.WritingPings.{PingsArriveOnceWritten, SomeManagerBringsUp};
 ghost use Rattle.manager_laws.specs.Written.{NewManagersSweepFirst, WrittenPlansAreHeld};
 
+pub mod masters;
+pub mod sweep_ends;
+pub mod takeover;
+pub mod writing_ends;
+
 /// A directed answer with status 0 that comes back to a manager says what is true of the node at the end of its path:
 /// the NodeInfo, whether a port is up, or the size of the forwarding table. LIDs, tops, blocks and descriptions are
 /// left open. Other managers may send, each from its own port, packets that are forwarded by LIDs, requests along

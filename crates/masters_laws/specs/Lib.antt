@@ -1,4 +1,0 @@
-pub mod Known
-pub mod Masters
-pub mod OwnRuns
-pub mod StaysInForce

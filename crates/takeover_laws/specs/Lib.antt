@@ -1,4 +1,0 @@
-pub mod AfterCut
-pub mod Claims
-pub mod OnePlan
-pub mod Takeover
