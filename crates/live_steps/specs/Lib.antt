@@ -1,4 +1,0 @@
-pub mod Between
-pub mod LiveStep
-pub mod OwnSets
-pub mod StepPlan

@@ -1,0 +1,3 @@
+pub mod serve
+pub mod managed
+pub mod live_steps

@@ -1,0 +1,11 @@
+pub mod Framed
+pub mod Live
+pub mod LivePings
+pub mod Says
+pub mod ServeLaws
+pub mod Told
+pub mod Deciding
+pub mod Between
+pub mod LiveStep
+pub mod OwnSets
+pub mod StepPlan

@@ -1,0 +1,16 @@
+//! The laws of a manager that decides by itself, at its seat on a fabric.
+ghost use Rattle.program_laws.specs.Deciding.{DecidingIsManaging, NewOnesStand};
+
+/// Whatever is told to a manager that decides by itself, and whatever happens around it, if its shell is faithful it is
+/// a manager at its seat: some events of a manager lead to the same scene with the same manager, who has given out each
+/// packet that was printed.
+#[tactic(auto, using(crate::proofs::managed::Managed::deciding_is_managing))]
+pub fn deciding_is_managing()
+    ensures { DecidingIsManaging }
+{}
+
+/// A new manager that decides by itself is the manager that it decides for, at its seat.
+#[tactic(auto, using(crate::proofs::managed::Managed::new_ones_stand))]
+pub fn new_ones_stand()
+    ensures { NewOnesStand }
+{}
