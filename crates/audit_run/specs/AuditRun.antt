@@ -31,10 +31,11 @@ use Rattle.audit_run.specs.LaneText.{lanes_text}
 use Rattle.audit_run.specs.LevelsMissing.{missing_levels}
 use Rattle.audit_run.specs.VerdictText.{verdict_line}
 use Rattle.sm_cli.specs.Fault.{IsOutputFault}
-use Rattle.sm_cli.specs.InputLanes.{AreLanesAndTables, AreNoLanesAndTables}
+use Rattle.sm_cli.specs.FromText.{IsLanesFault, SaysLanes}
+use Rattle.sm_cli.specs.InputTables.{AreNoTextAndTables, AreTextAndTables}
 use Rattle.sm_cli.specs.declared.audit_asked.AuditAsked.{AuditAsked}
 use Rattle.sm_cli.specs.declared.fault.Fault.{Fault}
-use Rattle.sm_cli.specs.declared.input_lanes.LanesAndTables.{LanesAndTables}
+use Rattle.sm_cli.specs.declared.input_tables.TextAndTables.{TextAndTables}
 
 -- facts, tables and lanes together
 abbrev pub seen_of : Facts → HeldPlan → LanesSaid → SeenByLane
@@ -184,18 +185,19 @@ pub record IsAudited (asked : AuditAsked) (facts : Facts) (held : HeldPlan) (lan
 -- has a greater load
 pub record HasAudited {S : Type 0} (state : S → SourceState) (asked : AuditAsked) (olds news : List S)
     (prints : List ℕ → Type 0) (passed : Bool) : Type 0 where
-  pub told : LanesAndTables
-  pub read : AreLanesAndTables state asked.lanes olds news told
-  pub audited : IsAudited asked told.read.store told.read.held told.lanes prints passed
+  pub told : TextAndTables LanesSaid
+  pub read : AreTextAndTables state SaysLanes asked.lanes olds news told
+  pub audited : IsAudited asked told.read.store told.read.held told.text prints passed
 
 -- the inputs were read as lanes, if `has_lanes` is true, as tables and as files, and their audit ended with `fault`
 pub record FailsToAudit {S : Type 0} (state : S → SourceState) (has_lanes : Bool) (olds news : List S)
     (sink_failed : Bool) (fault : Fault) : Type 0 where
-  pub told : LanesAndTables
-  pub read : AreLanesAndTables state has_lanes olds news told
+  pub told : TextAndTables LanesSaid
+  pub read : AreTextAndTables state SaysLanes has_lanes olds news told
   pub why : IsOutputFault sink_failed fault
 
 -- an audit of open inputs ends with `fault`: the inputs are not read, or their audit fails
 abbrev pub IsAuditFault : {S : Type 0} → (S → SourceState) → Bool → List S → List S → Bool → Fault → Type 0
 IsAuditFault state has_lanes olds news sink_failed fault =
-    AreNoLanesAndTables state has_lanes olds news fault ⊎ FailsToAudit state has_lanes olds news sink_failed fault
+    AreNoTextAndTables state SaysLanes IsLanesFault has_lanes 0 olds news fault
+    ⊎ FailsToAudit state has_lanes olds news sink_failed fault

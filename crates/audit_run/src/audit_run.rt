@@ -26,7 +26,7 @@ use fact_store::Refused;
 use held_tables::Subnet;
 use lane_channels::{LaneNetwork, LaneOrder, lane_order};
 use lanes_file::Lanes;
-use sm_cli::{AuditAsked, Fault, LanesAndTables, read_lanes_and_tables};
+use sm_cli::{AuditAsked, Fault, TextAndTables, read_text_and_tables};
 use std::alloc::Global;
 
 /// Reads the lanes from the first input if `asked.lanes` is true, then the tables from the next input, and then the
@@ -54,7 +54,7 @@ pub fn run_audit<S: Source, W: Sink>(
         inputs.old inputs.new (W.has_failed sink.new)) }
     ensures nothing_written { OnErr result ((result ≡ Err Fault.Write) ⊎ (sink.new ≡ sink.old)) }
 {
-    let told = read_lanes_and_tables(alloc, asked.lanes, inputs)?;
+    let told = read_text_and_tables(alloc, 0, asked.lanes, inputs)?;
     answer(alloc, sink, &asked, &told)
 }
 
@@ -65,9 +65,9 @@ fn answer<W: Sink>(
     alloc: Global,
     sink: &mut W,
     asked: &AuditAsked,
-    told: &LanesAndTables,
+    told: &TextAndTables<Lanes>,
 ) -> Result<bool, Fault>
-    ensures audited { IfOk result (IsAudited asked.now told.now.read.store told.now.read.held told.now.lanes
+    ensures audited { IfOk result (IsAudited asked.now told.now.read.store told.now.read.held told.now.text
         (Appends (W.written sink.old) (W.written sink.new))) }
     ensures flushed { OnOk result (IsTrue (W.is_flushed sink.new)) }
     ensures sink_works { OnOk result (W.has_failed sink.new ≡ false) }
@@ -77,7 +77,7 @@ fn answer<W: Sink>(
     let most = most_lines(asked.all);
     let subnet = Subnet::of(alloc, &told.read.store)?;
     let audit = Audit::of(alloc, most, &subnet, &told.read.held)?;
-    let found = found_by_lane(alloc, most, &audit, &told.lanes)?;
+    let found = found_by_lane(alloc, most, &audit, &told.text)?;
     let appendix = Appendix::of(alloc, asked, audit.network())?;
     tell(alloc, sink, asked, &audit, &found, &appendix)
 }

@@ -1,5 +1,5 @@
 -- Lists are the same if a test of their items finds each two of them the same.
-use Rattle.std.proofs.Common.{◌≡◌, ◌↔◌, ◌∙◌, ◌==◌, ◌&&◌, IsTrue, Bool, ℕ, true, List, ap, subst, sym}
+use Rattle.std.proofs.Common.{◌≡◌, ◌↔◌, ◌∙◌, ◌==◌, ◌&&◌, IsTrue, Bool, true, List, ap, sym}
 use Rattle.std.specs.Cmp.Lexicographic.{pointwise, pointwise_decides, bytes_decides}
 use Rattle.std.proofs.lemmas.Bool.{and_parts, eq-eqb, eqb-true}
 use Rattle.held_tables.specs.declared.held.HeldLid.{HeldLid}

@@ -1,12 +1,7 @@
 -- The order of the last step, which decides if the held tables imply several orders.
-use Rattle.std.specs.Prelude.{ℕ, Bool, true, false, List, Option, None, Some, map}
+use Rattle.std.specs.Prelude.{ℕ, List, Option, None, Some, map}
 use Rattle.subnet_view.specs.Reading.{Cells, switches}
 use Rattle.spread_labels.specs.Orders.{position_of}
-
--- the switches of the text of an order, if there is one
-abbrev pub last_order : Bool → List ℕ → Option (List ℕ)
-last_order false named = None
-last_order true named = Some named
 
 -- the position of each usable switch, in ascending order of GUID, in a list of switches: the number of switches before
 -- it in the list, or the length of the list for a switch that the list does not have

@@ -1,7 +1,8 @@
 -- What a step from held tables towards a plan does: it reads its inputs, one after the other, and writes the tables
 -- to write next, or returns a fault.
 use Rattle.std.specs.Prelude.{◌≡◌, ◌⊎◌, ◌↔◌, ◌+◌, ◌++◌, ℕ, Bool, true, false, List, [], Option, None, Some, IsTrue}
-use Rattle.std.specs.Prelude.{if◌then◌else◌}
+use Rattle.std.specs.Prelude.{Vec, if◌then◌else◌}
+use Rattle.std.specs.declared.alloc.Global.{Global}
 use Rattle.std.specs.Io.KnownBytes.{Appends}
 use Rattle.byte_io.specs.Source.{SourceState}
 use Rattle.fact_store.specs.View.{Facts, cells_of}
@@ -24,12 +25,12 @@ use Rattle.next_run.specs.StepLoops.{IsLoopInStep}
 use Rattle.sm_cli.specs.Asked.{texts_for, texts_if}
 use Rattle.sm_cli.specs.InputReaders.{step_reader}
 use Rattle.sm_cli.specs.Inputs.{IsInputFault, Reader, WithInputs}
-use Rattle.sm_cli.specs.declared.input_orders.OrderAndTables.{OrderAndTables}
+use Rattle.sm_cli.specs.declared.input_tables.TextAndTables.{TextAndTables}
 use Rattle.sm_cli.specs.declared.fault.Fault.{Fault}
 use Rattle.sm_cli.specs.declared.fault.Fault.TheVariants.{NoRoom, Text, Write, Memory}
 use Rattle.sm_cli.specs.declared.text_fault.TextFault.TheVariants.{Moves}
 use Rattle.sm_cli.specs.declared.step_asked.StepAsked.{StepAsked}
-use Rattle.next_run.specs.LastOrder.{last_order, near_positions}
+use Rattle.next_run.specs.LastOrder.{near_positions}
 use Rattle.next_run.specs.StepOrderText.{items_of, order_of_step, step_order_text, switches_by}
 use Rattle.next_run.specs.declared.step_choice.StepChoice.{StepChoice}
 
@@ -200,7 +201,7 @@ StopsStep at lmc rule facts held sink_failed fault = ⊥
 
 -- the reader of the inputs after the text that the rule takes: the text of an order, if it is asked for, the tables and
 -- the files
-abbrev pub reader_of : {S : Type 0} → (S → SourceState) → StepAsked → Reader S OrderAndTables
+abbrev pub reader_of : {S : Type 0} → (S → SourceState) → StepAsked → Reader S (TextAndTables (Vec ℕ Global))
 reader_of state asked = step_reader state asked.has_last
 
 -- the number of texts that a step reads before the tables
@@ -209,9 +210,9 @@ texts_before asked = texts_for asked.rule + texts_if asked.has_last
 
 -- the step that is asked for, made from what the inputs say, is printed as `prints` and `says` say (`IsStep`).
 -- `passed` says whether the step can make no credit loop
-abbrev pub IsStepOf : StepAsked → RuleValue → OrderAndTables → (List ℕ → Type 0) → (List ℕ → Type 0) → Bool → Type 0
+abbrev pub IsStepOf : StepAsked → RuleValue → TextAndTables (Vec ℕ Global) → (List ℕ → Type 0) → (List ℕ → Type 0) → Bool → Type 0
 IsStepOf asked rule told prints says passed =
-    IsStep asked.lmc rule (last_order asked.has_last told.order.items) told.read.store told.read.held prints says passed
+    IsStep asked.lmc rule (items_of told.text) told.read.store told.read.held prints says passed
 
 -- the inputs were read, and the step that is asked for was made and written. The inputs are the text that the rule
 -- takes, the text of an order, if it is asked for, the tables and the files

@@ -7,7 +7,6 @@ ghost use Rattle.subnet_view.specs.Reading.{switches};
 ghost use Rattle.lft_blocks.specs.Rule.{RuleValue, value_of};
 ghost use Rattle.plan_order.specs.PlanOrder.{positions_by};
 ghost use Rattle.byte_io.specs.WritesPart.{WritesPart};
-ghost use Rattle.next_run.specs.LastOrder.{last_order};
 ghost use Rattle.next_run.specs.NextRun.{HasStepped, IsMade, IsMadeNear, IsSaid, IsStepFault, IsStepOf, StopsBy};
 ghost use Rattle.next_run.specs.NextRun.{StopsStep, choice_of, fault_of_step, goal_or, next_by_choice, texts_before};
 ghost use Rattle.next_run.specs.LoopText.{loop_text};
@@ -27,7 +26,7 @@ use next_tables::{StepFault, next_tables};
 use packet_walks::Network;
 use plan_order::plan_in_order;
 use plan_tables::held_plan;
-use sm_cli::{Fault, OrderAndTables, StepAsked, StepReader, TextFault, read_inputs, texts_if};
+use sm_cli::{Fault, StepAsked, StepReader, TextAndTables, TextFault, read_inputs, texts_if};
 use smp_bytes::Guid;
 use std::alloc::{AllocError, Global};
 use tables_file::write_next;
@@ -96,7 +95,7 @@ fn step<W: Sink, E: Sink>(
     alloc: Global,
     asked: StepAsked,
     rule: &Rule,
-    found: &OrderAndTables,
+    found: &TextAndTables<Vec<Guid>>,
     sink: &mut W,
     told: &mut E,
 ) -> Result<bool, Fault>
@@ -114,8 +113,7 @@ fn step<W: Sink, E: Sink>(
     let (plan, positions) = plan_in_order(alloc, &read.store, asked.lmc, rule)?;
     let subnet = Subnet::of(alloc, &read.store)?;
     let from = Network::of(alloc, &subnet, &read.held)?;
-    let last = last_order(alloc, asked.has_last, &found.order)?;
-    let made = match made_step(alloc, &positions, &last, &from, &plan) {
+    let made = match made_step(alloc, &positions, &found.text, &from, &plan) {
         Ok(made) => made,
         Err(fault) => return Err(fault_of_step(texts_before(asked), &fault)),
     };
@@ -123,21 +121,6 @@ fn step<W: Sink, E: Sink>(
     write_next(sink, plan.lids(), &made.next)?;
     let _ = write_loop_and_order(told, &from, &cycle, &made.order);
     Ok(cycle.is_none())
-}
-
-/// Returns `switches` if `has_last` is true, or `None`.
-fn last_order(
-    alloc: Global,
-    has_last: bool,
-    switches: &[Guid],
-) -> Result<Option<Vec<Guid>>, AllocError>
-    ensures { IfOk result (λ last. items_of last ≡ last_order has_last switches.now) }
-{
-    if has_last {
-        Ok(Some(Vec::from_slice(alloc, switches)?))
-    } else {
-        Ok(None)
-    }
 }
 
 /// Returns a shortest credit loop that mixtures of the tables of the network `from` and of the tables `next` make, with

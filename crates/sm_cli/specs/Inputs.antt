@@ -1,10 +1,13 @@
 -- The inputs of a run: the text of roots or of an order is read if the rule takes one, and then the inputs after it;
 -- the roots are checked once the switches are known.
-use Rattle.std.specs.Prelude.{◌≡◌, ◌⊎◌, ℕ, Bool, List, [], ◌∷◌, Option, None, Some, find, not, option_map}
+use Rattle.std.specs.Prelude.{◌≡◌, ◌⊎◌, ℕ, Bool, List, [], ◌∷◌, Option, None, Some, Vec, find, not, option_map}
+use Rattle.std.specs.declared.alloc.Global.{Global}
 use Rattle.byte_io.specs.Source.{SourceState}
 use Rattle.lft_blocks.specs.Rule.{RuleValue, spread_in, up_and_down}
 use Rattle.spread_routes.specs.SwitchOrder.{OrderValue, as_named, balanced_as, from_roots, least_loaded}
 use Rattle.sm_cli.specs.Asked.{texts_for}
+use Rattle.sm_cli.specs.FromText.{IsSwitchesFault, NamesSwitches}
+use Rattle.sm_cli.specs.InputTexts.{IsNoText, IsText}
 use Rattle.sm_cli.specs.Sources.{AreReadInParts, IsOneRead}
 use Rattle.sm_cli.specs.declared.asked.RuleAsked.{RuleAsked}
 use Rattle.sm_cli.specs.declared.asked.RuleAsked.TheVariants.{UpDown, Spread, SpreadFromRoots, SpreadInOrder, Balance}
@@ -13,7 +16,6 @@ use Rattle.sm_cli.specs.declared.fault.Fault.{Fault}
 use Rattle.sm_cli.specs.declared.fault.Fault.TheVariants.{Text}
 use Rattle.sm_cli.specs.declared.text_fault.TextFault.{TextFault}
 use Rattle.sm_cli.specs.declared.text_fault.TextFault.TheVariants as texts
-use Rattle.sm_cli.specs.SwitchLists.{IsSwitchList, IsSwitchListFault}
 
 -- checking --------------------------------------------------------------------------------------
 
@@ -52,13 +54,13 @@ rule_fault usable BalanceInOrder rule = None
 
 -- rules ------------------------------------------------------------------------------------------
 
--- there is one source, and its text, of roots or of an order, names `guids`; `rule` spreads in the order that `grows`
+-- there is one source, and its text, of roots or of an order, names `switches`; `rule` spreads in the order that `grows`
 -- makes of them
 pub record IsOrderRead {S : Type 0} (state : S → SourceState) (grows : List ℕ → OrderValue) (olds news : List S)
     (rule : RuleValue) : Type 0 where
-  pub guids : List ℕ
-  pub read : IsOneRead olds news (λ old new. IsSwitchList state old new guids)
-  pub is : rule ≡ spread_in (grows guids)
+  pub switches : Vec ℕ Global
+  pub read : IsOneRead olds news (λ old new. IsText state NamesSwitches old new switches)
+  pub is : rule ≡ spread_in (grows switches.items)
 
 -- `rule` is the rule that was asked for. If the rule takes a text, this text was read; otherwise no input was touched
 abbrev pub IsRuleRead : {S : Type 0} → (S → SourceState) → RuleAsked → List S → List S → RuleValue
@@ -76,12 +78,12 @@ abbrev pub IsRuleFault : {S : Type 0} → (S → SourceState) → RuleAsked → 
 IsRuleFault state UpDown olds news fault = ⊥
 IsRuleFault state Spread olds news fault = ⊥
 IsRuleFault state SpreadFromRoots olds news fault =
-    IsOneRead olds news (λ old new. IsSwitchListFault state 0 old new fault)
+    IsOneRead olds news (λ old new. IsNoText state IsSwitchesFault 0 old new fault)
 IsRuleFault state SpreadInOrder olds news fault =
-    IsOneRead olds news (λ old new. IsSwitchListFault state 0 old new fault)
+    IsOneRead olds news (λ old new. IsNoText state IsSwitchesFault 0 old new fault)
 IsRuleFault state Balance olds news fault = ⊥
 IsRuleFault state BalanceInOrder olds news fault =
-    IsOneRead olds news (λ old new. IsSwitchListFault state 0 old new fault)
+    IsOneRead olds news (λ old new. IsNoText state IsSwitchesFault 0 old new fault)
 
 -- inputs ----------------------------------------------------------------------------------------
 

@@ -2,15 +2,14 @@ pub mod Asked
 pub mod ExitStatus
 pub mod FaultLine
 pub mod Fault
+pub mod FromText
 pub mod InputFiles
-pub mod InputLanes
-pub mod InputOrders
 pub mod InputReaders
 pub mod InputTables
+pub mod InputTexts
 pub mod Inputs
 pub mod OrderText
 pub mod Run
 pub mod RunLaws
 pub mod Sources
-pub mod SwitchLists
 pub mod TextFault

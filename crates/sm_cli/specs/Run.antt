@@ -1,6 +1,6 @@
 -- A run on files: it reads its inputs, one after the other, and writes what the files say together, or returns a
 -- fault.
-use Rattle.std.specs.Prelude.{◌≡◌, ◌⊎◌, ⊤, ℕ, Bool, List, [], Option, None, Some, IsTrue}
+use Rattle.std.specs.Prelude.{◌≡◌, ◌⊎◌, ⊤, ℕ, Bool, List, Option, None, Some, IsTrue}
 use Rattle.byte_io.specs.Source.{SourceState}
 use Rattle.fact_store.specs.View.{Facts, cells_of, AreInRange}
 use Rattle.record_file.specs.FactsText.{facts_text}

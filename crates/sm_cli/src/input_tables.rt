@@ -1,17 +1,19 @@
-//! The text of tables, which is read and then checked, and the files after it.
-ghost use Rattle.std.specs.Prelude.{◌≡◌, ◌+◌, ◌≤◌, length, IfErr, IfOk};
-ghost use Rattle.sm_cli.specs.InputTables.{AreNoTables, AreNoTablesAndFiles, AreTables, AreTablesAndFiles};
-ghost use Rattle.sm_cli.specs.InputTables.{IsTables, IsTablesFault};
+//! The text of tables and the files after it, and a text that may come before both.
+ghost use Rattle.std.specs.Prelude.{◌+◌, ◌≤◌, length, IfErr, IfOk};
+ghost use Rattle.sm_cli.specs.Asked.{texts_if};
+ghost use Rattle.sm_cli.specs.InputTables.{AreNoTablesAndFiles, AreNoTextAndTables, AreTablesAndFiles};
+ghost use Rattle.sm_cli.specs.InputTables.{AreTextAndTables};
 
+use crate::asked::texts_if;
 use crate::fault::Fault;
+use crate::from_text::FromText;
 use crate::input_files::read_files;
-use crate::text_fault::TextFault;
+use crate::input_texts::{read_text, read_text_if};
 use byte_io::Source;
 use fact_store::Store;
-use record_file::read_whole;
 use smp_bytes::Generation;
 use std::alloc::Global;
-use tables_file::{Held, parse};
+use tables_file::Held;
 
 /// What a text of tables and the files after it say.
 #[derive(Drop)]
@@ -20,6 +22,40 @@ pub struct TablesAndFacts {
     pub held: Held,
     /// What the files say together.
     pub store: Store,
+}
+
+/// What a text, if there is one, a text of tables and the files after them say.
+#[derive(Drop)]
+pub struct TextAndTables<T> {
+    /// What the first text says. `None` if there is no such text.
+    pub text: Option<T>,
+    /// What the tables and the files say.
+    pub read: TablesAndFacts,
+}
+
+/// Reads a text if `has_text` is true, then the text of tables, and then the files. `before` other inputs come before
+/// `inputs`. There must be an input for each text, and at most `usize::MAX` inputs in all.
+///
+/// # Errors
+///
+/// Returns the fault of the first input that is refused. Memory that is refused counts as a fault of its input.
+pub fn read_text_and_tables<S: Source, T: FromText>(
+    alloc: Global,
+    before: usize,
+    has_text: bool,
+    inputs: &mut [S],
+) -> Result<TextAndTables<T>, Fault>
+    requires enough { texts_if has_text + 1 ≤ length inputs.old }
+    requires counted { before + length inputs.old ≤ usize.MAX }
+    ensures read { IfOk result (AreTextAndTables S.state T.says has_text inputs.old inputs.new) }
+    ensures refused { IfErr result (AreNoTextAndTables S.state T.says T.is_refused has_text before
+        inputs.old inputs.new) }
+{
+    let count = texts_if(has_text);
+    let (texts, others) = inputs.split_at_mut(count);
+    let text = read_text_if(alloc, before, has_text, texts)?;
+    let read = read_tables_and_files(alloc, before + count, others)?;
+    Ok(TextAndTables { text, read })
 }
 
 /// Reads the text of tables, the first of `inputs`, and then the files. What the files say is read at the greatest of
@@ -37,39 +73,8 @@ pub fn read_tables_and_files<S: Source>(
     ensures refused { IfErr result (AreNoTablesAndFiles S.state before inputs.old inputs.new) }
 {
     let (tables, files) = inputs.split_at_mut(1);
-    let held = read_tables(alloc, before, tables)?;
+    let held = read_text(alloc, before, tables)?;
     let floor = Generation::new(1).unwrap();
     let store = read_files(alloc, before + 1, files, floor)?;
     Ok(TablesAndFacts { held, store })
-}
-
-/// Reads the tables from the only source of `texts`, to its end. `texts` must have one source. `input` is the index of
-/// the source in the run.
-fn read_tables<S: Source>(alloc: Global, input: usize, texts: &mut [S]) -> Result<Held, Fault>
-    requires { length texts.old ≡ 1 }
-    ensures read { IfOk result (AreTables S.state texts.old texts.new) }
-    ensures refused { IfErr result
-        (AreNoTables S.state input texts.old texts.new) }
-{
-    read_text(alloc, input, &mut texts[0])
-}
-
-/// Reads the tables from `source`, to its end. `input` is its index among the inputs of the run. Returns the fault of
-/// the input if reading fails or the text is refused.
-fn read_text<S: Source>(alloc: Global, input: usize, source: &mut S) -> Result<Held, Fault>
-    ensures read { IfOk result (IsTables S.state source.old source.new) }
-    ensures refused { IfErr result
-        (IsTablesFault S.state input source.old source.new) }
-{
-    let text = match read_whole(alloc, source) {
-        Ok(text) => text,
-        Err(fault) => return Err(Fault::File { input, fault }),
-    };
-    match parse(alloc, &text) {
-        Ok(held) => Ok(held),
-        Err(fault) => Err(Fault::Text {
-            input,
-            fault: TextFault::Tables(fault),
-        }),
-    }
 }

@@ -3,17 +3,15 @@ ghost use Rattle.std.specs.Prelude.{◌≡◌, ◌+◌, ◌-◌, ◌≤◌, ℕ,
 ghost use Rattle.lft_blocks.specs.Rule.{value_of};
 ghost use Rattle.sm_cli.specs.Asked.{texts_for};
 ghost use Rattle.sm_cli.specs.Inputs.{AreInputs, IsInputFault, IsRuleFault, IsRuleRead};
-ghost use Rattle.sm_cli.specs.SwitchLists.{IsSwitchList, IsSwitchListFault};
 ghost use Rattle.sm_cli.specs.Inputs.{fault_of_first, first_unusable, order_fault, rule_fault};
 ghost use Rattle.spread_routes.specs.SwitchOrder.{order_value_of};
 
 use crate::asked::RuleAsked;
 use crate::fault::Fault;
+use crate::input_texts::read_text;
 use crate::text_fault::TextFault;
 use byte_io::Source;
 use lft_blocks::{Rule, SwitchOrder};
-use record_file::read_whole;
-use roots_file::parse;
 use smp_bytes::Guid;
 use std::alloc::Global;
 
@@ -94,47 +92,23 @@ fn read_rule<S: Source>(alloc: Global, asked: RuleAsked, texts: &mut [S]) -> Res
             order: SwitchOrder::LeastLoaded,
         }),
         RuleAsked::SpreadFromRoots => {
-            let roots = read_switches(alloc, 0, &mut texts[0])?;
+            let roots = read_text(alloc, 0, texts)?;
             Ok(Rule::Spread {
                 order: SwitchOrder::FromRoots { roots },
             })
         }
         RuleAsked::SpreadInOrder => {
-            let switches = read_switches(alloc, 0, &mut texts[0])?;
+            let switches = read_text(alloc, 0, texts)?;
             Ok(Rule::Spread {
                 order: SwitchOrder::AsNamed { switches },
             })
         }
         RuleAsked::BalanceInOrder => {
-            let switches = read_switches(alloc, 0, &mut texts[0])?;
+            let switches = read_text(alloc, 0, texts)?;
             Ok(Rule::Spread {
                 order: SwitchOrder::BalancedAs { switches },
             })
         }
-    }
-}
-
-/// Reads a text of roots, or of the switches of an order, to its end. `input` is the index of the text in the run.
-pub(crate) fn read_switches<S: Source>(
-    alloc: Global,
-    input: usize,
-    source: &mut S,
-) -> Result<Vec<Guid>, Fault>
-    ensures read { IfOk result (λ found.
-        IsSwitchList S.state source.old source.new found.items) }
-    ensures refused { IfErr result
-        (IsSwitchListFault S.state input source.old source.new) }
-{
-    let text = match read_whole(alloc, source) {
-        Ok(text) => text,
-        Err(fault) => return Err(Fault::File { input, fault }),
-    };
-    match parse(alloc, &text) {
-        Ok(switches) => Ok(switches),
-        Err(fault) => Err(Fault::Text {
-            input,
-            fault: TextFault::Roots(fault),
-        }),
     }
 }
 

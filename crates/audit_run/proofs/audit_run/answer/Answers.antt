@@ -34,11 +34,11 @@ returns-clause-audited g c =
     let written = g.W.Sink.written in
     let same : ◌≡◌ {A = Audited} audit (record { most = most_lines asked.all; facts = facts; held = held; cycle = audit.cycle }) =
     λ i. record { most = (audit_is.most ∙ c.most_lines-most.ensures) i; facts = (audit_is.facts ∙ subnet_is) i; held = audit_is.held i; cycle = audit.cycle } in
-    let right : AreFoundByLane (most_lines asked.all) facts held told.lanes found =
-    subst (λ (x : Audited). AreFoundByLane x.most x.facts x.held told.lanes found) same
-    (subst (λ (most : ℕ). AreFoundByLane most audit.facts audit.held told.lanes found) (sym audit_is.most) c.in_ok-found.ensures) in
+    let right : AreFoundByLane (most_lines asked.all) facts held told.text found =
+    subst (λ (x : Audited). AreFoundByLane x.most x.facts x.held told.text found) same
+    (subst (λ (most : ℕ). AreFoundByLane most audit.facts audit.held told.text found) (sym audit_is.most) c.in_ok-found.ensures) in
     let are = λ (flaws : List Flaw) (found_flaws : AreFlaws (IsFoundFree asked.max_load audit.facts audit.held found) flaws).
-    flaws_are asked.max_load (most_lines asked.all) facts held told.lanes found flaws right
+    flaws_are asked.max_load (most_lines asked.all) facts held told.text found flaws right
     (subst (λ (x : Audited). AreFlaws (IsFoundFree asked.max_load x.facts x.held found) flaws) same found_flaws) in
     IfOk-weaker c.tell.result _ _ (λ passed says. record {
       cycle = audit.cycle;
@@ -52,5 +52,5 @@ returns-clause-audited g c =
       answered = subst (λ (x : Audited). Appends (written c.args.sink.now) (written c.tell.new.sink)
           (findings_text x.most (cells_of x.facts) x.held ++ loops_text (cells_of x.facts) x.cycle found
           ++ appendix_text asked (cells_of x.facts) x.held ++ verdict_line says.flaws)) same says.printed;
-      judged = judged asked.max_load facts held told.lanes says.flaws passed (are says.flaws says.are) says.flawless;
+      judged = judged asked.max_load facts held told.text says.flaws passed (are says.flaws says.are) says.flawless;
     }) c.tell.ensures.told

@@ -1,5 +1,5 @@
 -- The step nearest to the last order counts, unless it goes by an order and changes nothing.
-use Rattle.std.proofs.Common.{◌≡◌, ◌∙◌, ℕ, Bool, true, false, List, Option, Some, None, ap, refl, subst, sym}
+use Rattle.std.proofs.Common.{◌≡◌, ◌∙◌, true, None, subst, sym}
 use Rattle.std.specs.Option.{is_some}
 use Rattle.std.proofs.lemmas.Result.{IfOk-weaker}
 use Rattle.held_tables.specs.Held.{HeldPlan}
@@ -7,7 +7,7 @@ use Rattle.plan_tables.specs.PlanTables.{held_plan}
 use Rattle.std.specs.Prelude.{IfErr, OnOk}
 use Rattle.next_tables.specs.NextTables.{first_moved}
 use Rattle.sm_cli.proofs.HandedOn.{handed_on}
-use Rattle.next_run.specs.NextRun.{IsMade, IsMadeNear, StopsBy}
+use Rattle.next_run.specs.NextRun.{IsMadeNear, StopsBy}
 use Rattle.next_run.specs.StepOrderText.{items_of}
 use Rattle.next_run.proofs.GoalLids.{made_again, made_first, some_items}
 use Rattle.next_run.proofs.next_run.made_step.Goals as goal

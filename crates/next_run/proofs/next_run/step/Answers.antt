@@ -1,5 +1,5 @@
 -- All was made of the same facts and tables.
-use Rattle.std.proofs.Common.{◌≡◌, ◌∙◌, ℕ, List, Option, ap, refl, subst, sym}
+use Rattle.std.proofs.Common.{◌≡◌, ◌∙◌, ℕ, ap, refl, subst, sym}
 use Rattle.std.specs.Io.KnownBytes.{Appends}
 use Rattle.fact_store.specs.View.{Facts, cells_of}
 use Rattle.lid_assign.specs.Lids.{Given}
@@ -12,7 +12,6 @@ use Rattle.sm_cli.proofs.HandedOn.{handed_on}
 use Rattle.sm_cli.proofs.Plans.{has_room}
 use Rattle.tables_file.specs.PrintedTables.{next_text}
 use Rattle.next_tables.specs.NextTables.{first_moved}
-use Rattle.next_run.specs.LastOrder.{last_order}
 use Rattle.next_run.specs.NextRun.{IsMade, IsSaid, StopsStep, fault_of_step, texts_before}
 use Rattle.next_run.specs.StepOrderText.{items_of}
 use Rattle.next_run.specs.StepLoops.{IsLoopInStep}
@@ -26,15 +25,14 @@ returns-clause-done g c =
     let found = c.args.found.now in
     let store = found.read.store in
     let made = c.in-Ok.made in
-    let last = last_order asked.has_last found.order.items in
+    let last = items_of found.text in
     let Printed : Given → Type 0 = λ given. Appends (g.W.Sink.written c.args.sink.now) (g.W.Sink.written c.write_next.new.sink)
     (next_text given made.next) in
     let facts_is = c.in_ok-from.ensures.facts ∙ c.in_ok-subnet.ensures in
-    let positions_are = c.deref-2.ensures.value ∙ c.in_ok-plan.ensures.positions ∙ ap (λ (x : Facts). positions_by rule (cells_of x)) (sym facts_is) in
-    let Made : Option (List ℕ) × Facts → Type 0 =
-    λ x. IsMade rule x.0 x.1 c.in_ok-from.from.held (held_plan c.in_ok-plan.plan) made.next (items_of made.order) in
-    let last_is = c.in_ok-last.ensures ∙ ap (last_order asked.has_last) c.deref.ensures.value in
-    let is_made = subst Made (λ i. (last_is i, facts_is i)) (c.in-Ok.ensures.made rule positions_are) in
+    let positions_are = c.deref.ensures.value ∙ c.in_ok-plan.ensures.positions ∙ ap (λ (x : Facts). positions_by rule (cells_of x)) (sym facts_is) in
+    let Made : Facts → Type 0 =
+    λ x. IsMade rule last x c.in_ok-from.from.held (held_plan c.in_ok-plan.plan) made.next (items_of made.order) in
+    let is_made = subst Made facts_is (c.in-Ok.ensures.made rule positions_are) in
     let cycle = c.in_ok-cycle.cycle in
     let Found : Facts → Type 0 = λ x. IsLoopInStep (cells_of x) c.in_ok-from.from.held made.next cycle.channels.items cycle.lids.items in
     step_is asked.lmc rule last
@@ -54,22 +52,13 @@ returns-in-Err-clause-refused g c =
     let read = c.args.found.now.read in
     let fault = c.in-Err.fault in
     let facts_is = c.in_ok-from.ensures.facts ∙ c.in_ok-subnet.ensures in
-    let positions_are = c.deref-2.ensures.value ∙ c.in_ok-plan.ensures.positions ∙ ap (λ (x : Facts). positions_by rule (cells_of x)) (sym facts_is) in
+    let positions_are = c.deref.ensures.value ∙ c.in_ok-plan.ensures.positions ∙ ap (λ (x : Facts). positions_by rule (cells_of x)) (sym facts_is) in
     let moved : first_moved c.in_ok-from.from.held (held_plan c.in_ok-plan.plan) ≡ first_moved read.held (planned c.args.asked.lmc rule read.store) =
     λ i. first_moved (c.in_ok-from.ensures.held i) (held_plan (c.in_ok-plan.ensures.plan i)) in
     let is_fault = c.fault_of_step.ensures ∙ ap (λ (at : ℕ). fault_of_step at fault) c.texts_before.ensures in
     subst (StopsStep (texts_before c.args.asked) c.args.asked.lmc rule read.store read.held (g.W.Sink.has_failed c.args.sink.now)) (sym is_fault)
     (stops_by c.args.asked.lmc rule read.store read.held (g.W.Sink.has_failed c.args.sink.now) (texts_before c.args.asked)
     (first_moved c.in_ok-from.from.held (held_plan c.in_ok-plan.plan)) fault c.in_ok-plan.ensures.judged moved (c.in-Err.ensures.refused rule positions_are))
-
-pub returns-in_err-last-clause-refused : goal.returns-in_err-last-clause-refused
-returns-in_err-last-clause-refused g c =
-    let rule = value_of c.args.rule.now in
-    let read = c.args.found.now.read in
-    let asked = c.args.asked in
-    let Stops : Fault → Type 0 = StopsStep (texts_before asked) asked.lmc rule read.store read.held (g.W.Sink.has_failed c.args.sink.now) in
-    handed_on c.from_residual-in_err-last.result Memory Stops c.from_residual-in_err-last.ensures.1
-    (has_room asked.lmc read.store c.in_ok-plan.ensures.judged)
 
 pub returns-in_err-cycle-clause-refused : goal.returns-in_err-cycle-clause-refused
 returns-in_err-cycle-clause-refused g c =

@@ -1,15 +1,15 @@
 -- The text is refused.
-use Rattle.std.proofs.Common.{◌≡◌, ℕ, List, None, Some, Result, Ok, Err, ap, refl, subst}
+use Rattle.std.proofs.Common.{◌≡◌, ℕ, List, None, Some, Result, Ok, Err, ap, refl}
 use Rattle.std.specs.Prelude.{option_map, if◌then◌else◌}
 use Rattle.std.specs.Result.{result_err}
-use Rattle.record_file.specs.Whole.{IsReadWhole}
 use Rattle.roots_file.specs.Reading.{roots_of}
 use Rattle.roots_file.specs.RootsTextFault.{RootsLineFault}
 use Rattle.roots_file.specs.RootsTextFault.{RootsTextFault as RootsFault}
 use Rattle.text_words.specs.LinesFault.{is_memory}
 use Rattle.text_words.specs.declared.lines_fault.LinesFault.TheVariants as wrong
-use Rattle.sm_cli.specs.SwitchLists.{IsFaultOfText}
-use Rattle.sm_cli.proofs.inputs.read_switches.Goals as goal
+use Rattle.sm_cli.specs.declared.text_fault.TextFault.TheVariants as texts
+use Rattle.sm_cli.specs.FromText.{IsSwitchesFault}
+use Rattle.sm_cli.proofs.from_text.VecGuidFromText.parse.Goals as goal
 
 -- a text's first fault, or lack of memory if it has none
 faulty : (told : Result (List ℕ) RootsLineFault) (fault : RootsLineFault) → option_map wrong.Line (result_err told) ≡ Some (wrong.Line fault) → told ≡ Err fault
@@ -21,19 +21,9 @@ sound (Ok roots) e = (roots, refl)
 sound (Err fault) e = absurd (cc)
 
 text_refused : (text : List ℕ) (fault : RootsFault) → option_map wrong.Line (result_err (roots_of text)) ≡ (if is_memory fault then None else Some fault)
-    → IsFaultOfText text fault
+    → IsSwitchesFault text (texts.Roots fault)
 text_refused text (wrong.Line fault) e = faulty (roots_of text) fault e
 text_refused text wrong.Memory e = sound (roots_of text) e
 
-pub returns-clause-refused : goal.returns-clause-refused
-returns-clause-refused g c =
-    let value = c.deref.ensures.value in
-    let same : c.in-Ok.text.items ≡ c.deref.result.now = cc in
-    let Whole : List ℕ → Type 0 = λ text. IsReadWhole g.S.Source.state c.args.source.now c.read_whole.new.source text in (
-      refl,
-      record {
-        text = c.deref.result.now;
-        read = subst Whole same c.in-Ok.ensures.whole;
-        refused = text_refused c.deref.result.now c.in-Err-parse.fault c.in-Err-parse.ensures.judged;
-      },
-    )
+pub returns-in-Err-clause-refused : goal.returns-in-Err-clause-refused
+returns-in-Err-clause-refused c = text_refused c.args.text.now c.in-Err.fault c.in-Err.ensures.judged
