@@ -49,7 +49,7 @@ COUNTED = {
         "packet_walks::lid_cursor::LidCursor::switch_steps", "held_order::told::told_order",
         "two_orders::growth::grown_by", "two_orders::labels::label_each",
     ),
-    "run by traps": ("schedule_world::world::World::deliver", "sm_manager::manager::Manager::on_packet"),
+    "run by traps": ("schedule_run::world::World::deliver", "sm_manager::manager::Manager::on_packet"),
     "serve by adapters": (
         "sweep::sweep::Sweep::accept", "sm_manager::manager::Manager::on_packet", "plan_steps::carried::port_read",
         "subnet_view::wire_lookup::wire",

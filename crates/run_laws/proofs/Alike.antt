@@ -19,9 +19,9 @@ use Rattle.record_file.specs.FactsText.{facts_text}
 use Rattle.lft_blocks.specs.Planning.{Planning}
 use Rattle.sm_manager.specs.PlanFaults.{plan_fault}
 use Rattle.schedule_lines.specs.ManagerAsks.{plan_or_refusal}
-use Rattle.schedule_world.specs.Commands.{after_command, after_commands, shown_of, world_of}
-use Rattle.schedule_world.specs.RunText.{script_text}
-use Rattle.schedule_world.specs.World.{SeatedValue, WorldValue}
+use Rattle.schedule_run.specs.Commands.{after_command, after_commands, shown_of, world_of}
+use Rattle.schedule_run.specs.RunText.{script_text}
+use Rattle.schedule_run.specs.World.{SeatedValue, WorldValue}
 use Rattle.run_laws.specs.Accounts.{Account, Accounts, account_after, joined, opened, told_by_command, told_by_commands, with_more, world_after}
 use Rattle.run_laws.specs.Lines.{LaterLinesComeBehind, MergedManagersPlanAlike, PrintsPlansAlike, SameTakenInPlansAlike, SameTakenInSameLines}
 use Rattle.run_laws.specs.Lines.{TellTheSame, and_lines}

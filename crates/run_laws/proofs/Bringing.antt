@@ -20,8 +20,8 @@ use Rattle.manager_laws.specs.Sets.{IsOwnSet, OwnSets}
 use Rattle.manager_laws.specs.Written.{AllKeep, plan_at}
 use Rattle.manager_laws.proofs.Generations.{nothing_found, nothing_newest}
 use Rattle.manager_laws.proofs.Rests.{new_managers_rest}
-use Rattle.schedule_world.specs.Commands.{after_ask_line, after_command, after_commands}
-use Rattle.schedule_world.specs.World.{SeatedValue, WorldValue, after_manager_call, after_send}
+use Rattle.schedule_run.specs.Commands.{after_ask_line, after_command, after_commands}
+use Rattle.schedule_run.specs.World.{SeatedValue, WorldValue, after_manager_call, after_send}
 use Rattle.run_laws.specs.OneManager.{BringsUpAlone, IsOnly, KeepsLines, RunsOfOneAreReached, at_end, at_first_steps, at_writing}
 use Rattle.run_laws.specs.Reached.{EachPingSaysReached}
 use Rattle.run_laws.proofs.Lived.{Lives, as_world, commands_live, goes_on, managing_of, seated_as, sends_live}

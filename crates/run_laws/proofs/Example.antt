@@ -33,8 +33,8 @@ use Rattle.manager_laws.proofs.Computed.{sweep_in, told_by_agents}
 use Rattle.manager_laws.proofs.NewManagers.{HasSwept, by_known, cells_by, may_begin, may_write, phases_so, phases_then, sweep_is, sweeper}
 use Rattle.manager_laws.proofs.ExampleFabric.{distinct_by, is_alone, nodes, port, with_own_seat}
 use Rattle.manager_laws.proofs.Generations.{nothing_newest}
-use Rattle.schedule_world.specs.Commands.{after_ask_line, after_commands, after_hand_up, after_packet_line, after_step, after_take_and_send}
-use Rattle.schedule_world.specs.World.{SeatedValue, WorldValue, after_manager_call, after_send}
+use Rattle.schedule_run.specs.Commands.{after_ask_line, after_commands, after_hand_up, after_packet_line, after_step, after_take_and_send}
+use Rattle.schedule_run.specs.World.{SeatedValue, WorldValue, after_manager_call, after_send}
 use Rattle.run_laws.specs.OneManager.{BringsUpAlone, KeepsLines, KeepsStep, KeepsSteps, SomeRunOfOne, after_first, at_end, at_first_steps, at_writing, first_serial}
 use Rattle.run_laws.proofs.WrittenLines.{written_lines_tell}
 use Rattle.sm_state.specs.declared.conduct.Conduct.TheVariants.{Plain}

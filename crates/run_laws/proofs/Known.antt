@@ -37,15 +37,15 @@ use Rattle.sm_manager.specs.PlanFaults.{writing_fault}
 use Rattle.sm_manager.specs.Writing.{after_write_steps}
 use Rattle.sm_manager.proofs.Refusals.{packet_leaves}
 use Rattle.sm_manager.proofs.Lives.{Keeps, handing_keeps, planning_stays, polling_keeps, takes_call, timeout_keeps}
-use Rattle.schedule_world.specs.Commands.{after_arrival, after_ask_line, after_change, after_command, after_commands, after_cut_line, after_drain_line}
-use Rattle.schedule_world.specs.Commands.{after_parting, after_resend, after_resends, after_tell, after_tell_ends, after_traps_line, heard_text}
-use Rattle.schedule_world.specs.Commands.{after_fate, after_floor_line, after_give_up, after_giving_up, after_hand_up, after_manager_line, after_merge_line}
-use Rattle.schedule_world.specs.Commands.{after_packet_line, after_plug_line, after_step, after_take, after_take_and_send, after_timeout_line}
-use Rattle.schedule_world.specs.Commands.{seat_at, world_of}
-use Rattle.schedule_world.specs.NamedPackets.{serial_of}
+use Rattle.schedule_run.specs.Commands.{after_arrival, after_ask_line, after_change, after_command, after_commands, after_cut_line, after_drain_line}
+use Rattle.schedule_run.specs.Commands.{after_parting, after_resend, after_resends, after_tell, after_tell_ends, after_traps_line, heard_text}
+use Rattle.schedule_run.specs.Commands.{after_fate, after_floor_line, after_give_up, after_giving_up, after_hand_up, after_manager_line, after_merge_line}
+use Rattle.schedule_run.specs.Commands.{after_packet_line, after_plug_line, after_step, after_take, after_take_and_send, after_timeout_line}
+use Rattle.schedule_run.specs.Commands.{seat_at, world_of}
+use Rattle.schedule_run.specs.NamedPackets.{serial_of}
 use Rattle.schedule_lines.specs.Refusals.{refusal_line}
 use Rattle.schedule_lines.specs.Outcome.{Outcome, and_then, quiet, shows}
-use Rattle.schedule_world.specs.World.{SeatedValue, WorldValue, after_ask, at_seat, after_manager_call, after_fabric_call, after_send, after_send_by, with_manager}
+use Rattle.schedule_run.specs.World.{SeatedValue, WorldValue, after_ask, at_seat, after_manager_call, after_fabric_call, after_send, after_send_by, with_manager}
 use Rattle.run_laws.specs.Accounts.{Account, Accounts, RunsAreAccountedFor, account_after, world_after, opened, told_at, told_by_command}
 use Rattle.run_laws.specs.Accounts.{told_by_commands, told_by_deliver, told_by_delivery, told_by_drain, told_by_merge, told_by_packet, told_by_step}
 use Rattle.run_laws.specs.Accounts.{with_more}

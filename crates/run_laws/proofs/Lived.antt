@@ -36,13 +36,13 @@ use Rattle.manager_laws.specs.WritingPings.{AreNoSweeps, BeginsNoSweep}
 use Rattle.manager_laws.specs.Sets.{OwnSets}
 use Rattle.manager_laws.specs.Written.{AllKeep, Keeps}
 use Rattle.manager_laws.proofs.RunParts.{alone_behind, events_behind, keep_behind}
-use Rattle.schedule_world.specs.Commands.{after_arrival, after_ask_line, after_command, after_commands, after_drain_line, after_fate, after_give_up}
-use Rattle.schedule_world.specs.Commands.{after_giving_up, after_hand_up, after_packet_line, after_step, after_take_and_send, after_timeout_line, heard_text}
-use Rattle.schedule_world.specs.Commands.{seat_at}
-use Rattle.schedule_world.specs.NamedPackets.{packet_out, serial_of}
+use Rattle.schedule_run.specs.Commands.{after_arrival, after_ask_line, after_command, after_commands, after_drain_line, after_fate, after_give_up}
+use Rattle.schedule_run.specs.Commands.{after_giving_up, after_hand_up, after_packet_line, after_step, after_take_and_send, after_timeout_line, heard_text}
+use Rattle.schedule_run.specs.Commands.{seat_at}
+use Rattle.schedule_run.specs.NamedPackets.{packet_out, serial_of}
 use Rattle.schedule_lines.specs.Refusals.{refusal_line}
 use Rattle.schedule_lines.specs.Outcome.{and_then, quiet, shows}
-use Rattle.schedule_world.specs.World.{SeatedValue, WorldValue, after_ask, after_manager_call, after_send, after_inject_all}
+use Rattle.schedule_run.specs.World.{SeatedValue, WorldValue, after_ask, after_manager_call, after_send, after_inject_all}
 use Rattle.run_laws.specs.OneManager.{AreLines, IsLine, KeepsLine, KeepsLines, KeepsStep, KeepsSteps}
 
 abbrev pub managing_of : Scene → NodePort → Manager → List Outgoing → Managing

@@ -10,9 +10,9 @@ use Rattle.manager_laws.specs.Pings.{EachPingArrives}
 use Rattle.manager_laws.proofs.PlannedPings.{pings_arrive}
 use Rattle.manager_laws.specs.Written.{at_writing, plan_at}
 use Rattle.manager_laws.proofs.Arrive as arrive
-use Rattle.schedule_world.specs.Commands.{ping_shown, ping_text}
+use Rattle.schedule_run.specs.Commands.{ping_shown, ping_text}
 use Rattle.schedule_lines.specs.Lines.{ping_line}
-use Rattle.schedule_world.specs.World.{WorldValue}
+use Rattle.schedule_run.specs.World.{WorldValue}
 use Rattle.run_laws.specs.Reached.{EachPingSaysReached, HeldPlansAreReached, WrittenPlansAreReached}
 
 -- a ping that arrives is shown as reached

@@ -5,7 +5,7 @@ use Rattle.std.specs.Prelude.{Option, Some, None}
 use Rattle.std.specs.Io.KnownBytes.{Appends, Consumes, IsAtEnd}
 use Rattle.byte_io.specs.Source.{SourceState}
 use Rattle.lft_blocks.specs.Planning.{Planning}
-use Rattle.schedule_world.specs.RunText.{run_text}
+use Rattle.schedule_run.specs.RunText.{run_text}
 use Rattle.run_laws.specs.Repeats.{TextsDecideOutput}
 
 -- what was taken to the end is all that there was

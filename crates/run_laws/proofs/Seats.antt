@@ -13,9 +13,9 @@ use Rattle.lft_blocks.specs.Planning.{Planning}
 use Rattle.sm_manager.specs.Manager.{Manager}
 use Rattle.sm_manager.specs.declared.fault.ManagerFault.{ManagerFault}
 use Rattle.sm_manager.proofs.Lives.{Keeps}
-use Rattle.schedule_world.specs.Commands.{new_seated}
+use Rattle.schedule_run.specs.Commands.{new_seated}
 use Rattle.schedule_lines.specs.Outcome.{Outcome, quiet}
-use Rattle.schedule_world.specs.World.{SeatedValue, WorldValue, at_seat, after_manager_call, with_manager}
+use Rattle.schedule_run.specs.World.{SeatedValue, WorldValue, at_seat, after_manager_call, with_manager}
 use Rattle.run_laws.specs.Accounts.{Account, Accounts, joined, opened, with_more}
 
 -- lists --------------------------------------------------------------------------------------------

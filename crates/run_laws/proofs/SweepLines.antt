@@ -11,8 +11,8 @@ use Rattle.sm_manager.specs.declared.progress.Progress.TheVariants.{Done, Runnin
 use Rattle.sm_manager.specs.Manager.{progress_of, silent_in}
 use Rattle.manager_laws.specs.Complete.{IsWhole}
 use Rattle.schedule_lines.specs.Lines.{counts_text, progress_line, silent_line, stage_text}
-use Rattle.schedule_world.specs.Commands.{shown_at, shown_of}
-use Rattle.schedule_world.specs.World.{SeatedValue, WorldValue}
+use Rattle.schedule_run.specs.Commands.{shown_at, shown_of}
+use Rattle.schedule_run.specs.World.{SeatedValue, WorldValue}
 use Rattle.run_laws.specs.Lines.{SweepLinesTell}
 
 -- the lines of a manager in its seat

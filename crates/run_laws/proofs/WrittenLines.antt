@@ -5,8 +5,8 @@ use Rattle.std.specs.Option.{option_map_or}
 use Rattle.schedule_file.specs.declared.command.Shown.TheVariants.{Written}
 use Rattle.sm_manager.specs.Writing.{is_written}
 use Rattle.schedule_lines.specs.Lines.{answer_word, end_word, written_line}
-use Rattle.schedule_world.specs.Commands.{shown_at, shown_of}
-use Rattle.schedule_world.specs.World.{SeatedValue, WorldValue}
+use Rattle.schedule_run.specs.Commands.{shown_at, shown_of}
+use Rattle.schedule_run.specs.World.{SeatedValue, WorldValue}
 use Rattle.run_laws.specs.Lines.{WrittenLinesTell}
 
 -- the line of a manager in its seat

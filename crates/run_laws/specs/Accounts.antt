@@ -20,9 +20,9 @@ use Rattle.fact_store.specs.View.{view_at}
 use Rattle.lft_blocks.specs.Planning.{Planning}
 use Rattle.sm_manager.specs.CallLists as calls
 use Rattle.sm_manager.specs.CallLists.{sightings_of_call}
-use Rattle.schedule_world.specs.Commands.{after_command, after_commands, seat_at, after_step, world_of}
-use Rattle.schedule_world.specs.NamedPackets.{serial_of}
-use Rattle.schedule_world.specs.World.{SeatedValue, WorldValue, after_fabric_call}
+use Rattle.schedule_run.specs.Commands.{after_command, after_commands, seat_at, after_step, world_of}
+use Rattle.schedule_run.specs.NamedPackets.{serial_of}
+use Rattle.schedule_run.specs.World.{SeatedValue, WorldValue, after_fabric_call}
 
 -- the account of a manager: the sightings that it took in, and the greatest floor that it was given, or 1
 pub record Account : Type 0 where

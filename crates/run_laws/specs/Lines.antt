@@ -12,9 +12,9 @@ use Rattle.sm_manager.specs.declared.progress.Progress.TheVariants.{Done}
 use Rattle.sm_manager.specs.Writing.{is_written}
 use Rattle.manager_laws.specs.Complete.{IsWhole}
 use Rattle.schedule_lines.specs.Lines.{progress_line, silent_line, written_line}
-use Rattle.schedule_world.specs.Commands.{after_commands, shown_of}
-use Rattle.schedule_world.specs.RunText.{script_text}
-use Rattle.schedule_world.specs.World.{SeatedValue, WorldValue}
+use Rattle.schedule_run.specs.Commands.{after_commands, shown_of}
+use Rattle.schedule_run.specs.RunText.{script_text}
+use Rattle.schedule_run.specs.World.{SeatedValue, WorldValue}
 use Rattle.run_laws.specs.Accounts.{account_after, world_after}
 
 -- the schedule `script` with `lines` after it

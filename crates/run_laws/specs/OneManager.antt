@@ -21,9 +21,9 @@ use Rattle.manager_laws.specs.Truth.{AreGuidsDistinct}
 use Rattle.manager_laws.specs.Complete.{IsWhole}
 use Rattle.manager_laws.specs.Sets.{IsOwnSet, KeepsPlan, OwnSets}
 use Rattle.schedule_lines.specs.Lines.{written_line}
-use Rattle.schedule_world.specs.Commands.{after_command, after_commands, after_step, shown_of}
-use Rattle.schedule_world.specs.NamedPackets.{serial_of}
-use Rattle.schedule_world.specs.World.{SeatedValue, WorldValue}
+use Rattle.schedule_run.specs.Commands.{after_command, after_commands, after_step, shown_of}
+use Rattle.schedule_run.specs.NamedPackets.{serial_of}
+use Rattle.schedule_run.specs.World.{SeatedValue, WorldValue}
 use Rattle.run_laws.specs.Reached.{EachPingSaysReached}
 
 -- the line begins no sweep and no writing, moves no cable, sends no trap, seats no manager, and gives no manager facts

@@ -16,9 +16,9 @@ use Rattle.lft_blocks.specs.InForce.{HoldsPlan}
 use Rattle.manager_laws.specs.Managing.{Managing, ManagerEvent}
 use Rattle.manager_laws.specs.WritingPings.{BringsUp}
 use Rattle.manager_laws.specs.Written.{at_end, at_writing, plan_at}
-use Rattle.schedule_world.specs.Commands.{ping_shown}
+use Rattle.schedule_run.specs.Commands.{ping_shown}
 use Rattle.schedule_lines.specs.Lines.{ping_line}
-use Rattle.schedule_world.specs.World.{WorldValue}
+use Rattle.schedule_run.specs.World.{WorldValue}
 
 -- the line `ping` from `source` for `lid` prints that the packet reaches the port `owner`, along some number of wires
 pub record SaysReached (nodes : List Node) (w : WorldValue) (source : NodePort) (lid : ℕ) (owner : EndPort) : Type 0

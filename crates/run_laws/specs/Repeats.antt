@@ -3,7 +3,7 @@ use Rattle.std.specs.Prelude.{◌≡◌, ℕ, List, Option, Some}
 use Rattle.std.specs.Io.KnownBytes.{Appends}
 use Rattle.byte_io.specs.Source.{SourceState}
 use Rattle.sm_cli.specs.declared.asked.RuleAsked.{RuleAsked}
-use Rattle.schedule_world.specs.RunText.{run_text}
+use Rattle.schedule_run.specs.RunText.{run_text}
 use Rattle.schedule_run.specs.Run.{HasRun, schedule_source, topology_source}
 
 -- a run that ends well has written exactly `run_text` of the texts that its sources of topology and schedule held when

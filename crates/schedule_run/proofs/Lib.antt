@@ -1,3 +1,10 @@
+pub mod Doing
 pub mod Judging
+pub mod Merging
+pub mod Ports
 pub mod Running
+pub mod Seating
+pub mod Seats
+pub mod Sending
+pub mod Turns
 pub mod TwoTexts

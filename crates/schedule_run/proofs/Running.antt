@@ -6,7 +6,7 @@ use Rattle.lft_blocks.specs.Planning.{Planning}
 use Rattle.lft_blocks.specs.Rule.{RuleValue}
 use Rattle.sm_cli.specs.Inputs.{AreInputs}
 use Rattle.sm_cli.specs.declared.asked.RuleAsked.{RuleAsked}
-use Rattle.schedule_world.specs.RunText.{run_text, schedule_text, script_text, topology_text}
+use Rattle.schedule_run.specs.RunText.{run_text, schedule_text, script_text, topology_text}
 use Rattle.schedule_lines.specs.Prints.{Prints, PrintsSome, PrintsUnless}
 use Rattle.schedule_run.specs.Run.{HasRun, IsRunFault, StopsEarly, Tells, fault_of_run, texts_reader}
 use Rattle.schedule_run.specs.declared.texts.Setting.{Setting}

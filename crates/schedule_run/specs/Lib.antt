@@ -1,1 +1,5 @@
+pub mod Commands
+pub mod NamedPackets
 pub mod Run
+pub mod RunText
+pub mod World

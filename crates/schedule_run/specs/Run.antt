@@ -24,7 +24,7 @@ use Rattle.sm_cli.specs.declared.fault.Fault.{Fault}
 use Rattle.sm_cli.specs.declared.fault.Fault.TheVariants.{File, Text, Write, Memory}
 use Rattle.sm_cli.specs.declared.text_fault.TextFault.TheVariants.{NotUtf8, Topology, Schedule}
 use Rattle.schedule_run.specs.declared.texts.Setting.{Setting}
-use Rattle.schedule_world.specs.RunText.{run_text}
+use Rattle.schedule_run.specs.RunText.{run_text}
 use Rattle.schedule_lines.specs.declared.run_fault.RunFault.{RunFault}
 use Rattle.schedule_lines.specs.declared.run_fault.RunFault.TheVariants as runs
 

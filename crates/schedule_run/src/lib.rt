@@ -1,7 +1,15 @@
-//! The run of a schedule in the fabric of a topology: both texts are read and judged, and then the commands are run.
+//! The run of a schedule in the fabric of a topology: both texts are read and judged, and then the commands are run, by
+//! managers that sit in the fabric.
 #![tactic(auto)]
 
+mod ask;
+mod cables;
+mod commands;
+mod delivery;
+mod merge;
 mod run;
+mod show;
 mod texts;
+mod world;
 
 pub use run::run_schedule;

@@ -5,12 +5,12 @@ ghost use Rattle.sm_cli.specs.Asked.{texts_for};
 ghost use Rattle.schedule_run.specs.Run.{HasRun, IsRunFault, fault_of_run};
 ghost use Rattle.schedule_lines.specs.Prints.{PrintsSome};
 
+use crate::commands::run_commands;
 use crate::texts::TopologyAndSchedule;
 use attr_codec::Lmc;
 use byte_io::{Sink, Source};
 use lft_blocks::Planning;
 use schedule_lines::RunFault;
-use schedule_world::run_commands;
 use sm_cli::{Fault, RuleAsked, read_inputs};
 use std::alloc::Global;
 

@@ -1,8 +1,0 @@
-use Rattle.std.proofs.Common.{◌≡◌, map, take}
-use Rattle.schedule_world.specs.Commands.{new_seated}
-use Rattle.schedule_world.specs.World.{seated_value}
-use Rattle.schedule_world.proofs.world.World.of.Given as goal
-
--- a manager for each seat so far
-abbrev pub invariant-loop-seat : goal.invariant-loop-seat
-invariant-loop-seat l = map seated_value l.managers.items ≡ map (new_seated l.planning l.topology.nodes) (take l.seat-index l.seats)

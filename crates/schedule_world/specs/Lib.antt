@@ -1,4 +1,0 @@
-pub mod Commands
-pub mod NamedPackets
-pub mod RunText
-pub mod World
