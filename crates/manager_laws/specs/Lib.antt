@@ -18,3 +18,4 @@ pub mod OwnRuns
 pub mod StaysInForce
 pub mod SweepEnds
 pub mod WritingEnds
+pub mod OwnSetsTaken
