@@ -30,10 +30,10 @@ use Rattle.manager_laws.proofs.OneSweep.{FollowsOne, StaysSo, first_begins, firs
 use Rattle.manager_laws.proofs.Planned.{holds_plan}
 
 -- anything may become of the scene
-abbrev anything : Scene → Type 0
+abbrev pub anything : Scene → Type 0
 anything scene = Unit {0}
 
-anything_stays : (events : List ManagerEvent) (w : Managing) → StaysSo anything events w
+pub anything_stays : (events : List ManagerEvent) (w : Managing) → StaysSo anything events w
 anything_stays [] w = tt
 anything_stays (event ∷ events) w = (tt, anything_stays events (after_manager_event w event))
 

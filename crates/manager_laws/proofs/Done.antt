@@ -35,7 +35,7 @@ use Rattle.manager_laws.proofs.Lists.{Has, all_append}
 use Rattle.manager_laws.proofs.Sweeps.{told_in, all_covered}
 
 -- all that is told is true
-true_told : (f : Fabric) (reports : List Report) → All (λ report. All (IsTrueSighting f) (sightings_of report)) reports
+pub true_told : (f : Fabric) (reports : List Report) → All (λ report. All (IsTrueSighting f) (sightings_of report)) reports
     → AllByRecursion (IsTrueSighting f) (told_in reports)
 true_told f [] all = tt
 true_told f (report ∷ reports) all =

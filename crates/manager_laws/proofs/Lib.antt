@@ -6,6 +6,7 @@ pub mod Alike
 pub mod Answers
 pub mod Arrive
 pub mod Asked
+pub mod AskedSets
 pub mod Before
 pub mod BringUpEvents
 pub mod Calls
@@ -55,3 +56,4 @@ pub mod takeover
 pub mod masters
 pub mod sweep_ends
 pub mod writing_ends
+pub mod own_sets

@@ -62,7 +62,7 @@ module _ (rule : RuleValue) (lmc : ℕ) (facts : Facts) where
       (contains_map table_of (switches (cells_of facts)) guid there)
 
   -- only they have blocks
-  has_table : (guid b : ℕ) (block : List ℕ) → block_at (plan_of rule lmc (cells_of facts)) guid b ≡ Some block → Contains (switches (cells_of facts)) guid
+  pub has_table : (guid b : ℕ) (block : List ℕ) → block_at (plan_of rule lmc (cells_of facts)) guid b ≡ Some block → Contains (switches (cells_of facts)) guid
   unfolding table_of
   has_table guid b block e = by_table (find (λ table. table.guid == guid) (plan_of rule lmc (cells_of facts)).tables) refl e
     where

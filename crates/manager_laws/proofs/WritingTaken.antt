@@ -147,7 +147,7 @@ module _ (node : Node) (a : Agent) (same : node ≡ node_of a) (m local : ℕ) (
   has_own_lid : has_lid a m ≡ true
   has_own_lid = has_lid_of (is_switch a) m local own_port
 
-  means_own_port : port_meant a m local ≡ Some m
+  pub means_own_port : port_meant a m local ≡ Some m
   means_own_port =
       meant_of (is_switch a) (nat_le m a.node.ports) m local own_port
       (λ switch. let zero_is : m ≡ 0 = own_port ∙ ap (λ b. cond b 0 local) switch in le-leb m a.node.ports (omega (arith, zero_is)))

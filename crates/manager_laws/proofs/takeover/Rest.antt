@@ -1,5 +1,5 @@
 -- After a cut: a floor above all that is held forgets it, end ports that are there keep their LIDs, and the rest is served.
-use Rattle.std.proofs.Common.{◌≡◌, ◌<◌, ◌≤◌, inl, inr, ℕ, Bool, true, false, cond, List, [], ◌∷◌, map, refl, sym, ap, ◌∙◌, subst, arith}
+use Rattle.std.proofs.Common.{◌≡◌, ◌<◌, ℕ, Bool, true, false, cond, List, [], ◌∷◌, map, refl, sym, ap, ◌∙◌, subst, arith}
 use Rattle.std.proofs.lemmas.Bool.{leb-true}
 use Rattle.std.proofs.lemmas.List.Elements.{Contains-append_left}
 use Rattle.std.proofs.lemmas.Option.{same_Some}
@@ -26,7 +26,7 @@ use Rattle.subnet_view.specs.FabricAgreement.{AgreesOn, IsEndPortIn, Part, Tells
 use Rattle.subnet_view.proofs.Apart.{Apart, before_apart, contains-from_map}
 use Rattle.subnet_view.proofs.EndPortList.{end_ports_law}
 use Rattle.subnet_view.proofs.EndPorts.{end_ports_apart}
-use Rattle.subnet_view.proofs.Members.{contains_as, contains_cases, contains_here, contains_in, contains_later, contains_none}
+use Rattle.subnet_view.proofs.Members.{contains_as, contains_here, contains_in, contains_later}
 use Rattle.subnet_view.proofs.Taken.{is_taken, taken_from}
 use Rattle.subnet_view.proofs.UsableSwitches.{switches_law}
 use Rattle.lid_assign.specs.Ranges.{range_at, Fits}
@@ -37,7 +37,7 @@ use Rattle.lid_assign.proofs.LidLaws.{lids_law, ports-lids, ports_apart}
 use Rattle.lid_assign.proofs.FreeLids.{at_most}
 use Rattle.lid_assign.proofs.Owners.{lid-from_given}
 use Rattle.lid_assign.proofs.Ranges.{some_width}
-use Rattle.lid_assign.proofs.Tops.{last_at_most, top_below}
+use Rattle.lid_assign.proofs.Tops.{last_at_most}
 use Rattle.sm_manager.specs.Manager.{newest_held}
 use Rattle.manager_laws.specs.Written.{at_writing}
 use Rattle.manager_laws.proofs.Held as held
@@ -47,6 +47,7 @@ use Rattle.manager_laws.specs.AfterCut.{FloorsForget, IsRestOf, LidsOutlast, Rai
 use Rattle.manager_laws.specs.Takeover.{planning_at}
 use Rattle.manager_laws.proofs.takeover.Takeover.{arrives_once_written, found_agrees, found_claims}
 use Rattle.manager_laws.proofs.takeover.Seeing.{inside, named_so}
+use Rattle.manager_laws.proofs.own_sets.Rooms.{room_of_each, top_in_room}
 
 -- floors -----------------------------------------------------------------------------------------------------
 
@@ -120,13 +121,6 @@ lids_outlast lmc x y room_for_x room_for_y rest = lid_outlasts lmc x y room_for_
 
 -- room -------------------------------------------------------------------------------------------------------
 
-room_of_each : (caps : List ℕ) (cap : ℕ) → Contains caps cap → least_room caps ≤ cap
-room_of_each [] cap there = absurd (contains_none cap there)
-room_of_each (c ∷ caps) cap there = elim (contains_cases c cap caps there) [
-  | inl same ↦ omega (arith, same)
-  | inr later ↦ let low = room_of_each caps cap later in omega (arith, low)
-]
-
 room_above : (caps : List ℕ) (top : ℕ) → top < 0xC000 → ((cap : ℕ) → Contains caps cap → top < cap) → top < least_room caps
 room_above [] top low each = low
 room_above (c ∷ caps) top low each =
@@ -149,7 +143,7 @@ module _ (lmc : ℕ) (x y : Facts) (f : Fabric) (part : Part) (room_for_x : ¬ (
   -- each switch that is there had the room that it has
   room_stays : (top : ℕ) → top_of (lids lmc (cells_of x)) ≡ Some top → top < room (cells_of y)
   room_stays top is_top =
-      let below = top_below lmc (lids lmc (cells_of x)).ports (room (cells_of x)) top (λ e n h. ((lids_law lmc x room_for_x).each_fits e n h).in_room) is_top in
+      let below = top_in_room lmc x room_for_x top is_top in
       let most = at_most (filter_map (cap_of (cells_of x)) (switches (cells_of x))) in
       room_above (filter_map (cap_of (cells_of y)) (switches (cells_of y))) top (omega (arith, below, most))
       (λ cap there. let low = room_of_each (filter_map (cap_of (cells_of x)) (switches (cells_of x))) cap (cap_there cap there) in omega (arith, below, low))

@@ -1,4 +1,5 @@
-//! Laws of how a writing ends.
+//! Laws of how a writing ends, and that the agents take its Sets.
+ghost use Rattle.manager_laws.specs.OwnSetsTaken.{OwnSetsAreTaken};
 ghost use Rattle.manager_laws.specs.WritingEnds.{AnswersEndRequests, WritingsAskFew, WritingsEnd};
 
 /// From the beginning of a writing on, a manager queues each Set of its plan once at most, in order, and no other Set
@@ -22,4 +23,12 @@ pub fn writings_end()
 /// Only its answer or its timeout ends a request outside sweeps. A call ends at most one of them.
 pub fn answers_end_requests()
     ensures { AnswersEndRequests }
+{}
+
+/// In a writing run, each agent takes the writing's own LID, block and top Sets, if the manager held no facts when its
+/// sweep began, and learned nothing else until the writing. The answer has status 0, whenever after the writing began,
+/// and in whatever state the agent then is. The run is as in `manager_laws::laws::written_plans_are_held`. The sweep
+/// need not have every answer.
+pub fn own_sets_are_taken()
+    ensures { OwnSetsAreTaken }
 {}

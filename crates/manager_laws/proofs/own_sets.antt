@@ -1,0 +1,5 @@
+pub mod AgentTakes
+pub mod Rooms
+pub mod Counted
+pub mod KnownTables
+pub mod Taken
