@@ -1,26 +1,21 @@
 -- From the writing on: each step that counts is still to be sent, or waits for its answer, or is held by its agent, or failed.
-use Rattle.std.proofs.Common.{◌≡◌, ◌⊎◌, inl, inr, ℕ, ◌+◌, ◌/◌, ◌%◌, ◌<◌, ◌≤◌, ◌^◌, Bool, true, false, cond, List, [], ◌∷◌, ◌++◌, length}
+use Rattle.std.proofs.Common.{◌≡◌, ◌⊎◌, inl, inr, ℕ, ◌+◌, ◌<◌, ◌≤◌, ◌^◌, Bool, true, false, cond, List, [], ◌∷◌, ◌++◌, length}
 use Rattle.std.proofs.Common.{refl, sym, ap, ◌∙◌, subst, arith}
-use Rattle.std.proofs.lemmas.Bool.{cond_both, and_parts, and_from, eqb-true, eqb-false, ltb-false, leb-false, or_left, or_right, not-true}
+use Rattle.std.proofs.lemmas.Bool.{cond_both, and_parts, and_from, eqb-true, eqb-false, ltb-false, or_left, or_right, not-true}
 use Rattle.std.proofs.lemmas.List.Elements.{All-head, All-tail, Contains-append_left, Contains-append_right, Contains-append_cases}
-use Rattle.std.specs.Prelude.{Contains, Option, Some, None, All, drop, is_none, nat_le, not, slice_get, ◌==◌, ◌&&◌, ◌||◌}
+use Rattle.std.specs.Prelude.{Contains, Option, Some, None, All, drop, is_none, not, slice_get, ◌==◌, ◌&&◌, ◌||◌}
 use Rattle.std.specs.List.{list_any}
 use Rattle.fabric_model.specs.declared.cable.NodePort.{NodePort}
-use Rattle.smp_bytes.specs.Answers as smp
 use Rattle.fabric_model.specs.Cables.{is_same_port}
 use Rattle.fabric_model.proofs.Cabled.{same_port-is}
-use Rattle.smp_bytes.specs.Header.{get_resp, sm_info}
-use Rattle.smp_bytes.specs.Field.{number_in}
-use Rattle.smp_bytes.specs.Packet.{attribute_id, attribute_modifier, hop_count, method, transaction_id}
-use Rattle.smp_bytes.specs.Packet.{is_directed, is_response}
+use Rattle.smp_bytes.specs.Header.{sm_info}
+use Rattle.smp_bytes.specs.Packet.{method}
 use Rattle.smp_bytes.specs.Requests.{directed}
-use Rattle.smp_bytes.proofs.BitLaws.{byte-number_in}
-use Rattle.dr_forward.proofs.Trips.{field_kept}
 use Rattle.node_agents.specs.Agent.{Agent}
 use Rattle.fabric_sim.specs.declared.packet.Packet.{Packet}
 use Rattle.fabric_sim.specs.Simulation.{Simulation, agent_at}
 use Rattle.fabric_sim.specs.ThereAndBack.{directed_packet}
-use Rattle.fabric_sim.proofs.Traced.{IsRequestFor, IsAnswerFor, IsForManager}
+use Rattle.fabric_sim.proofs.Traced.{IsForManager}
 use Rattle.fabric_sim.proofs.TracedCalls.{agents_after, repeated_agents, lost_agents, emitted_agents, injected_agents}
 use Rattle.fabric_sim.proofs.TripShapes.{IsAlong}
 use Rattle.lft_blocks.specs.Plan.{PlanValue}
@@ -48,20 +43,16 @@ use Rattle.manager_laws.proofs.Fair.{BesideCall, CanGo, IsFair, IsOwnPacket, own
 use Rattle.manager_laws.proofs.Fair.{fair_sent, fair_around}
 use Rattle.manager_laws.proofs.Generations.{all_small, generation_small}
 use Rattle.manager_laws.proofs.Goes.{heard_at_seat, phase_fair}
+use Rattle.manager_laws.proofs.HeardAnswers.{is_answer_to}
 use Rattle.manager_laws.proofs.Numbered.{AreOnce, HasNumber, from_passed, least_number, length-sent_from, most_number, next_is_of}
 use Rattle.manager_laws.proofs.Numbered.{next_or_rest, next_sent, none_left_counts}
 use Rattle.manager_laws.proofs.Numbered.{none_pending_counts, numbered_from, once_without, one_of_number, others_wait, others_waited}
 use Rattle.manager_laws.proofs.Numbered.{out_of, passed_is_of, pending_of}
 use Rattle.manager_laws.proofs.Numbered.{rest_is_of, waits_as, as_waits}
-use Rattle.manager_laws.proofs.Scenes.{Sends, Tells, AnswersStep, IsOld, same_agents, Stays}
+use Rattle.manager_laws.proofs.Scenes.{Sends, Tells, same_agents, Stays}
 use Rattle.manager_laws.proofs.Steps.{IsOf, StepSent}
-use Rattle.manager_laws.proofs.Returned.{same_status}
 use Rattle.manager_laws.proofs.WritingSweeps.{Ground, SweepSide, begun, facts_merged, rises}
 use Rattle.manager_laws.proofs.WritingTaken.{IsGood, IsDone, done_stays}
-
--- an answer has its R bit
-responds : (bytes : List ℕ) → number_in method bytes ≡ get_resp → is_response bytes ≡ true
-responds bytes e = ap (λ b. b / 2 ^ 7 % 2 ^ 1 == 1) (sym (byte-number_in 3 bytes) ∙ e)
 
 module _ (start : Simulation) (seat : NodePort) (plan : PlanValue) (c : ℕ) (phases : List Phase) where
   -- how far a writing of these phases is: which of its steps went out ---------------------------------------
@@ -260,75 +251,8 @@ module _ (start : Simulation) (seat : NodePort) (plan : PlanValue) (c : ℕ) (ph
         → ((x : StepSent) → Contains all x → c ≤ x.number) → (f : WaitsFor all p) → (f.step.step.attribute ≡ sm_info → ⊥)
         → IsForManager (Sends start seat plan c all) (Tells start seat plan c all s) start seat bytes → HeardBy bytes p → IsDone start seat plan s f.step
     heard_is_done s bytes p once least f no_info is heard =
-        elim (is.course is_way) [
-          | inl r ↦ absurd (cc (sym (asks r) ∙ responds bytes resp))
-          | inr r ↦ by_answer r (r.is.tells refl)
-        ]
-      where
-        -- it answers the step
-        of_step : answers bytes (pending_of f.step) ≡ true
-        of_step = ap (answers bytes) f.is ∙ heard.answers_it
-
-        outer : ((number_in method bytes == get_resp) ≡ true)
-            × (smp.answers bytes f.step.number f.step.step.attribute f.step.step.modifier (Some f.step.step.path) ≡ true)
-        outer =
-            and_parts (number_in method bytes == get_resp) (smp.answers bytes f.step.number f.step.step.attribute f.step.step.modifier
-            (Some f.step.step.path)) of_step
-
-        resp : number_in method bytes ≡ get_resp
-        resp = eqb-true _ _ outer.0
-
-        inner : ((f.step.number == number_in transaction_id bytes) ≡ true) × (smp.is_of bytes f.step.step.attribute f.step.step.modifier
-            (Some f.step.step.path) ≡ true)
-        inner =
-            and_parts (f.step.number == number_in transaction_id bytes) (smp.is_of bytes f.step.step.attribute f.step.step.modifier (Some f.step.step.path))
-            outer.1
-
-        number : number_in transaction_id bytes ≡ f.step.number
-        number = sym (eqb-true _ _ inner.0)
-
-        by_attribute : ((number_in attribute_id bytes == f.step.step.attribute) ≡ true)
-            × ((number_in attribute_modifier bytes == f.step.step.modifier && smp.goes_by bytes (Some f.step.step.path)) ≡ true)
-        by_attribute =
-            and_parts (number_in attribute_id bytes == f.step.step.attribute)
-            (number_in attribute_modifier bytes == f.step.step.modifier && smp.goes_by bytes (Some f.step.step.path)) inner.1
-
-        is_way : is_directed bytes ≡ true
-        is_way =
-            let by_modifier = and_parts (number_in attribute_modifier bytes == f.step.step.modifier)
-            (smp.goes_by bytes (Some f.step.step.path)) by_attribute.1 in
-            (and_parts (is_directed bytes) (number_in hop_count bytes == length f.step.step.path && smp.has_ports bytes 1 f.step.step.path) by_modifier.1).0
-
-        low : number_in transaction_id bytes < 2 ^ 32
-        low = leb-false _ _ (by_tests (number_in method bytes == get_resp) (is_directed bytes)
-            (nat_le (2 ^ 32) (number_in transaction_id bytes)) outer.0 is_way heard.no_sweep)
-          where
-            by_tests : (a b d : Bool) → a ≡ true → b ≡ true → (a && (b && d)) ≡ false → d ≡ false
-            by_tests true true d e f h = h
-            by_tests true false d e f h = absurd (cc)
-            by_tests false b d e f h = absurd (cc)
-
-        asks : IsRequestFor (Sends start seat plan c all) (Tells start seat plan c all s) start seat bytes → is_response bytes ≡ false
-        asks r = ap (λ b. b / 2 ^ 7 % 2 ^ 1 == 1) (r.bytes_are.kept 3 (inl (omega arith))) ∙ r.over.asks
-
-        by_answer : (r : IsAnswerFor (Sends start seat plan c all) (Tells start seat plan c all s) start seat bytes)
-            → IsOld start seat plan c all r.answer ⊎ AnswersStep start seat plan c all s r.answer → IsDone start seat plan s f.step
-        by_answer r told =
-            let kept : number_in transaction_id bytes ≡ number_in transaction_id r.answer = field_kept transaction_id r.answer bytes
-            (inr (omega arith, omega arith)) r.kept in
-            let from = least f.step f.there in
-            elim told [
-              | inl old ↦ elim old [
-                | inl below ↦ absurd (omega (arith, below, kept, number, from))
-                | inr (inl above) ↦ absurd (omega (arith, above, kept, low))
-                | inr (inr info) ↦ absurd (no_info (sym (eqb-true _ _ by_attribute.0)
-                    ∙ field_kept attribute_id r.answer bytes (inr (omega arith, omega arith)) r.kept ∙ info))
-              ]
-              | inr x ↦
-                  let same : x.step ≡ f.step = once x.step f.step x.there f.there (sym x.number ∙ sym kept ∙ number) in
-                  subst (λ (q : StepSent). IsDone start seat plan s q) same
-                  (x.is_done (sym (same_status (Sends start seat plan c all) (Tells start seat plan c all s) start seat bytes r) ∙ heard.done_is))
-            ]
+        let x = is_answer_to start seat plan c all s bytes f.step once least f.there no_info is (ap (answers bytes) f.is ∙ heard.answers_it) heard.no_sweep in
+        subst (λ (q : StepSent). IsDone start seat plan s q) x.same (x.told.is_done (x.status_is ∙ heard.done_is))
 
   -- steps that are good ----------------------------------------------------------------------------------------
 

@@ -306,7 +306,7 @@ module _ (start : Simulation) (seat : NodePort) (plan : PlanValue) where
     tells_of s origin end answer told same =
         elim (told same) [
           | inl old ↦ inl (older answer old)
-          | inr x ↦ inr (record { step = x.step; there = among x.step x.there; number = x.number; is_done = x.is_done })
+          | inr x ↦ inr (record { step = x.step; there = among x.step x.there; number = x.number; asked = x.asked; is_done = x.is_done })
         ]
 
     traced_of : (s : Simulation) (handed : List Handed) → WereTraced start seat plan c all s handed → WereTraced start seat plan later more s handed

@@ -147,6 +147,11 @@ module _ (w : Managing) (before between after : List ManagerEvent) (run : IsWrit
         (cells_of (at_writing w before between).manager.store)) (cells_of (at_writing w before between).manager.store) sweep
         (at_writing w before between).manager.standing.guid (at_writing w before between).manager.port
 
+    pub phases_are : phases ≡ phases_of (plan_at (at_writing w before between)) (cells_of (at_writing w before between).manager.store) sweep
+        (at_writing w before between).manager.standing.guid (at_writing w before between).manager.port
+    unfolding phases
+    phases_are = refl
+
     pub good : (x : StepSent) → IsOf phases x.counts x.step → IsGood w.scene.fabric w.seat (plan_at (at_writing w before between)) x
     unfolding phases
     good x is = writing_good w.scene.fabric w.seat (at_writing w before between).manager may swept_before.fair.side.lmc sweep swept x is

@@ -22,6 +22,7 @@ pub mod Followed
 pub mod Follows
 pub mod Generations
 pub mod Goes
+pub mod HeardAnswers
 pub mod Held
 pub mod Known
 pub mod Led

@@ -6,7 +6,7 @@ use Rattle.std.proofs.lemmas.Bool.{cond_both}
 use Rattle.std.specs.Prelude.{Contains, Option, Some, None, slice_get}
 use Rattle.std.specs.Option.{option_map_or}
 use Rattle.fabric_model.specs.declared.cable.NodePort.{NodePort}
-use Rattle.smp_bytes.specs.Header.{get, set, done, sm_info}
+use Rattle.smp_bytes.specs.Header.{set, done, sm_info}
 use Rattle.smp_bytes.specs.Field.{Field, number_in}
 use Rattle.smp_bytes.specs.Packet.{attribute_id, method, transaction_id, status}
 use Rattle.smp_bytes.specs.Requests.{directed, answer_packet}
@@ -31,6 +31,7 @@ use Rattle.lft_blocks.specs.Plan.{PlanValue}
 use Rattle.plan_steps.specs.Step.{set_packet}
 use Rattle.manager_laws.specs.Scene.{Handed, Scene, Sending, ByLid, ByPath, Answer, Event, Deliver, Lose, Repeat, Send, Emit, CanSend, CanHappen}
 use Rattle.manager_laws.specs.Scene.{emitted_from, sent, sent_from, asks_manager, answer_to, answered_from, after_event}
+use Rattle.manager_laws.proofs.AskedSets.{WasAsked, was_asked}
 use Rattle.manager_laws.proofs.Answers.{Continues, bytes_answered, cabled_in_port, seat_in_port}
 use Rattle.manager_laws.proofs.TracedScenes as traced
 use Rattle.manager_laws.specs.Managing.{IsElsewhere}
@@ -79,6 +80,7 @@ module _ (start : Simulation) (seat : NodePort) (plan : PlanValue) (c : ℕ) (al
     pub step : StepSent
     pub there : Contains all step
     pub number : number_in transaction_id answer ≡ step.number
+    pub asked : WasAsked start seat step answer
     pub is_done : status answer ≡ done → IsDone start seat plan s step
 
   abbrev pub Tells : Simulation → NodePort → NodePort → List ℕ → Type 0
@@ -105,7 +107,7 @@ module _ (start : Simulation) (seat : NodePort) (plan : PlanValue) (c : ℕ) (al
   tells_later s after stays origin end answer tells same =
       elim (tells same) [
         | inl old ↦ inl old
-        | inr a ↦ inr (record { step = a.step; there = a.there; number = a.number; is_done = λ e. stays a.step a.there (a.is_done e) })
+        | inr a ↦ inr (record { step = a.step; there = a.there; number = a.number; asked = a.asked; is_done = λ e. stays a.step a.there (a.is_done e) })
       ]
 
   handed_later : (s after : Simulation) → Stays s after → (handed : List Handed) → WereTraced s handed → WereTraced after handed
@@ -170,12 +172,16 @@ module _ (start : Simulation) (seat : NodePort) (plan : PlanValue) (c : ℕ) (al
             step = x.step;
             there = x.there;
             number = number ∙ ap (number_in transaction_id) x.is ∙ (step_reads x.step x.there x.small).transaction_id;
+            asked = was_asked start s seat c.fabric.along n flight request asked x.step (good x.step x.there).sendable (good x.step x.there).short x.small
+                r.path r.request _ (length r.path + 1) r.over x.is from_seat r.bytes_are;
             is_done = λ e. own_done start s seat plan c.fabric.along n flight request asked x.step (good x.step x.there) x.small r.path r.request _
-                (length r.path + 1) r.over x.is
-                (ap (λ o. directed_end (fabric_of start) o r.path) (sym same) ∙ r.leads) r.bytes_are e;
+                (length r.path + 1) r.over x.is from_seat r.bytes_are e;
           })
         ]
       where
+        from_seat : directed_end (fabric_of start) seat r.path ≡ Some (port_of flight.whereabouts)
+        from_seat = ap (λ o. directed_end (fabric_of start) o r.path) (sym same) ∙ r.leads
+
         number : number_in transaction_id (answer_at s (port_of flight.whereabouts) request) ≡ number_in transaction_id r.request
         number =
             answered_field transaction_id (omega arith) (omega arith) s n flight request c asked

@@ -23,6 +23,7 @@ use Rattle.sm_manager.specs.Writing.{begun_with, is_written}
 use Rattle.manager_laws.proofs.Lists.{all_append}
 use Rattle.manager_laws.specs.Managing.{Managing, ManagerEvent, Around, Begin, Write, Take, Send, Hear}
 use Rattle.manager_laws.specs.Managing.{CanBe, Starts, after_manager_event, after_manager_events}
+use Rattle.manager_laws.specs.OwnSetsTaken.{SomeSetsAreAnswered}
 use Rattle.manager_laws.specs.WritingPings.{BringsUp, SomeManagerBringsUp}
 use Rattle.manager_laws.specs.Written.{AllKeep, at_writing, own_sets, plan_at}
 use Rattle.manager_laws.proofs.Generations.{nothing_found}
@@ -30,6 +31,7 @@ use Rattle.manager_laws.proofs.Computed.{all_can_be, all_keep, are_kept, in_pair
 use Rattle.manager_laws.proofs.Computed.{sweep_in, told_by_agents}
 use Rattle.manager_laws.proofs.NewManagers.{HasSwept, begun, cells_by, keeps, may_begin, may_write, new_at, new_starts, phases_then, sweep_is, sweeper, writes}
 use Rattle.manager_laws.proofs.BringUpEvents as bring_up
+use Rattle.manager_laws.proofs.own_sets.InTime.{answered_in_time}
 use Rattle.manager_laws.proofs.ExampleFabric.{bare, distinct_by, is_bare, port}
 use Rattle.sm_state.specs.declared.conduct.Conduct.TheVariants.{Plain}
 
@@ -146,3 +148,8 @@ some_manager_brings_up =
       after = after;
       brings_up = brings_up;
     }
+
+-- nothing times out in it
+pub some_sets_are_answered : SomeSetsAreAnswered
+unfolding some_manager_brings_up
+some_sets_are_answered = record { some = some_manager_brings_up; answered = answered_in_time beginning [] between after brings_up refl }

@@ -8,7 +8,7 @@ use Rattle.std.specs.Prelude.{◌^◌, ◌==◌, Contains, Option, Some, None, R
 use Rattle.std.specs.Prelude.{not}
 use Rattle.attr_codec.specs.SmInfo.{sm_info_bytes}
 use Rattle.smp_bytes.specs.Field.{bytes_in, number_in}
-use Rattle.smp_bytes.specs.Header.{get, get_resp, set, sm_info}
+use Rattle.smp_bytes.specs.Header.{done, get, get_resp, set, sm_info}
 use Rattle.smp_bytes.specs.Packet.{attribute_data, attribute_id, attribute_modifier, fault_of, is_response, status}
 use Rattle.smp_bytes.specs.Packet.{transaction_id}
 use Rattle.smp_bytes.specs.Requests.{answer_packet, directed, lid_routed}
@@ -64,6 +64,11 @@ abbrev pub IsEnded : Call → Option Pending → Type 0
 IsEnded call None = Unit {0}
 IsEnded call (Some p) = IsEndOf p call
 
+-- a packet that ends a step says whether it was done, and is for no sweep
+abbrev pub Says : Call → Bool → Type 0
+Says (Packet bytes from) was_done = (was_done ≡ (status bytes == done)) × (is_for_sweep bytes ≡ false)
+Says call was_done = Unit {0}
+
 -- at most one request is over, and some may come
 pub record Turn (m : Manager) (call : Call) (after : Manager) : Type 0 where
   pub gone : Option Pending
@@ -88,6 +93,7 @@ pub record StepOver (m : Manager) (call : Call) (after : Manager) : Type 0 where
   pub step : is_step p ≡ true
   pub ends : IsEndOf p call
   pub was_done : Bool
+  pub says : Says call was_done
   pub is : after ≡ after_step m p was_done
 
 -- a writing begins
@@ -321,8 +327,8 @@ module _ (m : Manager) (call : Call) where
 
   -- a request is over
   request_over : (p : Pending) → Contains m.pending p → IsEndOf p call → (answer : Option ℕ)
-      → Effect m call (after_request m p answer p.purpose).manager
-  request_over p there ends answer = by_purpose p.purpose refl
+      → Says call (is_done_by answer) → Effect m call (after_request m p answer p.purpose).manager
+  request_over p there ends answer says = by_purpose p.purpose refl
     where
       by_purpose : (u : Purpose) → p.purpose ≡ u → Effect m call (after_request m p answer u).manager
       by_purpose purpose.Poll is =
@@ -339,29 +345,30 @@ module _ (m : Manager) (call : Call) where
             step = ap (λ u. is_step (record p { purpose = u })) is;
             ends = ends;
             was_done = is_done_by answer;
+            says = says;
             is = refl;
           }))
 
 packet_effect : (m : Manager) (bytes : List ℕ) (from : Option ℕ) (why : Option SmpFault)
     → Effect m (Packet bytes from) (packet_taken m bytes from why).manager
 packet_effect m bytes from (Some why) = Besides (nothing m (Packet bytes from))
-packet_effect m bytes from None = by_tests (is_info_request bytes) (represses m bytes) (is_for_sweep bytes) refl
+packet_effect m bytes from None = by_tests (is_info_request bytes) (represses m bytes) (is_for_sweep bytes) refl refl
   where
-    by_pending : (o : Option Pending) → pending_for m bytes ≡ o
+    by_pending : is_for_sweep bytes ≡ false → (o : Option Pending) → pending_for m bytes ≡ o
         → Effect m (Packet bytes from) (request_answered m bytes o).manager
-    by_pending None e = Besides (nothing m (Packet bytes from))
-    by_pending (Some p) e =
+    by_pending no_sweep None e = Besides (nothing m (Packet bytes from))
+    by_pending no_sweep (Some p) e =
         let found = found_there (answers bytes) m.pending p e in
-        request_over m (Packet bytes from) p found.0 found.1 (Some (status bytes))
+        request_over m (Packet bytes from) p found.0 found.1 (Some (status bytes)) (refl, no_sweep)
 
-    by_tests : (a t b : Bool) → is_info_request bytes ≡ a
+    by_tests : (a t b : Bool) → is_info_request bytes ≡ a → is_for_sweep bytes ≡ b
         → Effect m (Packet bytes from)
         (cond a (unless_spent m (served m bytes from)) (cond t (done_call (repressing m bytes from))
         (cond b (sweep_answered m bytes m.sweep) (request_answered m bytes (pending_for m bytes))))).manager
-    by_tests true t b e =
+    by_tests true t b e f =
         Besides (serves m (Packet bytes from) bytes from
         (has_method bytes (and_parts (not (is_response bytes)) (number_in attribute_id bytes == sm_info) e).1))
-    by_tests false true b e =
+    by_tests false true b e f =
         let out = repress_out bytes from in
         Besides (rests m (Packet bytes from) (repressing m bytes from) refl refl refl
         (since m (repressing m bytes from) (out ∷ []) refl
@@ -369,8 +376,8 @@ packet_effect m bytes from None = by_tests (is_info_request bytes) (represses m 
         (lid_no_set trap_repress (number_in attribute_id bytes) (number_in attribute_modifier bytes)
         (number_in transaction_id bytes)
         (bytes_in attribute_data bytes))))
-    by_tests false false true e = Besides (sweeps m (Packet bytes from) bytes m.sweep)
-    by_tests false false false e = by_pending (pending_for m bytes) refl
+    by_tests false false true e f = Besides (sweeps m (Packet bytes from) bytes m.sweep)
+    by_tests false false false e f = by_pending f (pending_for m bytes) refl
 
 timeout_effect : (m : Manager) (transaction : ℕ) → Effect m (Timeout transaction) (after_timeout m transaction).manager
 timeout_effect m transaction =
@@ -385,7 +392,7 @@ timeout_effect m transaction =
     by_pending None e = Besides (nothing m (Timeout transaction))
     by_pending (Some p) e =
         let found = found_there (λ (x : Pending). x.number == transaction) m.pending p e in
-        request_over m (Timeout transaction) p found.0 (eqb-true p.number transaction found.1) None
+        request_over m (Timeout transaction) p found.0 (eqb-true p.number transaction found.1) None tt
 
 -- so it is with each call
 pub effect : (m : Manager) (call : Call) → Effect m call (after_call m call)

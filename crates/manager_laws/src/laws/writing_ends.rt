@@ -1,5 +1,6 @@
 //! Laws of how a writing ends, and that the agents take its Sets.
-ghost use Rattle.manager_laws.specs.OwnSetsTaken.{OwnSetsAreTaken};
+ghost use Rattle.manager_laws.specs.OwnSetsTaken.{AnsweredPlansAreWritten, OwnSetsAreTaken};
+ghost use Rattle.manager_laws.specs.OwnSetsTaken.{PingsArriveOnceAnswered, SomeSetsAreAnswered};
 ghost use Rattle.manager_laws.specs.WritingEnds.{AnswersEndRequests, WritingsAskFew, WritingsEnd};
 
 /// From the beginning of a writing on, a manager queues each Set of its plan once at most, in order, and no other Set
@@ -31,4 +32,22 @@ pub fn answers_end_requests()
 /// need not have every answer.
 pub fn own_sets_are_taken()
     ensures { OwnSetsAreTaken }
+{}
+
+/// Under the premises of `own_sets_are_taken`, the plan counts as written once each of these Sets was answered,
+/// whatever the answers say: none has timed out, none is outstanding, and none is still to be sent.
+pub fn answered_plans_are_written()
+    ensures { AnsweredPlansAreWritten }
+{}
+
+/// In `pings_arrive_once_written`, it is enough that each LID, block and top Set was answered, instead of that the plan
+/// counts as written.
+pub fn pings_arrive_once_answered()
+    ensures { PingsArriveOnceAnswered }
+{}
+
+/// Some manager that brings its subnet up, the one of `manager_laws::laws::some_manager_brings_up`, has each of its
+/// LID, block and top Sets answered.
+pub fn some_sets_are_answered()
+    ensures { SomeSetsAreAnswered }
 {}
