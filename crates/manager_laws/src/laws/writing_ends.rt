@@ -34,14 +34,14 @@ pub fn own_sets_are_taken()
     ensures { OwnSetsAreTaken }
 {}
 
-/// Under the premises of `own_sets_are_taken`, the plan counts as written once each of these Sets was answered,
-/// whatever the answers say: none has timed out, none is outstanding, and none is still to be sent.
+/// Under the premises of `own_sets_are_taken`, the plan counts as written once each of these Sets was answered, whatever
+/// the answers say. Answered means: none has timed out, none is outstanding, and none is still to be sent.
 pub fn answered_plans_are_written()
     ensures { AnsweredPlansAreWritten }
 {}
 
-/// In `pings_arrive_once_written`, it is enough that each LID, block and top Set was answered, instead of that the plan
-/// counts as written.
+/// In `pings_arrive_once_written`, it is enough that each LID, block and top Set was answered, in place of the last
+/// condition.
 pub fn pings_arrive_once_answered()
     ensures { PingsArriveOnceAnswered }
 {}
