@@ -19,18 +19,20 @@ use Rattle.sm_manager.specs.ManagerRequests.{counts, none_counts}
 use Rattle.sm_manager.specs.Writing.{is_written, phases_by}
 use Rattle.manager_laws.specs.Pings.{EachPingArrives}
 use Rattle.manager_laws.specs.Complete.{IsWhole}
-use Rattle.manager_laws.specs.Managing.{Managing, ManagerEvent, Begin, TimeOut, after_manager_event, after_manager_events}
+use Rattle.manager_laws.specs.Managing.{Managing, ManagerEvent, Begin, TimeOut}
+use Rattle.manager_laws.specs.Managing.{after_manager_event, after_manager_events}
 use Rattle.manager_laws.specs.Sets.{IsOwnSet, OwnSets}
 use Rattle.manager_laws.specs.WritingPings.{AreNoSweeps, SomeManagerBringsUp}
 use Rattle.manager_laws.specs.Written.{IsWritingRun, at_end, at_first_steps, at_writing, plan_at}
 
 -- own Sets are taken ------------------------------------------------------------------------------
 
--- in a writing run, the manager holds no facts when its sweep begins, and until the writing it learns only from this
--- sweep
+-- in a writing run, the manager writes the plan of what one sweep told it
 pub record WritesItsSweep (w : Managing) (before between after : List ManagerEvent) : Type 0 where
   pub run : IsWritingRun w before between after
+  -- the manager holds no facts when the sweep begins; its floor may have been raised
   pub knew_nothing : cells_of (after_manager_events before w).manager.store ≡ []
+  -- until the writing the manager learns only from this sweep
   pub alone : AreNoSweeps between (after_manager_event (after_manager_events before w) Begin)
 
 -- the Sets of the steps that the manager of `w` writes and that count (LIDs, blocks and tops), from the seat and in the
@@ -44,9 +46,12 @@ counted_sets start w =
 -- counts takes the step's Set, whenever after the writing began the Set arrives there: the answer has status 0
 abbrev pub OwnSetsAreTaken : Type 0
 OwnSetsAreTaken =
-    (w : Managing) (before between after : List ManagerEvent) → WritesItsSweep w before between after
-    → (at : NodePort) (a : Agent) (packet : List ℕ) → agent_at (at_end w before between after).scene.fabric at.node ≡ Some a
-    → IsPacket packet → number_in method packet ≡ set → counted_sets w (at_writing w before between) at packet
+    (w : Managing) (before between after : List ManagerEvent) (at : NodePort) (a : Agent) (packet : List ℕ)
+    → WritesItsSweep w before between after
+    → agent_at (at_end w before between after).scene.fabric at.node ≡ Some a
+    → IsPacket packet
+    → number_in method packet ≡ set
+    → counted_sets w (at_writing w before between) at packet
     → status (after_answer a packet at.port).packet ≡ done
 
 -- once each was answered --------------------------------------------------------------------------
@@ -67,8 +72,8 @@ pub record AreCountedOver (m : Manager) : Type 0 where
   pub none_waits : none_counts m.pending ≡ true
   pub none_to_come : (writing : Writing) → m.writing ≡ Some writing → list_any (λ p. p.counts) writing.later ≡ false
 
--- each Set of the writing that counts was answered, whatever the answer says: in the end none is outstanding or still to
--- be sent, and none timed out
+-- each Set of the writing that counts was answered, whatever the answer says: in the end none is outstanding or still
+-- to be sent, and none timed out
 pub record AreAnswered (w : Managing) (before between after : List ManagerEvent) : Type 0 where
   pub none_given_up : GiveUpNone after (at_first_steps w before between)
   pub over : AreCountedOver (at_end w before between after).manager

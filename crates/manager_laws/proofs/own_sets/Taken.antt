@@ -222,7 +222,7 @@ module _ (w : Managing) (before between after : List ManagerEvent) (writes : Wri
       (record { method = sets; attribute = own.attribute; modifier = own.modifier; payload = own.payload })
 
 pub own_sets_are_taken : OwnSetsAreTaken
-own_sets_are_taken w before between after writes at a packet there whole sets own = by_sweep (at_writing w before between).manager.sweep refl own
+own_sets_are_taken w before between after at a packet writes there whole sets own = by_sweep (at_writing w before between).manager.sweep refl own
   where
     by_sweep : (o : Option Sweep) → (at_writing w before between).manager.sweep ≡ o
         → IsOwnSet (fabric_of w.scene.fabric) w.seat (filter (λ p. p.counts) (phases_by (at_writing w before between).manager o)) at packet
