@@ -1,3 +1,4 @@
+pub mod Example
 pub mod Going
 pub mod Managed
 pub mod Moves

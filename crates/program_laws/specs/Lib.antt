@@ -5,6 +5,7 @@ pub mod Says
 pub mod ServeLaws
 pub mod Told
 pub mod Deciding
+pub mod DecidingExample
 pub mod Between
 pub mod LiveStep
 pub mod OwnSets
