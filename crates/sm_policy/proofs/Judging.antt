@@ -1,7 +1,7 @@
 -- When plans are judged and written.
 use Rattle.std.proofs.Common.{◌≡◌, ℕ, ◌≤◌, Bool, true, false, cond, refl, subst}
 use Rattle.std.proofs.lemmas.Bool.{cond_both, leb-true}
-use Rattle.std.specs.Prelude.{nat_le, nat_lt, Option, Some, None}
+use Rattle.std.specs.Prelude.{◌||◌, nat_le, nat_lt, Option, Some, None}
 use Rattle.sm_state.specs.declared.state.SmState.{SmState}
 use Rattle.sm_state.specs.declared.state.SmState.TheVariants.{NotActive, Discovering, Standby, Master}
 use Rattle.sm_state.specs.Standing.{one_more}
@@ -14,7 +14,7 @@ use Rattle.sm_policy.specs.declared.rival.Rival.TheVariants.{Lesser, Greater}
 use Rattle.sm_policy.specs.declared.comparison.Comparison.TheVariants.{NoPlan, Same, Differs}
 use Rattle.sm_policy.specs.Policy.{Decision, forgotten, patience, still, waited_longer, wanting}
 use Rattle.sm_policy.specs.PolicyLaws.{IsAlone, JudgesAsMaster, MayJudge, WritesAPlan}
-use Rattle.sm_policy.specs.Swept.{counts, dealt, ended, is_past, leaves_it, may_plan, meeting_at, swept_in}
+use Rattle.sm_policy.specs.Swept.{counts, dealt, ended, goes_on, is_past, leaves_it, may_plan, meeting_at, swept_in}
 
 -- a decision among two that are not to judge is not to judge
 neither : (b : Bool) (x y : Decision) → (x.act ≡ Judge → ⊥) → (y.act ≡ Judge → ⊥) → (cond b x y).act ≡ Judge → ⊥
@@ -43,7 +43,7 @@ offered_lately now m e = by_past (is_past now m.since) refl e
 meeting_stays : (now : ℕ) (w : Bool) (rival : Option Rival) (p : Policy) → (ended now w rival p).meeting ≡ p.meeting
 meeting_stays now true rival p = refl
 meeting_stays now false rival p =
-    cond_both (leaves_it p.state rival) p (waited_longer now p) (λ (x : Policy). x.meeting ≡ p.meeting) (λ _. refl) (λ _. refl)
+    cond_both (leaves_it p.state rival || goes_on p) p (waited_longer now p) (λ (x : Policy). x.meeting ≡ p.meeting) (λ _. refl) (λ _. refl)
 
 pub judges_as_master : JudgesAsMaster
 judges_as_master now w rival p e = by_stale p.is_stale refl e

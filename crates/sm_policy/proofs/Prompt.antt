@@ -1,7 +1,7 @@
 -- A manager never waits for long.
 use Rattle.std.proofs.Common.{◌≡◌, ℕ, ◌≤◌, ◌<◌, Bool, true, false, cond, [], ◌∷◌, refl, sym, ap, ◌∙◌, subst, arith}
 use Rattle.std.proofs.lemmas.Bool.{cond_both}
-use Rattle.std.specs.Prelude.{◌≢◌, ◌^◌, max, nat_le, nat_lt, Option, Some, None}
+use Rattle.std.specs.Prelude.{◌≢◌, ◌^◌, ◌||◌, max, nat_le, nat_lt, Option, Some, None}
 use Rattle.sm_state.specs.declared.state.SmState.{SmState}
 use Rattle.sm_state.specs.declared.state.SmState.TheVariants.{NotActive, Discovering, Standby, Master}
 use Rattle.sm_policy.specs.declared.activity.Activity.TheVariants.{Rests}
@@ -16,7 +16,7 @@ use Rattle.sm_policy.specs.Policy.{Decision, announced_every, forgotten, in_stat
 use Rattle.sm_policy.specs.Judged.{failed, judged, once_more, settled, stood, taking}
 use Rattle.sm_policy.specs.PolicyLaws.{IsDueBy, NeverWaitsLong, News, Moved, Wanted, TakenOver, Resumed, Polled, Rested, Swept, Judged, Writing, Wrote, Handing, Handed, Rise, Told, after_news, after_told, longest_wait}
 use Rattle.sm_policy.specs.Resting.{call_due, call_due_in, earlier, is_due, poll_due, poll_due_in, rest_due, rested, sweep_due, sweep_due_in}
-use Rattle.sm_policy.specs.Swept.{counts, dealt, ended, leaves_it, meeting_at, met, swept_in}
+use Rattle.sm_policy.specs.Swept.{counts, dealt, ended, goes_on, leaves_it, meeting_at, met, swept_in}
 use Rattle.sm_state.specs.Standing.{one_more}
 
 -- a sweep began at `began`, and the times at which something may be due are not long after the time `now`
@@ -78,8 +78,8 @@ module _ (timing : Timing) (now : ℕ) (small : now < 2 ^ 64) where
   ended_prompt true r p h =
       record { same = h.same; begun = h.begun; earliest = h.earliest; next_sweep = omega arith; next_poll = h.next_poll; next_call = h.next_call }
   ended_prompt false r p h =
-      let k = cond_both (leaves_it p.state r) p (waited_longer now p) Prompt (λ _. h) (λ _. waited_prompt p h) in
-      later_sweep (cond (leaves_it p.state r) p (waited_longer now p)) p.timing h.same k
+      let k = cond_both (leaves_it p.state r || goes_on p) p (waited_longer now p) Prompt (λ _. h) (λ _. waited_prompt p h) in
+      later_sweep (cond (leaves_it p.state r || goes_on p) p (waited_longer now p)) p.timing h.same k
     where
       later_sweep : (x : Policy) (t : Timing) → t ≡ timing → Prompt x
           → Prompt (record x { gaps = one_more p.gaps; activity = Rests; next_sweep = later_by t.every now })

@@ -1,5 +1,5 @@
 -- What a master does about its plan: it writes the plan unless that is written and stands.
-use Rattle.std.specs.Prelude.{ℕ, Bool, true, ◌&&◌, ◌||◌, ◌==◌, nat_lt, if◌then◌else◌}
+use Rattle.std.specs.Prelude.{ℕ, Bool, true, ◌&&◌, ◌||◌, nat_lt, if◌then◌else◌}
 use Rattle.sm_state.specs.Standing.{one_more}
 use Rattle.sm_policy.specs.declared.act.Act.TheVariants.{HandOver, Settle, Write}
 use Rattle.sm_policy.specs.declared.activity.Activity.TheVariants.{Rests, Writes}
@@ -31,12 +31,11 @@ taking now p =
       takings = one_more (recent_takings now p);
     }
 
--- nothing is left to write: the plan stands, with the ports that it could not bring up or take. If the sweep lacked
--- answers, the next one is waited for as long as after other failures in a row
+-- nothing is left to write: the plan stands, with the ports that it could not bring up or take
 abbrev pub settled : Ports → Policy → Policy
 settled ports p =
     record p {
-      faults = if p.gaps == 0 then 0 else p.faults;
+      faults = 0;
       written = record p.written { repeats = 0; inactive = ports.inactive; foreign = ports.foreign };
     }
 

@@ -1,5 +1,5 @@
 -- What a manager does while no request is out and nothing runs: it polls, announces itself, sweeps, or waits.
-use Rattle.std.specs.Prelude.{ℕ, min, max, Bool, true, false, ◌&&◌, nat_le, if◌then◌else◌, Option, Some, None}
+use Rattle.std.specs.Prelude.{ℕ, min, max, Bool, false, nat_le, if◌then◌else◌, Option, Some, None}
 use Rattle.sm_state.specs.declared.state.SmState.{SmState}
 use Rattle.sm_state.specs.declared.state.SmState.TheVariants.{NotActive, Discovering, Standby, Master}
 use Rattle.sm_policy.specs.declared.act.Act.TheVariants.{Poll, Announce, Sweep}

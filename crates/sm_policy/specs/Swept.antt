@@ -24,10 +24,14 @@ abbrev pub leaves_it : SmState → Option Rival → Bool
 leaves_it Standby (Some rival) = true
 leaves_it state rival = false
 
--- a sweep is over that lacks answers: another one is asked for, unless a standby saw a master
+-- whether a master goes on without what lacks answers: several sweeps in a row lacked some, and it is not strict
+abbrev pub goes_on : Policy → Bool
+goes_on p = is_master p.state && (not p.timing.is_strict && nat_le patience p.gaps)
+
+-- a sweep is over that lacks answers: another one is asked for, unless a standby saw a master, or a master goes on
 abbrev pub gaping : ℕ → Option Rival → Policy → Policy
 gaping now rival p =
-    record (if leaves_it p.state rival then p else waited_longer now p) { gaps = one_more p.gaps }
+    record (if leaves_it p.state rival || goes_on p then p else waited_longer now p) { gaps = one_more p.gaps }
 
 -- a sweep is over, whole or not, that saw the given master. The next one of a master is due a period later
 abbrev pub ended : ℕ → Bool → Option Rival → Policy → Policy

@@ -125,14 +125,11 @@ impl Policy {
         self.takings = recent.saturating_add(1);
     }
 
-    /// Notes that nothing is left to write, but for what `ports` tells of. If the sweep lacked answers, failures in a
-    /// row count on.
+    /// Notes that nothing is left to write, but for what `ports` tells of.
     fn settle(&mut self, ports: Ports)
         ensures { self.new ≡ settled ports self.old }
     {
-        if self.gaps == 0 {
-            self.faults = 0;
-        }
+        self.faults = 0;
         self.written.repeats = 0;
         self.written.inactive = ports.inactive;
         self.written.foreign = ports.foreign;

@@ -1,7 +1,7 @@
 //! What a manager does when its sweep is over.
 ghost use Rattle.std.specs.Prelude.{◌≡◌};
 ghost use Rattle.sm_policy.specs.Policy.{forgotten, wanting};
-ghost use Rattle.sm_policy.specs.Swept.{counts, dealt, ended, is_past, judging, leaves_it};
+ghost use Rattle.sm_policy.specs.Swept.{counts, dealt, ended, goes_on, is_past, judging, leaves_it};
 ghost use Rattle.sm_policy.specs.Swept.{masterless_by, may_plan, meeting_at, met};
 ghost use Rattle.sm_policy.specs.Swept.{offered, reigned, stood_by, swept, swept_in};
 
@@ -41,7 +41,7 @@ impl Policy {
     }
 
     /// Notes that a sweep is over at the time `now`, whether it has every answer, and which master it saw. If it lacks
-    /// answers, asks for another one, unless a standby saw a master, to whom it leaves that.
+    /// answers, asks for another one, unless a standby saw a master, to whom it leaves that, or a master goes on.
     fn end_sweep(&mut self, now: u64, is_whole: bool, rival: Option<Rival>)
         ensures { self.new ≡ ended now is_whole rival self.old }
     {
@@ -53,13 +53,21 @@ impl Policy {
                 0
             };
         } else {
-            self.gaps = self.gaps.saturating_add(1);
-            if !leaves_it(self.state, rival) {
+            if !leaves_it(self.state, rival) && !self.goes_on() {
                 self.wait_longer(now);
             }
+            self.gaps = self.gaps.saturating_add(1);
         }
         self.activity = Activity::Rests;
         self.next_sweep = later_by(u64::from(self.timing.every), now);
+    }
+
+    /// Returns whether a master goes on without what lacks answers: several sweeps in a row lacked some, and it is not
+    /// strict.
+    fn goes_on(&self) -> bool
+        ensures { result ≡ goes_on self.now }
+    {
+        is_master(self.state) && !self.timing.is_strict && self.gaps >= PATIENCE
     }
 
     /// Returns what a standby does after a sweep that saw the master `rival`.
