@@ -24,7 +24,9 @@ WRONG = (
         "sweep", "write", "handover", "yield", "rediscover", "poll", "timeout", "floor 1", "poll 5", "0", "Look",
         "look\r", "look now", "leave 1", "state 0", "managers 1", "facts A", f"packet {ASKS}", f"packet {ASKS} to 7",
         f"packet {ASKS} from", f"packet {ASKS} from 65536", f"packet {ASKS} from 7 7", f"packet {ASKS[2:]} from 7",
-        f"packet {ASKS}00 from 7", f"packet g{ASKS[1:]} from 7", f"{ASKED} 0", "state".ljust(MOST - 1), "look " * 200,
+        f"packet {ASKS}00 from 7", f"packet g{ASKS[1:]} from 7", f"sa {ASKS}", f"sa {ASKS} to 7",
+        f"sa {ASKS} from 65536", f"sa {ASKS[2:]} from 7", f"sa packet {ASKS} from 7", f"{ASKED} 0",
+        "state".ljust(MOST - 1), "look " * 200,
     )),
     "0".ljust(MOST + 1), " " * (MOST + 1), "#" * (MOST + 1), "0 #" * MOST,
 )
@@ -57,6 +59,8 @@ MANAGED_ROWS = [
     (f"1000 packet {tells(9)} from 7", "", 1500),
     (f"0 {ASKED}", f"send {tells(2)} to 7\n", 1500),
     (f"1000 packet {ASKS.upper()} from 65535", f"send {tells(3)} to 65535\n", 1500),
+    # No master, which tells hosts nothing.
+    (f"1000 sa {ASKS} from 7", "", 1500),
     # Not a master, which would repress it. That it asks for a sweep shows only later.
     (f"1000 {TRAPPED}", "", 1500),
     ("1000 look", "", 1500),

@@ -47,6 +47,7 @@ class ManagedAgents(Agents):
     def __init__(self, fabric: Fabric) -> None:
         super().__init__(fabric, next((name, 1) for name in fabric.nodes if not fabric.is_switch(name)))
         self.managed: dict[Port, Seat] = {}
+        self.links: dict[Port, tuple[int, int, int, int]] = {}
 
     def meant(self, name: str, came_by: int, packet: bytes) -> Port:
         """Returns the port that a request for PortInfo is about."""
@@ -67,6 +68,8 @@ class ManagedAgents(Agents):
             return data
         port = self.meant(name, came_by, packet)
         data = bytearray(data)
+        mtu, cap, width, speed = self.links.get(port, (0, 0, 0, 0))
+        data[31], data[35], data[36], data[41] = width, speed << 4, mtu << 4, cap
         data[23] = data[23] & ~2 | 2 * (port in self.managed and not self.managed[port].is_leaving)
         return bytes(data)
 

@@ -1,5 +1,5 @@
 -- A call that the manager refuses leaves it as it was.
-use Rattle.std.proofs.Common.{◌≡◌, ◌∙◌, Bool, true, false, Option, None, Some, Result, Ok, Err, refl, sym, ap}
+use Rattle.std.proofs.Common.{◌≡◌, ◌∙◌, Bool, false, Option, None, Some, Result, Ok, Err, refl, sym}
 use Rattle.std.proofs.lemmas.Bool.{cond-true, cond-false}
 use Rattle.std.specs.Prelude.{IfOk, OnErr, OnOk, if◌then◌else◌, is_none, is_ok}
 use Rattle.sm_manager.specs.Manager.{Manager}

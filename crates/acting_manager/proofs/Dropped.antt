@@ -3,7 +3,7 @@ use Rattle.std.proofs.Common.{◌≡◌, ◌∙◌, ◌+◌, ℕ, zero, suc, Lis
 use Rattle.std.proofs.Math.Seq.{drop-length}
 use Rattle.std.proofs.lemmas.List.{drop-drop}
 use Rattle.sm_manager.specs.declared.outgoing.Outgoing.{Outgoing}
-use Rattle.request_window.specs.Window.{Window, unanswered_of, unsent_of}
+use Rattle.request_window.specs.Window.{unanswered_of, unsent_of}
 use Rattle.request_window.specs.declared.out.Out.{Out}
 use Rattle.acting_manager.specs.Acting.{Acting}
 use Rattle.acting_manager.specs.ActingLaws.{DropsAll}

@@ -1,3 +1,4 @@
+pub mod Administering
 pub mod Called
 pub mod Collecting
 pub mod Dropped

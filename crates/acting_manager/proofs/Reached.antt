@@ -1,5 +1,5 @@
 -- What becomes of the manager of a manager that decides by itself is what some calls make of it.
-use Rattle.std.proofs.Common.{◌≡◌, ◌∙◌, ◌++◌, ◌<◌, ◌≤◌, ◌^◌, ℕ, zero, suc, arith, Bool, List, [], ◌∷◌, Option, None, Some, length, refl, sym, ap}
+use Rattle.std.proofs.Common.{◌≡◌, ◌∙◌, ◌++◌, ◌<◌, ◌≤◌, ◌^◌, ℕ, zero, suc, arith, Bool, List, [], ◌∷◌, Option, None, Some, length, refl, ap}
 use Rattle.std.proofs.lemmas.Bool.{cond_both}
 use Rattle.std.specs.Prelude.{is_none}
 use Rattle.smp_bytes.specs.Field.{number_in}

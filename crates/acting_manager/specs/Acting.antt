@@ -1,6 +1,6 @@
 -- A manager that decides by itself: what it is made of, and how it gives out its packets. InfiniBand Architecture
 -- Specification, Volume 1: subnet management, subnet manager.
-use Rattle.std.specs.Prelude.{ℕ, Bool, true, false, ◌&&◌, not, List, [], ◌∷◌, ◌++◌, filter, ◌==◌}
+use Rattle.std.specs.Prelude.{ℕ, Bool, false, ◌&&◌, not, List, [], ◌∷◌, ◌++◌, filter, ◌==◌}
 use Rattle.std.specs.Prelude.{if◌then◌else◌, Option, None}
 use Rattle.smp_bytes.specs.Field.{number_in}
 use Rattle.smp_bytes.specs.Packet.{is_response, method}

@@ -1,5 +1,5 @@
 -- What a manager does when it decides: it asks its own manager to sweep, write, poll, hand over, and so on.
-use Rattle.std.specs.Prelude.{ℕ, Bool, true, false, ◌&&◌, List, [], ◌∷◌, ◌++◌, ◌==◌, if◌then◌else◌}
+use Rattle.std.specs.Prelude.{ℕ, Bool, false, ◌&&◌, [], ◌∷◌, ◌++◌, ◌==◌, if◌then◌else◌}
 use Rattle.std.specs.Prelude.{Option, Some, None, is_none}
 use Rattle.attr_codec.specs.declared.sm_info.SmInfo.{SmInfo}
 use Rattle.lft_blocks.specs.Plan.{PlanValue}
@@ -30,7 +30,6 @@ use Rattle.sm_policy.specs.declared.rival.Rival.TheVariants.{Lesser, Greater}
 use Rattle.acting_manager.specs.Acting.{Acting, noted}
 use Rattle.acting_manager.specs.Planned.{comparison_of, planned}
 use Rattle.acting_manager.specs.Reads.{no_reads}
-use Rattle.acting_manager.specs.declared.note.Note.{Note}
 use Rattle.acting_manager.specs.declared.note.Note.TheVariants.{Did, Refused, Settled, Swept, Writes, Wrote}
 
 -- with a note of what was done, if it was
@@ -108,13 +107,13 @@ rival_seen m = rival_of (info_of m.standing) (greatest_in Master (info_of m.stan
 
 -- plans ------------------------------------------------------------------------------------------
 
--- a writing of `plan` was asked for, for this cause, with the given fault
+-- a writing of `plan` was asked for, for this cause, with the given fault. The plan is kept if the writing has begun
 abbrev pub writing_with : Option ManagerFault → WriteCause → PlanValue → Acting → Acting
 writing_with fault cause plan a =
     noted (if is_none fault then Writes cause else Refused act.Write) (record a {
       manager = after_call a.manager Call.WriteSteps;
       policy = writing a.time (is_none fault) a.policy;
-      kept = Some plan;
+      kept = if is_none fault then Some plan else a.kept;
       is_void = false;
     })
 

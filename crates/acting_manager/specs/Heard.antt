@@ -1,6 +1,6 @@
 -- What a packet that reaches a manager does, besides the work that follows. InfiniBand Architecture Specification,
 -- Volume 1: subnet management, traps (128, 144), SMInfo (HANDOVER).
-use Rattle.std.specs.Prelude.{ℕ, ◌^◌, Bool, true, false, ◌&&◌, ◌||◌, not, List, nat_lt, ◌==◌}
+use Rattle.std.specs.Prelude.{ℕ, ◌^◌, Bool, ◌&&◌, ◌||◌, not, List, nat_lt, ◌==◌}
 use Rattle.std.specs.Prelude.{if◌then◌else◌, Option, Some, None, is_none}
 use Rattle.smp_bytes.specs.Field.{Field, bytes_in, number_in}
 use Rattle.smp_bytes.specs.Header.{set, sm_info}
@@ -11,7 +11,7 @@ use Rattle.attr_codec.specs.SmInfo.{sm_info_in}
 use Rattle.sm_state.specs.State.{number_of_state}
 use Rattle.sm_state.specs.declared.state.SmState.TheVariants.{Master}
 use Rattle.sm_manager.specs.CallLists.{Call, after_call}
-use Rattle.sm_manager.specs.Packets.{Called, after_packet}
+use Rattle.sm_manager.specs.Packets.{after_packet}
 use Rattle.sm_manager.specs.Traps.{trap}
 use Rattle.sm_manager.specs.declared.outgoing.Outgoing.{Outgoing}
 use Rattle.sm_policy.specs.Policy.{is_master, polled, taken_over, wanting}

@@ -1,15 +1,14 @@
 -- What a manager reads of ports while it sweeps: how many are not Active, and how many end ports name another master.
 -- InfiniBand Architecture Specification, Volume 1: subnet management, PortInfo (LID, MasterSMLID, PortState).
-use Rattle.std.specs.Prelude.{ℕ, ◌+◌, Bool, true, false, ◌&&◌, ◌||◌, not, List, nat_lt, ◌==◌}
-use Rattle.std.specs.Prelude.{if◌then◌else◌, Option, Some, None}
+use Rattle.std.specs.Prelude.{ℕ, Bool, true, false, ◌&&◌, not, List, nat_lt, ◌==◌}
+use Rattle.std.specs.Prelude.{if◌then◌else◌, Option, Some}
 use Rattle.sm_state.specs.Standing.{one_more}
 use Rattle.smp_bytes.specs.Field.{bits_in, bytes_in, number_in}
-use Rattle.smp_bytes.specs.Header.{get_resp, port_info}
+use Rattle.smp_bytes.specs.Header.{port_info}
 use Rattle.smp_bytes.specs.Packet.{attribute_data, attribute_id, hop_count, is_directed, status}
 use Rattle.attr_codec.specs.PortInfo.{base_lid, master_sm_lid, port_state, state_of_number}
 use Rattle.attr_codec.specs.declared.port_state.PortState.{PortState}
 use Rattle.attr_codec.specs.declared.port_state.PortState.TheVariants.{Initialize, Armed}
-use Rattle.sm_policy.specs.declared.ports.Ports.{Ports}
 use Rattle.acting_manager.specs.declared.reads.Reads.{Reads}
 
 -- nothing was read

@@ -5,7 +5,7 @@ ghost use Rattle.acting_manager.specs.Acting.{is_request};
 
 use crate::note::Note;
 use crate::reads::Reads;
-use plan_steps::Plan;
+use lft_blocks::Plan;
 use request_window::{Limits, Window};
 use sm_manager::{Manager, Outgoing};
 use sm_policy::{Policy, Timing};
@@ -27,7 +27,7 @@ pub struct ActingManager {
     pub(crate) ready: VecDeque<Outgoing>,
     /// The notes that were not given out yet, the oldest one first.
     pub(crate) notes: VecDeque<Note>,
-    /// The plan that was written last, or was to be.
+    /// The plan of the last writing.
     pub(crate) kept: Option<Plan>,
     pub(crate) reads: Reads,
     /// Whether a writing that runs is to be given up, since the manager stood still meanwhile.

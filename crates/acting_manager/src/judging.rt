@@ -10,7 +10,7 @@ use crate::acting_manager::ActingManager;
 use crate::asks;
 use crate::note::Note;
 use crate::plans::comparison_of;
-use plan_steps::Plan;
+use lft_blocks::Plan;
 use sm_manager::{Manager, ManagerFault};
 use sm_policy::{Act, WriteCause};
 use std::alloc::AllocError;
@@ -61,13 +61,15 @@ impl ActingManager {
         }
     }
 
-    /// Begins to write `plan`, the plan of the manager's facts, for `cause`, and keeps it.
+    /// Begins to write `plan`, the plan of the manager's facts, for `cause`, and keeps it if that is not refused.
     fn write(&mut self, cause: WriteCause, plan: Plan) -> Result<(), AllocError>
         ensures { OnOk result (value_of self.new ≡ writing_on cause plan (value_of self.old)) }
     {
         let has_begun = asks::write_steps(&mut self.manager)?;
         self.policy.write(self.time, has_begun);
-        self.kept = Some(plan);
+        if has_begun {
+            self.kept = Some(plan);
+        }
         self.is_void = false;
         self.note(if has_begun {
             Note::Writes(cause)

@@ -5,6 +5,7 @@
 
 mod acting_manager;
 mod acts;
+mod administration;
 mod asks;
 mod drops;
 mod heard;

@@ -4,8 +4,7 @@ ghost use Rattle.std.specs.Cmp.Lexicographic.{pointwise};
 ghost use Rattle.acting_manager.specs.Planned.{are_same_lids, are_same_tables, compared, comparison_of};
 ghost use Rattle.acting_manager.specs.Planned.{is_same_lid, is_same_plan, is_same_table, share_lids, share_tables};
 
-use lft_blocks::Table;
-use plan_steps::Plan;
+use lft_blocks::{Plan, Table};
 use sm_policy::Comparison;
 use smp_bytes::Lid;
 use subnet_view::EndPort;

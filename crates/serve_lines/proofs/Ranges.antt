@@ -17,7 +17,7 @@ use Rattle.schedule_file.specs.declared.command.Ask.TheVariants.{Poll}
 use Rattle.serve_lines.specs.declared.serve_line.ServeLine.{ServeLine}
 use Rattle.serve_lines.specs.declared.serve_line.ServeLine.TheVariants.{Ask, Floor, Packet, Timeout, GiveUp, Managers, Wrong}
 use Rattle.serve_lines.specs.declared.manage_line.ManageLine.TheVariants.{Told, Wrong as WrongTold}
-use Rattle.serve_lines.specs.declared.manage_line.ManageWord.TheVariants.{Packet as PacketSaid, Look, Leave, Managers as ManagersSaid}
+use Rattle.serve_lines.specs.declared.manage_line.ManageWord.TheVariants.{Packet as PacketSaid, Sa as SaSaid, Look, Leave, Managers as ManagersSaid}
 use Rattle.serve_lines.specs.ServeLine.{bare_of, line_in, line_of, most_bytes, of_one, packet_behind, packet_in, packet_of, show_of, transaction_of}
 use Rattle.serve_lines.specs.ManageLine.{behind_time, line_in as told_in, manage_line_of, time_of, word_of}
 use Rattle.serve_lines.specs.Read.{IsPacket, IsRead, IsSaid, IsTold, ReadLinesAreInRange, ToldLinesAreInRange}
@@ -129,7 +129,10 @@ said_range : (words : List (List ℕ)) → IfSome (behind_time words) IsSaid
 said_range [] = tt
 said_range (word ∷ []) = word_range word
 said_range (word ∷ hex ∷ []) = tt
-said_range (word ∷ hex ∷ between ∷ rest) = behind_range IsSaid (λ packet. PacketSaid packet.0 packet.1) (λ packet h. h) word hex between rest
+said_range (word ∷ hex ∷ between ∷ rest) =
+    either IsSaid (bytes_eq word (codes "sa")) _ _
+    (behind_range IsSaid (λ packet. SaSaid packet.0 packet.1) (λ packet h. h) (codes "packet") hex between rest)
+    (behind_range IsSaid (λ packet. PacketSaid packet.0 packet.1) (λ packet h. h) word hex between rest)
 
 told_range : (words : List (List ℕ)) → IfSome (told_in words) IsTold
 told_range [] = tt

@@ -10,7 +10,7 @@ use Rattle.serve_lines.specs.ServeLine.{most_bytes, packet_behind}
 use Rattle.serve_lines.specs.declared.manage_line.ManageLine.{ManageLine}
 use Rattle.serve_lines.specs.declared.manage_line.ManageLine.TheVariants.{Told, Empty, Wrong}
 use Rattle.serve_lines.specs.declared.manage_line.ManageWord.{ManageWord}
-use Rattle.serve_lines.specs.declared.manage_line.ManageWord.TheVariants.{Time, Packet, Look, Leave, Show, Managers}
+use Rattle.serve_lines.specs.declared.manage_line.ManageWord.TheVariants.{Time, Packet, Sa, Look, Leave, Show, Managers}
 
 -- words ------------------------------------------------------------------------------------------
 
@@ -27,13 +27,20 @@ word_of word =
     else if bytes_eq word (codes "managers") then Some Managers
     else option_map Show (shown_by word)
 
+-- what three words and those after them say: those behind `sa` are those behind `packet`; None if the grammar has no
+-- such words
+abbrev pub long_of : List ℕ → List ℕ → List ℕ → List (List ℕ) → Option ManageWord
+long_of word hex between rest =
+    if bytes_eq word (codes "sa")
+    then option_map (λ packet. Sa packet.0 packet.1) (packet_behind (codes "packet") hex between rest)
+    else option_map (λ packet. Packet packet.0 packet.1) (packet_behind word hex between rest)
+
 -- what the words behind the time say; None if the grammar has no such words
 abbrev pub behind_time : List (List ℕ) → Option ManageWord
 behind_time [] = Some Time
 behind_time (word ∷ []) = word_of word
 behind_time (word ∷ hex ∷ []) = None
-behind_time (word ∷ hex ∷ between ∷ rest) =
-    option_map (λ packet. Packet packet.0 packet.1) (packet_behind word hex between rest)
+behind_time (word ∷ hex ∷ between ∷ rest) = long_of word hex between rest
 
 -- lines ------------------------------------------------------------------------------------------
 

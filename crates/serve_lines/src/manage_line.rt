@@ -19,6 +19,8 @@ pub enum ManageWord {
     Time,
     /// A packet from this LID came to the manager's port.
     Packet([u8; 256], Lid),
+    /// A packet for subnet administration from this LID came to the manager's port.
+    Sa([u8; 256], Lid),
     /// The operator asks for a sweep.
     Look,
     /// The manager is to hand over and to end.

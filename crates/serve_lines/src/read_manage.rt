@@ -3,7 +3,7 @@ ghost use Rattle.std.specs.Prelude.{◌≡◌};
 ghost use Rattle.std.specs.Char.{is_digit};
 ghost use Rattle.std.specs.List.{list_all};
 ghost use Rattle.text_words.specs.Text.{words};
-ghost use Rattle.serve_lines.specs.ManageLine.{behind_time, line_in, manage_line_of, time_of, word_of};
+ghost use Rattle.serve_lines.specs.ManageLine.{behind_time, line_in, long_of, manage_line_of, time_of, word_of};
 ghost use Rattle.serve_lines.specs.ServeLine.{most_bytes};
 
 use crate::manage_line::{ManageLine, ManageWord};
@@ -69,8 +69,21 @@ fn behind_time(rest: &[u8]) -> Option<ManageWord>
         return word_of(word);
     };
     let (between, rest) = split_word(rest)?;
-    let (bytes, from) = packet_behind(word, hex, between, rest)?;
-    Some(ManageWord::Packet(bytes, from))
+    long_of(word, hex, between, rest)
+}
+
+/// Parses the words `word`, `hex` and `between`, and then those of `rest`. Returns `None` if the grammar has no such
+/// words.
+fn long_of(word: &[u8], hex: &[u8], between: &[u8], rest: &[u8]) -> Option<ManageWord>
+    ensures { result ≡ long_of word.now hex.now between.now (words rest.now) }
+{
+    if is_word(word, "sa") {
+        let (bytes, from) = packet_behind(b"packet", hex, between, rest)?;
+        Some(ManageWord::Sa(bytes, from))
+    } else {
+        let (bytes, from) = packet_behind(word, hex, between, rest)?;
+        Some(ManageWord::Packet(bytes, from))
+    }
 }
 
 /// Parses the only word after the time. Returns `None` if the grammar has no such word.

@@ -8,7 +8,7 @@ use Rattle.schedule_lines.specs.Outcome.{Outcome, and_then, quiet, shows}
 use Rattle.serve_lines.specs.declared.manage_line.ManageLine.{ManageLine}
 use Rattle.serve_lines.specs.declared.manage_line.ManageLine.TheVariants.{Told, Empty, Wrong}
 use Rattle.serve_lines.specs.declared.manage_line.ManageWord.{ManageWord}
-use Rattle.serve_lines.specs.declared.manage_line.ManageWord.TheVariants.{Time, Packet, Look, Leave, Show, Managers}
+use Rattle.serve_lines.specs.declared.manage_line.ManageWord.TheVariants.{Time, Packet, Sa, Look, Leave, Show, Managers}
 use Rattle.sm_state.specs.State.{state_word}
 use Rattle.sm_policy.specs.declared.act.Act.{Act}
 use Rattle.sm_policy.specs.declared.act.Act.TheVariants.{Wait, Poll, Announce, Sweep, Rediscover, HandOver, Yield, Judge, Write, Settle}
@@ -16,6 +16,7 @@ use Rattle.sm_policy.specs.declared.write_cause.WriteCause.{WriteCause}
 use Rattle.sm_policy.specs.declared.write_cause.WriteCause.TheVariants.{New, Again, For}
 use Rattle.sm_policy.specs.declared.ports.Ports.{Ports}
 use Rattle.acting_manager.specs.Acting.{Acting}
+use Rattle.acting_manager.specs.Administration.{administered}
 use Rattle.acting_manager.specs.Working as working
 use Rattle.acting_manager.specs.Working.{after_told, given_away, wake_of}
 use Rattle.acting_manager.specs.declared.note.Note.{Note}
@@ -84,6 +85,11 @@ wake_text (Some time) = decimal time
 unfoldable pub wake_line : Option ℕ → List ℕ
 wake_line wake = codes "wake " ++ wake_text wake ++ codes "\n"
 
+-- the line of an answer of subnet administration, which is sent to the LID `to`; empty if there is none
+unfoldable pub sa_line : ℕ → Option (List ℕ) → List ℕ
+sa_line to None = []
+sa_line to (Some packet) = codes "sa " ++ encode_lower packet ++ codes " to " ++ decimal to ++ codes "\n"
+
 -- lines ------------------------------------------------------------------------------------------
 
 -- the outcome of a line that has the time `time`, before what the manager has to give out. What a line shows changes
@@ -91,6 +97,7 @@ wake_line wake = codes "wake " ++ wake_text wake ++ codes "\n"
 abbrev pub after_word : Acting → ℕ → ManageWord → Outcome Acting
 after_word a time Time = quiet (after_told time working.Time a)
 after_word a time (Packet bytes from) = quiet (after_told time (working.Packet bytes (Some from)) a)
+after_word a time (Sa bytes from) = shows (sa_line from (administered a bytes)) a
 after_word a time Look = quiet (after_told time working.Look a)
 after_word a time Leave = quiet (after_told time working.Leave a)
 after_word a time (Show what) = shows (text_of what None a.manager) a

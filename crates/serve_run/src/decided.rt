@@ -11,7 +11,7 @@ ghost use Rattle.serve_run.specs.Served.{send_line};
 
 use crate::managers::show_managers;
 use crate::notes::{write_note, write_wake};
-use crate::outgoing::write_outgoing;
+use crate::outgoing::{write_outgoing, write_sa};
 use crate::served::{end_answer, print};
 use acting_manager::ActingManager;
 use byte_io::Sink;
@@ -64,6 +64,7 @@ fn do_word<W: Sink>(
     match what {
         ManageWord::Time => acting.handle_time(time)?,
         ManageWord::Packet(bytes, from) => acting.handle_packet(time, &bytes, Some(from))?,
+        ManageWord::Sa(bytes, from) => write_sa(sink, acting.administer(&bytes), from)?,
         ManageWord::Look => acting.look(time)?,
         ManageWord::Leave => acting.leave(time)?,
         ManageWord::Show(what) => show_manager(sink, None, acting.manager(), what)?,

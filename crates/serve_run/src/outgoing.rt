@@ -5,6 +5,7 @@ ghost use Rattle.byte_io.specs.Writes.{Writes};
 ghost use Rattle.hex.specs.Hex.{encode_lower};
 ghost use Rattle.sm_manager.specs.Manager.{emptied};
 ghost use Rattle.schedule_lines.specs.Prints.{PrintsUnless};
+ghost use Rattle.serve_run.specs.Decided.{sa_line};
 ghost use Rattle.serve_run.specs.Served.{send_line, to_text};
 
 use byte_io::{Sink, WriteFault, write_number};
@@ -33,6 +34,28 @@ pub(crate) fn write_outgoing<W: Sink>(sink: &mut W, outgoing: &Outgoing) -> Resu
     write_hex(sink, outgoing.packet.bytes())?;
     write_to(sink, outgoing.to)?;
     sink.write(b"\n")
+}
+
+/// Writes the line of `answer`, an answer of subnet administration that is sent to the LID `to`. Writes nothing if there
+/// is none.
+#[tactic(auto, unfolding(crate::specs::Decided::sa_line))]
+pub(crate) fn write_sa<W: Sink>(
+    sink: &mut W,
+    answer: Option<[u8; 256]>,
+    to: Lid,
+) -> Result<(), WriteFault>
+    ensures writes { Writes W.written W.has_failed result sink.old sink.new (sa_line to answer) }
+{
+    match answer {
+        None => sink.write(b""),
+        Some(packet) => {
+            sink.write(b"sa ")?;
+            write_hex(sink, &packet)?;
+            sink.write(b" to ")?;
+            write_number(sink, u64::from(to.number()))?;
+            sink.write(b"\n")
+        }
+    }
 }
 
 /// Writes the bytes of `packet` as two lower-case hex digits each.

@@ -177,6 +177,11 @@ abbrev pub silent_in : Option Sweep → Option ℕ
 silent_in None = None
 silent_in (Some s) = Some s.silent_managers
 
+-- the sweep if it is done; None if it runs, or if there is none
+abbrev pub swept_of : Option Sweep → Option Sweep
+swept_of None = None
+swept_of (Some s) = if is_done s then Some s else None
+
 -- how far the last sweep has come: never begun, running, or done. If a sweep has begun, with the number of its
 -- requests that timed out, and the number of ports through which the sweep did not go on because the path would have
 -- had more than 63 ports

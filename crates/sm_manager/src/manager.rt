@@ -1,10 +1,10 @@
-ghost use Rattle.std.specs.Prelude.{◌≡◌, IfOk, OnOk, OnErr, slice_get, ◌-◌};
+ghost use Rattle.std.specs.Prelude.{◌≡◌, IfOk, OnOk, OnErr, option_copied, slice_get, ◌-◌};
 ghost use Rattle.fact_store.specs.View.{cells_of};
 ghost use Rattle.plan_steps.specs.Arrival.{EveryPacketArrives};
 ghost use Rattle.plan_steps.specs.Plan.{plan_of};
 ghost use Rattle.sm_manager.specs.Manager.{begin_fault, after_raise_floor, after_merge, new_manager};
 ghost use Rattle.sm_manager.specs.Manager.{outstanding, progress_of, after_begin_sweep, after_take_outgoing};
-ghost use Rattle.sm_manager.specs.Manager.{is_running, silent_in};
+ghost use Rattle.sm_manager.specs.Manager.{is_running, silent_in, swept_of};
 ghost use Rattle.smp_bytes.specs.Judges.{JudgesButFor};
 ghost use Rattle.sm_manager.specs.Fault.{is_memory};
 ghost use Rattle.sm_manager.specs.PlanFaults.{plan_fault};
@@ -240,6 +240,16 @@ impl Manager {
                     }
                 }
             }
+        }
+    }
+
+    /// Returns the last sweep, with what it has kept, if it is done. Returns `None` if it runs, or if no sweep has begun.
+    pub fn swept(&self) -> Option<&Sweep>
+        ensures { option_copied result ≡ swept_of self.now.sweep }
+    {
+        match &self.sweep {
+            Some(sweep) => { if sweep.is_done() { Some(sweep) } else { None } }
+            None => None,
         }
     }
 

@@ -73,7 +73,8 @@ use Rattle.acting_manager.specs.Acting.{Acting}
 use Rattle.acting_manager.specs.Working.{wake_of}
 use Rattle.acting_manager.specs.declared.note.Note.{Note}
 use Rattle.acting_manager.specs.declared.note.Note.TheVariants as note
-use Rattle.serve_run.specs.Decided.{act_word, after_manage, after_word, cause_text, decided, note_line, note_text, ports_text, wake_line, wake_text}
+use Rattle.acting_manager.specs.Administration.{administered}
+use Rattle.serve_run.specs.Decided.{act_word, after_manage, after_word, cause_text, decided, note_line, note_text, ports_text, sa_line, wake_line, wake_text}
 use Rattle.program_laws.specs.Framed.{AnswersEndOnce, EndsOnce, has_dot, is_line_end}
 
 -- texts ---------------------------------------------------------------------------------------------------
@@ -455,9 +456,15 @@ wake_passes : (wake : Option ℕ) → Passes true (wake_line wake) true
 unfolding wake_line
 wake_passes wake = head (codes "wake ") refl refl then time_passes wake then newline
 
+sa_passes : (to : ℕ) (answer : Option (List ℕ)) → Passes true (sa_line to answer) true
+unfolding sa_line
+sa_passes to None = nothing
+sa_passes to (Some packet) = head (codes "sa ") refl refl then encoded packet then mid (codes " to ") refl refl then number to then newline
+
 word_passes : (a : Acting) (time : ℕ) (what : ManageWord) → Passes true (after_word a time what).text true
 word_passes a time word.Time = nothing
 word_passes a time (word.Packet bytes from) = nothing
+word_passes a time (word.Sa bytes from) = sa_passes from (administered a bytes)
 word_passes a time word.Look = nothing
 word_passes a time word.Leave = nothing
 word_passes a time (word.Show what) = shown_passes what a.manager

@@ -1,0 +1,9 @@
+pub mod AnswerLaws
+pub mod Bound
+pub mod Ends
+pub mod PathLaws
+pub mod PathReply
+pub mod Rates
+pub mod Reply
+pub mod Told
+pub mod Way

@@ -1,0 +1,47 @@
+-- The numbers of the class, of methods, statuses and attributes of subnet administration. InfiniBand Architecture
+-- Specification, Volume 1: subnet administration, methods, attributes and status.
+use Rattle.std.specs.Prelude.{ℕ}
+
+-- the class of subnet administration
+abbrev pub sa_class : ℕ
+sa_class = 0x03
+
+-- the version of this class
+abbrev pub sa_version : ℕ
+sa_version = 2
+
+-- the method Get, a request for one record
+abbrev pub sa_get : ℕ
+sa_get = 0x01
+
+-- the method Set
+abbrev pub sa_set : ℕ
+sa_set = 0x02
+
+-- the method GetResp, the answer to Get and to Set
+abbrev pub sa_get_resp : ℕ
+sa_get_resp = 0x81
+
+-- the attribute ClassPortInfo
+abbrev pub class_port_info : ℕ
+class_port_info = 0x0001
+
+-- the attribute PathRecord
+abbrev pub path_record : ℕ
+path_record = 0x0035
+
+-- the status of a request that was done
+abbrev pub sa_done : ℕ
+sa_done = 0x0000
+
+-- the status of a request whose method is not supported for its attribute
+abbrev pub not_supported : ℕ
+not_supported = 0x000C
+
+-- the status of a request to which no record answers
+abbrev pub no_records : ℕ
+no_records = 0x0300
+
+-- the status of a request that lacks components
+abbrev pub insufficient_components : ℕ
+insufficient_components = 0x0600

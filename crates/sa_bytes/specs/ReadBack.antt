@@ -1,0 +1,42 @@
+-- What answers and records contain. InfiniBand Architecture Specification, Volume 1: subnet administration, SA
+-- management datagrams; PathRecord.
+use Rattle.std.specs.Prelude.{◌≡◌, ℕ, ◌^◌, ◌<◌, ◌≤◌, List, All, drop, length, take, true}
+use Rattle.smp_bytes.specs.Field.{number_in}
+use Rattle.smp_bytes.specs.Packet.{base_version, mgmt_class, class_version, method, status_word, transaction_id, attribute_id, attribute_modifier, is_response}
+use Rattle.sa_bytes.specs.Numbers.{sa_class, sa_version}
+use Rattle.sa_bytes.specs.SaPacket.{attribute_offset, component_mask, record_data, rmpp, sm_key}
+use Rattle.sa_bytes.specs.Answer.{answering, sa_answer}
+use Rattle.sa_bytes.specs.PathRecord.{FitsPathRecord, path_record_bytes, path_record_in}
+use Rattle.sa_bytes.specs.declared.path_record.PathRecord.{PathRecord}
+
+-- `answer` is a packet of subnet administration that answers `request`: it has the request's TransactionID, attribute,
+-- modifier and component mask, and the method that answers the request's. It has the status, the AttributeOffset and
+-- the bytes that are given. It is alone, and names no SM_Key
+pub record HoldsSaAnswer (request answer : List ℕ) (given offset : ℕ) (written : List ℕ) : Type 0 where
+  pub count : length answer ≡ 256
+  pub base_version : number_in base_version answer ≡ 1
+  pub class : number_in mgmt_class answer ≡ sa_class
+  pub class_version : number_in class_version answer ≡ sa_version
+  pub method : number_in method answer ≡ answering (number_in method request)
+  pub response : is_response answer ≡ true
+  pub status : number_in status_word answer ≡ given
+  pub transaction_id : number_in transaction_id answer ≡ number_in transaction_id request
+  pub attribute_id : number_in attribute_id answer ≡ number_in attribute_id request
+  pub attribute_modifier : number_in attribute_modifier answer ≡ number_in attribute_modifier request
+  pub alone : number_in rmpp answer ≡ 0
+  pub sm_key : number_in sm_key answer ≡ 0
+  pub attribute_offset : number_in attribute_offset answer ≡ offset
+  pub component_mask : number_in component_mask answer ≡ number_in component_mask request
+  pub bytes : take (length written) (drop record_data.at answer) ≡ written
+
+-- what `sa_answer` makes of a request answers it (`HoldsSaAnswer`), if the status and the offset fit and there is room
+-- for the bytes
+abbrev pub SaAnswerReadsBack : Type 0
+SaAnswerReadsBack =
+    (request : List ℕ) (status offset : ℕ) (bytes : List ℕ) → All (λ byte. byte < 256) request
+    → status < 2 ^ 16 → offset < 2 ^ 16 → length bytes ≤ 200
+    → HoldsSaAnswer request (sa_answer request status offset bytes) status offset bytes
+
+-- a path whose numbers fit in their fields is read back from the bytes that spell it
+abbrev pub PathReadsBack : Type 0
+PathReadsBack = (path : PathRecord) → FitsPathRecord path → path_record_in (path_record_bytes path) ≡ path

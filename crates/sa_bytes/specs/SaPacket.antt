@@ -1,0 +1,38 @@
+-- A packet of subnet administration (SA), a list of 256 bytes: its fields, and when it is a request. InfiniBand
+-- Architecture Specification, Volume 1: management datagram header; subnet administration, SA management datagrams.
+use Rattle.std.specs.Prelude.{ℕ, Bool, ◌&&◌, not, List, ◌==◌}
+use Rattle.smp_bytes.specs.Field.{Field, number_in}
+use Rattle.smp_bytes.specs.Packet.{base_version, mgmt_class, class_version, is_response}
+use Rattle.sa_bytes.specs.Numbers.{sa_class, sa_version}
+
+-- the fields of the reliable multi-packet protocol (RMPP); 0 in a packet that is alone
+abbrev pub rmpp : Field
+rmpp = record { at = 24; len = 12 }
+
+-- SM_Key
+abbrev pub sm_key : Field
+sm_key = record { at = 36; len = 8 }
+
+-- AttributeOffset: the number of units of 8 bytes from the begin of one record to the next
+abbrev pub attribute_offset : Field
+attribute_offset = record { at = 44; len = 2 }
+
+-- ComponentMask: a bit for each component of the record that a request gives
+abbrev pub component_mask : Field
+component_mask = record { at = 48; len = 8 }
+
+-- the offset of the record, and the greatest number of its bytes in one packet
+abbrev pub record_data : Field
+record_data = record { at = 56; len = 200 }
+
+-- the record of a request for paths: 64 bytes
+abbrev pub path_data : Field
+path_data = record { at = 56; len = 64 }
+
+-- whether 256 bytes are a request of subnet administration: they have its class and its version, and the R bit is not
+-- set
+abbrev pub is_sa_request : List ℕ → Bool
+is_sa_request packet =
+    number_in base_version packet == 1
+    && (number_in mgmt_class packet == sa_class
+    && (number_in class_version packet == sa_version && not (is_response packet)))

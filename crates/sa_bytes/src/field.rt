@@ -1,0 +1,27 @@
+//! The table of fields (subnet administration, SA management datagrams). A field has the offset of its first byte in a
+//! packet.
+
+pub const BASE_VERSION: usize = 0;
+
+pub const MGMT_CLASS: usize = 1;
+
+pub const CLASS_VERSION: usize = 2;
+
+pub const METHOD: usize = 3;
+
+/// The index of the R bit in the byte of the method.
+pub const RESPONSE_BIT: u32 = 7;
+
+pub const STATUS: usize = 4;
+
+pub const TRANSACTION_ID: usize = 8;
+
+pub const ATTRIBUTE_ID: usize = 16;
+
+pub const ATTRIBUTE_MODIFIER: usize = 20;
+
+pub const ATTRIBUTE_OFFSET: usize = 44;
+
+pub const COMPONENT_MASK: usize = 48;
+
+pub const RECORD: usize = 56;

@@ -1,0 +1,153 @@
+ghost use Rattle.std.specs.Prelude.{◌≡◌, ◌≤◌, ◌<◌, ◌^◌, length, true, None, Some, if◌then◌else◌};
+ghost use Rattle.smp_bytes.specs.Field.{bytes_in, number_in};
+ghost use Rattle.smp_bytes.specs.Packet.{method, transaction_id, attribute_id, attribute_modifier};
+ghost use Rattle.sa_bytes.specs.Answer.{answering, sa_answer};
+ghost use Rattle.sa_bytes.specs.SaPacket.{component_mask, is_sa_request, path_data};
+
+use crate::field;
+use crate::numbers::{SaAttributeId, SaMethod, SaStatus};
+use smp_bytes::wire::{
+    bits_at, put_bytes, put_u8, put_u16, put_u32, put_u64, u8_at, u16_at, u32_at, u64_at,
+};
+use std::marker::Model;
+
+/// A request of subnet administration: 256 bytes of its class and version whose R bit is not set. Contracts see the
+/// bytes.
+#[derive(Clone, Copy, Debug)]
+pub struct SaRequest {
+    bytes: [u8; 256],
+}
+
+impl Model for SaRequest {
+    ghost use Rattle.std.specs.Prelude.{◌≡◌, ℕ, List, true};
+    ghost use Rattle.sa_bytes.specs.SaPacket.{is_sa_request};
+
+    ghost Value = { List ℕ };
+
+    ghost view = { λ p. p.bytes };
+
+    ghost invariant = { λ p. is_sa_request p.bytes ≡ true };
+
+    ghost inverse = { λ bytes. record { bytes = bytes } };
+}
+
+/// The value of BaseVersion.
+const BASE_VERSION: u8 = 1;
+
+/// The class of subnet administration.
+const SA_CLASS: u8 = 0x03;
+
+/// The value of ClassVersion.
+const SA_VERSION: u8 = 2;
+
+impl SaRequest {
+    /// Parses 256 bytes as a request, and keeps them as they are. Returns `None` if they are none: another class or
+    /// version, or an answer.
+    pub fn parse(bytes: &[u8; 256]) -> Option<SaRequest>
+        ensures { result ≡ (if is_sa_request bytes.now then Some bytes.now else None) }
+    {
+        if is_sa_request(bytes) {
+            Some(SaRequest { bytes: *bytes })
+        } else {
+            None
+        }
+    }
+
+    /// Returns the packet's bytes.
+    pub fn bytes(&self) -> &[u8; 256]
+        ensures { result.now ≡ self.now }
+    {
+        &self.bytes
+    }
+
+    /// Returns the method.
+    pub fn method(&self) -> SaMethod
+        ensures { result.0 ≡ number_in method self.now }
+    {
+        SaMethod(u8_at(&self.bytes, field::METHOD))
+    }
+
+    /// Returns TransactionID.
+    pub fn transaction_id(&self) -> u64
+        ensures { result ≡ number_in transaction_id self.now }
+    {
+        u64_at(&self.bytes, field::TRANSACTION_ID)
+    }
+
+    /// Returns AttributeID.
+    pub fn attribute_id(&self) -> SaAttributeId
+        ensures { result.0 ≡ number_in attribute_id self.now }
+    {
+        SaAttributeId(u16_at(&self.bytes, field::ATTRIBUTE_ID))
+    }
+
+    /// Returns AttributeModifier.
+    pub fn attribute_modifier(&self) -> u32
+        ensures { result ≡ number_in attribute_modifier self.now }
+    {
+        u32_at(&self.bytes, field::ATTRIBUTE_MODIFIER)
+    }
+
+    /// Returns ComponentMask: a bit for each component of the record that the request gives.
+    pub fn component_mask(&self) -> u64
+        ensures { result ≡ number_in component_mask self.now }
+    {
+        u64_at(&self.bytes, field::COMPONENT_MASK)
+    }
+
+    /// Returns the first 64 bytes of the record, which are the whole record of a request for paths.
+    pub fn path_data(&self) -> [u8; 64]
+        ensures { result ≡ bytes_in path_data self.now }
+    {
+        let mut data = [0; 64];
+        data.copy_from_slice(&self.bytes[field::RECORD..field::RECORD + 64]);
+        data
+    }
+
+    /// Returns the answer with the status `status` and with `body`, which may be empty. `offset` is AttributeOffset,
+    /// in units of 8 bytes. Everything that is not given is the request's or 0. `body` must have at most 200 bytes.
+    pub fn answer(&self, status: SaStatus, offset: u16, body: &[u8]) -> [u8; 256]
+        requires { length body.now ≤ 200 }
+        ensures { result ≡ sa_answer self.now status.0 offset body.now }
+    {
+        let mut bytes = [0; 256];
+        put_u8(&mut bytes, field::BASE_VERSION, BASE_VERSION);
+        put_u8(&mut bytes, field::MGMT_CLASS, SA_CLASS);
+        put_u8(&mut bytes, field::CLASS_VERSION, SA_VERSION);
+        put_u8(&mut bytes, field::METHOD, self.answering());
+        put_u16(&mut bytes, field::STATUS, status.0);
+        put_u64(&mut bytes, field::TRANSACTION_ID, self.transaction_id());
+        put_u16(&mut bytes, field::ATTRIBUTE_ID, self.attribute_id().0);
+        put_u32(
+            &mut bytes,
+            field::ATTRIBUTE_MODIFIER,
+            self.attribute_modifier(),
+        );
+        put_u16(&mut bytes, field::ATTRIBUTE_OFFSET, offset);
+        put_u64(&mut bytes, field::COMPONENT_MASK, self.component_mask());
+        put_bytes(&mut bytes, field::RECORD, body);
+        bytes
+    }
+
+    /// Returns the method of the answer.
+    fn answering(&self) -> u8
+        ensures { result ≡ answering (number_in method self.now) }
+    {
+        let method = self.method();
+        if method == SaMethod::SET {
+            SaMethod::GET_RESP.0
+        } else {
+            0x80 + method.0 % 0x80
+        }
+    }
+}
+
+/// Returns whether `bytes` are a request of subnet administration.
+fn is_sa_request(bytes: &[u8; 256]) -> bool
+    ensures { result ≡ is_sa_request bytes.now }
+{
+    u8_at(bytes, field::BASE_VERSION) == BASE_VERSION
+        && u8_at(bytes, field::MGMT_CLASS) == SA_CLASS
+        && u8_at(bytes, field::CLASS_VERSION) == SA_VERSION
+        && bits_at(bytes, field::METHOD, field::RESPONSE_BIT, 1) != 1
+}
