@@ -26,6 +26,7 @@ struct own_port own_port = { .guid = 0x101, .number = 1, .name = "port 1", .adap
 struct carried carried;
 static struct waiting queue[MOST_QUEUED];
 static int queued, taken, send_fault, receive_fault, master, ended, is_hushed;
+static int sa_status = -1;	/* of an answer to a host, if there is one */
 static uint8_t given[PACKET];	/* the packet that the process printed last, or that came last */
 static ib_mad_addr_t address;	/* to which a packet goes */
 static int partition;
@@ -171,8 +172,8 @@ static void show(const char *what, const uint8_t *bytes, const char *rest)
 void tell(const char *format, ...)
 {
 	uint8_t bytes[PACKET];
-	char line[LONGEST], rest[32], digits[3] = "";
-	unsigned i, lid;
+	char line[LONGEST], rest[32];
+	unsigned lid;
 	va_list values;
 
 	va_start(values, format);
@@ -180,12 +181,43 @@ void tell(const char *format, ...)
 	va_end(values);
 	if (strncmp(line, "packet ", 7) || sscanf(line + 7 + 2 * PACKET, " from %u", &lid) != 1)
 		abort();
-	for (i = 0; i < PACKET; i++) {
-		memcpy(digits, line + 7 + 2 * i, 2);
-		bytes[i] = strtoul(digits, NULL, 16);
-	}
+	read_packet(line + 7, bytes);
 	snprintf(rest, sizeof rest, " from %u", lid);
 	show("told", bytes, rest);
+}
+
+/* Reads the hex digits of a packet. */
+void read_packet(const char *hex, uint8_t *bytes)
+{
+	char digits[3] = "";
+	unsigned i;
+
+	for (i = 0; i < PACKET; i++) {
+		memcpy(digits, hex + 2 * i, 2);
+		bytes[i] = strtoul(digits, NULL, 16);
+	}
+}
+
+/* Its answer to a request for subnet administration: the request with the R bit and a status, if it has an answer. */
+const char *shown(const char *word)
+{
+	static char line[LONGEST];
+	uint8_t bytes[PACKET];
+	char rest[32], hex[2 * PACKET + 1];
+	unsigned lid;
+
+	if (strncmp(word, "sa ", 3) || sscanf(word + 3 + 2 * PACKET, " from %u", &lid) != 1)
+		abort();
+	read_packet(word + 3, bytes);
+	snprintf(rest, sizeof rest, " from %u", lid);
+	show("asked", bytes, rest);
+	if (sa_status < 0)
+		return "";
+	bytes[3] |= RESPONSE;
+	put(bytes + 4, 2, sa_status);
+	write_packet(bytes, hex);
+	snprintf(line, sizeof line, "sa %s to %u\n", hex, lid);
+	return line;
 }
 
 /* The port. */
@@ -400,6 +432,8 @@ static void set_number(const char *name, int value)
 		seat.dry_run = value;
 	else if (!strcmp(name, "master"))
 		master = value;
+	else if (!strcmp(name, "sa"))
+		sa_status = value;
 	else if (!strcmp(name, "hush"))
 		is_hushed = value;
 	else if (!strcmp(name, "send-fails"))
@@ -422,8 +456,9 @@ static void show_silent(void)
 static void show_counts(void)
 {
 	act("sent %lu again %lu answered %lu given up %lu late %lu requests %lu traps %lu repressed %lu pointers %lu sets %lu "
-	    "hosts %lu", carried.sent, carried.again, carried.answered, carried.given_up, carried.late, carried.requests,
-	    carried.traps, carried.repressed, carried.pointers, carried.sets, carried.hosts_refused);
+	    "hosts %lu refused %lu", carried.sent, carried.again, carried.answered, carried.given_up, carried.late, carried.requests,
+	    carried.traps, carried.repressed, carried.pointers, carried.sets, carried.hosts_answered,
+	    carried.hosts_refused);
 }
 
 static void take(char *line)

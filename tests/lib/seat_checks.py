@@ -499,14 +499,14 @@ def bent(bench: Bench) -> None:
 
 
 def hosts_refused(bench: Bench) -> None:
-    """Checks that a host that asks the master for a subnet administration is refused at once, and that a standby is
-    silent, since the host tries again. Both seats live on."""
+    """Checks that a host that asks the master for what the subnet administration does not have is refused at once, and
+    that a standby is silent, since the host tries again. Both seats live on."""
     timing = [*SELDOM, "-m", 200, "-r", 1]
     with seated(bench, "H1", "-p", 5, *timing) as seat, seated(bench, "H2", "-p", 3, *timing) as other:
         is_up = seat.settles() and until(lambda: other.state() == "standby") is not None
         bench.check(is_up, "a seat is master, and another one stands by")
         text = held(bench, "asked", "H3")
-        asks = (["PR", "--src-to-dst", "1:2"], ["NR"], ["PIR"], ["-g"], ["-m"], ["-c"], ["SR"], ["-s"])
+        asks = (["PR", "--src-to-dst", "1:2"], ["NR"], ["PIR"], ["-g"], ["-m"], ["SR"], ["-s"])
         for words in asks:
             began = time.monotonic()
             status = bench.run("saquery", *words, simulated=True, seat="H3")
@@ -515,8 +515,9 @@ def hosts_refused(bench: Bench) -> None:
                 status == 5 and "Query result returned 0x000c" in bench.said and took < 1,
                 f"saquery {' '.join(words)} is refused after {took:.2f} s: {bench.said.strip()}",
             )
+        bench.check(bench.run("saquery", "-c", simulated=True, seat="H3") == 0, "saquery -c tells what the class has")
         status = bench.record("-g", 1, "-n", 1, "-L", "asked.lanes", "-S", "asked.reports", seat="H3")
-        bench.check(status == 1 and "gives no paths" in bench.said, f"record --levels asks once: {bench.said.strip()}")
+        bench.check(status == 0 and "(0 sent again)" in bench.said, f"record --levels has paths: {bench.said.strip()}")
         lid_of = {guid: int(lid) for lid, guid in re.findall(r"^lid (\d+) (\w+)/1$", text, re.M)}
         third, second = (lid_of[f"{bench.fabric.guid(host):016x}"] for host in ("H3", "H2"))
         bench.run("ibportstate", third, 1, "smlid", second, simulated=True, seat="H4")
@@ -526,7 +527,9 @@ def hosts_refused(bench: Bench) -> None:
         bench.check(until(lambda: seat.status()["sweep"]["count"] > 2) is not None, "the master sweeps still")
         until(lambda: seat.settles(), 10)
         counts = [it.status()["packets"]["hosts_refused"] for it in (seat, other)]
-        bench.check(counts == [len(asks) + 1, 0], f"queries that were refused: {counts}")
+        bench.check(counts == [len(asks), 0], f"queries that were refused: {counts}")
+        counts.append(seat.status()["packets"]["hosts_answered"])
+        bench.check(counts[2] > 100, f"and that were answered: {counts[2]}")
         bench.check(seat.count("is refused: LID") == counts[0], "each is in the log")
         bench.check(seat.end() == 0 and other.end() == 0, "both end by SIGTERM: status 0")
 

@@ -1,12 +1,14 @@
 /*
- * Requests of hosts for subnet administration (SA). A seat is none. As master it says so at once, as OpenSM refuses, so
- * that hosts do not wait for an answer. Otherwise it is silent: hosts try again, and then ask the master.
+ * Requests of hosts for subnet administration (SA). As master, the process answers them. If it has no answer, because a
+ * sweep or a writing runs, the seat is silent where a later answer may be another one: hosts try again. All else it
+ * refuses at once, so that hosts do not wait. A seat that is not master is silent: hosts then ask the master.
  */
 #include <string.h>
 #include <infiniband/umad.h>
 #include "seat.h"
 
 enum { CLASS_VERSION = 2, SA_KEY = 36, OFFSET = 44, RMPP_FLAGS = 26, NOT_SUPPORTED = 0x000c };
+enum { CLASS_PORT_INFO = 0x01, PATH_RECORD = 0x35 };
 #define Q_KEY 0x80010000	/* of queue pair 1, to which answers go */
 
 static int agent = -1;
@@ -40,22 +42,62 @@ static void make_refusal(uint8_t *packet)
 		put(packet + OFFSET, 2, 0);
 }
 
-void refuse(int umad, uint8_t *buffer)
+/* Asks the process. If it has an answer, puts that in the place of the request, and returns 1. */
+static int is_answered(uint8_t *packet, unsigned lid)
+{
+	char hex[2 * PACKET + 1], word[2 * PACKET + 32];
+	const char *told;
+
+	write_packet(packet, hex);
+	snprintf(word, sizeof word, "sa %s from %u", hex, lid);
+	told = shown(word);
+	if (strncmp(told, "sa ", 3))
+		return 0;
+	read_packet(told + 3, packet);
+	return 1;
+}
+
+/* Returns whether the process answers such requests, sooner or later. */
+static int may_be_answered(const uint8_t *packet)
+{
+	unsigned attribute = get(packet + 16, 2);
+
+	return packet[3] == GET && (attribute == CLASS_PORT_INFO || attribute == PATH_RECORD);
+}
+
+/* Says once, or with --verbose each time, that a host is refused. */
+static void note_refusal(const uint8_t *packet, unsigned lid)
+{
+	static int is_said;
+
+	if (!is_said || options.verbose)
+		note(INFO, "a host asks for what the subnet administration does not have, and is refused: LID %u, "
+		     "attribute 0x%04x", lid, (unsigned) get(packet + 16, 2));
+	is_said = 1;
+}
+
+void administer(int umad, uint8_t *buffer)
 {
 	static uint8_t answer[512];
-	static int is_said;
-	const ib_mad_addr_t *host = umad_get_mad_addr(buffer);
+	const ib_mad_addr_t host = *umad_get_mad_addr(buffer);
 	uint8_t *packet = umad_get_mad(answer);
+	int is_refused;
 
 	memcpy(packet, umad_get_mad(buffer), PACKET);
 	if (packet[3] & RESPONSE || seat.dry_run || !is_master())
 		return;
-	if (!is_said || options.verbose)
-		note(INFO, "a host asks for a subnet administration, and is refused: LID %u, attribute 0x%04x",
-		     ntohs(host->lid), (unsigned) get(packet + 16, 2));
-	is_said = 1;
-	make_refusal(packet);
-	umad_set_addr(answer, ntohs(host->lid), ntohl(host->qpn), host->sl, (int) Q_KEY);
-	umad_set_pkey(answer, host->pkey_index);
-	carried.hosts_refused += umad_send(umad, agent, answer, PACKET, 0, 0) >= 0;
+	if (!is_answered(packet, ntohs(host.lid))) {
+		if (may_be_answered(packet))
+			return;
+		make_refusal(packet);
+	}
+	is_refused = get(packet + 4, 2) == NOT_SUPPORTED;
+	if (is_refused)
+		note_refusal(packet, ntohs(host.lid));
+	umad_set_addr(answer, ntohs(host.lid), ntohl(host.qpn), host.sl, (int) Q_KEY);
+	umad_set_pkey(answer, host.pkey_index);
+	if (umad_send(umad, agent, answer, PACKET, 0, 0) < 0)
+		return;
+	carried.hosts_answered += !is_refused;
+	carried.hosts_refused += is_refused;
 }

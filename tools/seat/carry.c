@@ -241,11 +241,9 @@ static int place_of(const uint8_t *packet)
 	return -1;
 }
 
-/* Tells the process of a received packet. */
-static void give(const uint8_t *packet, unsigned lid)
+void write_packet(const uint8_t *packet, char *hex)
 {
 	static const char digits[] = "0123456789abcdef";
-	char hex[2 * PACKET + 1];
 	int i;
 
 	for (i = 0; i < PACKET; i++) {
@@ -253,6 +251,14 @@ static void give(const uint8_t *packet, unsigned lid)
 		hex[2 * i + 1] = digits[packet[i] & 15];
 	}
 	hex[2 * PACKET] = 0;
+}
+
+/* Tells the process of a received packet. */
+static void give(const uint8_t *packet, unsigned lid)
+{
+	char hex[2 * PACKET + 1];
+
+	write_packet(packet, hex);
 	tell("packet %s from %u", hex, is_directed(packet) ? NO_LID : lid);
 }
 
@@ -365,7 +371,7 @@ static int receive(int wait_ms)
 	fault = umad_recv(umad, buffer, &length, wait_ms);
 	if (fault >= 0) {
 		if (((uint8_t *) umad_get_mad(buffer))[1] == ADMINISTRATION_CLASS)
-			refuse(umad, buffer);
+			administer(umad, buffer);
 		else
 			sort_in(umad_get_mad(buffer), ntohs(umad_get_mad_addr(buffer)->lid), umad_status(buffer));
 		return 1;

@@ -21,7 +21,7 @@ struct seat_options {
 /* Counts of what was carried since the start. */
 struct carried {
 	unsigned long sent, again, answered, given_up, late, requests, traps, repressed, pointers;
-	unsigned long sets, hosts_refused;
+	unsigned long sets, hosts_answered, hosts_refused;
 };
 
 extern struct seat_options seat;
@@ -78,6 +78,8 @@ void be_no_manager(void);
 void announce_manager(void);
 /* Waits, and drops what comes, until no request of an earlier process can be answered any more. */
 void let_pass(void);
+/* Writes a packet as hex digits, 2 * PACKET of them, and ends the text. */
+void write_packet(const uint8_t *packet, char *hex);
 /* Sends a packet that the process printed. */
 void send_packet(const struct packet *packet);
 /* Receives for `wait_ms` at most, and passes on what comes. */
@@ -96,8 +98,8 @@ void note_silent(const uint8_t *packet);
 /* Takes requests for subnet administration at a port. Returns a number less than 0 if another process has them. */
 int open_administration(int umad);
 void close_administration(int umad);
-/* As master, refuses a received request. */
-void refuse(int umad, uint8_t *buffer);
+/* As master, sends the process's answer to a received request, or refuses it. */
+void administer(int umad, uint8_t *buffer);
 
 /* notes.c: what the process says that it did. */
 /* Begins anew, for a new process. Returns the generation above which it numbers its sweeps. */

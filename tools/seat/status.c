@@ -45,9 +45,10 @@ static void print_counts(FILE *file)
 {
 	fprintf(file, " \"packets\": {\"sent\": %lu, \"sent_again\": %lu, \"answered\": %lu, \"given_up\": %lu, "
 		"\"late\": %lu, \"asked_by_others\": %lu, \"traps\": %lu, \"repressed\": %lu, \"pointers_set\": %lu, "
-		"\"sets\": %lu, \"hosts_refused\": %lu}\n",
+		"\"sets\": %lu, \"hosts_answered\": %lu, \"hosts_refused\": %lu}\n",
 		carried.sent, carried.again, carried.answered, carried.given_up, carried.late, carried.requests,
-		carried.traps, carried.repressed, carried.pointers, carried.sets, carried.hosts_refused);
+		carried.traps, carried.repressed, carried.pointers, carried.sets, carried.hosts_answered,
+		carried.hosts_refused);
 }
 
 static void print_status(FILE *file, const struct standing *status)
