@@ -1,3 +1,4 @@
 pub mod serve
 pub mod managed
+pub mod wakes
 pub mod live_steps

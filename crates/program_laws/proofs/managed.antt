@@ -1,4 +1,13 @@
+pub mod Calm
 pub mod Example
 pub mod Going
+pub mod Keeping
 pub mod Managed
 pub mod Moves
+pub mod Newest
+pub mod OneSweeps
+pub mod Outcomes
+pub mod Pinged
+pub mod Staged
+pub mod Steps
+pub mod Turns

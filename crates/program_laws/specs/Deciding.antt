@@ -19,6 +19,16 @@ pub record Deciding : Type 0 where
   pub acting : Acting
   pub printed : List Outgoing
 
+-- the manager of `w` decides by itself, and has decided nothing yet
+abbrev pub deciding_at : Managing → Timing → Limits → ℕ → Deciding
+deciding_at w timing limits newest =
+    record {
+      scene = w.scene;
+      seat = w.seat;
+      acting = new_acting w.manager timing limits newest;
+      printed = [];
+    }
+
 -- an event: something happens on the fabric (`Around`); the manager is told something that is no packet (`Tell`); a
 -- packet that was handed up at its seat is given to it, perhaps again (`Hear`, by index); a packet that was printed is
 -- sent from its seat, perhaps again (`Send`, by index)
@@ -109,13 +119,8 @@ DecidingIsManaging =
     (w : Managing) (d : Deciding) (events : List DecidingEvent) → StandsFor w d → AllByRecursion (CanDecide d.seat) events
     → LeadsTo w (after_deciding_events events d)
 
--- a manager that has decided nothing yet, for which the manager of `w` stands
+-- the manager of `w` stands for one that decides by itself and has decided nothing yet
 abbrev pub NewOnesStand : Type 0
 NewOnesStand =
     (w : Managing) (timing : Timing) (limits : Limits) (newest : ℕ) → newest < 2 ^ 32
-    → StandsFor w (record {
-      scene = w.scene;
-      seat = w.seat;
-      acting = new_acting w.manager timing limits newest;
-      printed = [];
-    })
+    → StandsFor w (deciding_at w timing limits newest)

@@ -4,9 +4,15 @@ pub mod LivePings
 pub mod Says
 pub mod ServeLaws
 pub mod Told
+pub mod AlwaysAsks
 pub mod Deciding
-pub mod DecidingExample
+pub mod ManagedEnds
+pub mod SweepTime
+pub mod Wakes
+pub mod WritingTime
 pub mod Between
 pub mod LiveStep
 pub mod OwnSets
 pub mod StepPlan
+pub mod ManagedWritings
+pub mod ManagedPings

@@ -2,4 +2,5 @@
 
 pub mod live_steps;
 pub mod managed;
+pub mod managed_writings;
 pub mod serve;

@@ -1,12 +1,13 @@
 -- A manager that decides by itself and brings a subnet up: that of `some_process_serves`, told packets and the time.
 use Rattle.std.proofs.Common.{◌≡◌, ◌≢◌, ℕ, Bool, true, false, List, [], ◌∷◌, ◌++◌}
 use Rattle.std.proofs.Common.{refl, sym, ap, ◌∙◌, subst, arith}
-use Rattle.std.specs.Prelude.{None, Some, Option, is_none, max, if◌then◌else◌, slice_get, ◌+◌}
+use Rattle.std.proofs.lemmas.Bool.{and_parts}
+use Rattle.std.specs.Prelude.{None, Some, Option, is_none, max, not, if◌then◌else◌, slice_get, ◌+◌, ◌&&◌}
 use Rattle.std.specs.List.{AllByRecursion, list_all}
 use Rattle.fabric_model.specs.declared.cable.NodePort.{NodePort}
 use Rattle.fabric_model.specs.Cables.{is_same_port}
 use Rattle.smp_bytes.specs.Field.{with_bytes}
-use Rattle.fact_store.specs.View.{Facts, no_facts}
+use Rattle.fact_store.specs.View.{Facts, cells_of, no_facts}
 use Rattle.fact_store.proofs.Held.{raised_none}
 use Rattle.node_agents.specs.Agent.{fresh_agent}
 use Rattle.node_agents.specs.Answers.{after_answer, get_of, set_of}
@@ -22,11 +23,10 @@ use Rattle.fabric_sim.specs.Changes.{after_inject, cabled_at, after_lose, after_
 use Rattle.fabric_sim.specs.Delivery.{after_deliver}
 use Rattle.fabric_sim.specs.PacketOutcome.{outcome_of}
 use Rattle.sm_state.specs.declared.conduct.Conduct.TheVariants.{Live}
-use Rattle.sm_manager.specs.Manager.{Manager, after_begin_sweep, begin_fault, new_manager}
+use Rattle.sm_manager.specs.Manager.{Manager, after_begin_sweep, begin_fault, emptied, new_manager}
 use Rattle.sm_manager.specs.PlanFaults.{plan_fault}
-use Rattle.sm_manager.specs.Writing.{after_write_steps, begun_with, is_written}
+use Rattle.sm_manager.specs.Writing.{after_write_steps, begun_with, is_written, phases_by}
 use Rattle.sm_manager.specs.declared.fault.ManagerFault.{ManagerFault}
-use Rattle.sm_state.specs.declared.state.SmState.TheVariants.{Master}
 use Rattle.sm_policy.specs.declared.timing.Timing.{Timing}
 use Rattle.request_window.specs.declared.limits.Limits.{Limits}
 use Rattle.acting_manager.specs.Acting.{Acting, caught_up, new_acting, noted}
@@ -51,29 +51,34 @@ use Rattle.acting_manager.specs.Working.Told.{Time}
 use Rattle.manager_laws.specs.Scene.{Handed, Deliver, Lose, Repeat, Send as SendFrom, Emit}
 use Rattle.manager_laws.specs.Managing.{Managing, Starts}
 use Rattle.manager_laws.proofs.Lists.{all_append, all_tested}
-use Rattle.manager_laws.proofs.Computed.{in_pairs, told_by_agents}
-use Rattle.manager_laws.proofs.NewManagers.{HasSwept, cells_by, known, may_begin, may_write, new_at, new_starts, phases_so, phases_then, sweeper}
+use Rattle.manager_laws.specs.Sets.{IsOwnSet}
+use Rattle.manager_laws.specs.Written.{own_sets, plan_at}
+use Rattle.manager_laws.proofs.Computed.{delivery_keeps, in_pairs, is_kept, sweep_in, told_by_agents}
+use Rattle.manager_laws.proofs.NewManagers.{HasSwept, by_known, cells_by, known, may_begin, may_write, new_at, new_starts, phases_so}
+use Rattle.manager_laws.proofs.NewManagers.{phases_then, sweep_is, sweeper}
 use Rattle.manager_laws.proofs.Generations.{nothing_newest}
 use Rattle.manager_laws.proofs.BringUpEvents as bring_up
 use Rattle.manager_laws.proofs.ExampleFabric.{bare, distinct_by, is_bare, port}
 use Rattle.program_laws.specs.Deciding.{Around, CanDecide, Deciding, DecidingEvent, Hear, Send, Tell, after_deciding_event}
-use Rattle.program_laws.specs.Deciding.{after_deciding_events, hearing_at}
-use Rattle.program_laws.specs.DecidingExample.{SomeManagerDecides, deciding_at}
+use Rattle.program_laws.specs.Deciding.{after_deciding_events, deciding_at, hearing_at}
+use Rattle.program_laws.specs.ManagedPings.{AllKeepManaged, BringsUpManaged, KeepsManaged, SomeManagerDecides, managed_at_writing}
+use Rattle.program_laws.specs.ManagedWritings.{begins_writing, does_write, managing_of}
+use Rattle.program_laws.proofs.managed.Calm.{caught, sends as out_of}
 
 -- the manager, and what it begins with ------------------------------------------------------------------------
 
-abbrev timing : Timing
+abbrev pub timing : Timing
 timing = record { every = 10000; poll = 1000; is_strict = false }
 
 -- one request is out at a time
-abbrev limits : Limits
+abbrev pub limits : Limits
 limits = record { outstanding = 1; tries = 4; timeout = 500 }
 
-abbrev around : Managing
+abbrev pub around : Managing
 around = new_at 17 (Live 1) in_pairs bare 0
 
-abbrev beginning : Deciding
-beginning = deciding_at around timing limits
+abbrev pub beginning : Deciding
+beginning = deciding_at around timing limits 0
 
 abbrev starts : Starts around
 unfolding cabled_at fresh_agent
@@ -103,10 +108,10 @@ asked fault m =
     })
 
 -- as it is when its sweep has begun
-abbrev sweeping : Deciding
+abbrev pub sweeping : Deciding
 sweeping = printed_by beginning (asked None (sweeper 17 (Live 1) in_pairs 1))
 
-begun : after_deciding_event beginning (Tell 1 Time) ≡ sweeping
+pub begun : after_deciding_event beginning (Tell 1 Time) ≡ sweeping
 begun =
     ap (λ (f : Facts). printed_by beginning (swept_with (begin_fault (me f)) (to_sweep f)))
     (sym (raised_none 1 1 [] no_facts refl (omega arith)))
@@ -120,12 +125,12 @@ abbrev hears : ℕ → DecidingEvent
 hears which = Hear 2 which
 
 -- all that happens until the last answer is there
-abbrev between : List DecidingEvent
+abbrev pub between : List DecidingEvent
 between =
     bring_up.to_agents Around sends Send hears
     ++ bring_up.answers_it Around sends Send hears ∷ bring_up.deliveries Around 2 22
 
-abbrev swept : Deciding
+abbrev pub swept : Deciding
 swept = after_deciding_events between sweeping
 
 -- it judges and writes ----------------------------------------------------------------------------------------------
@@ -136,12 +141,12 @@ replies = told_by_agents ++ [] ∷ []
 
 module _ (d : Deciding) where
   -- whether there is such a packet, handed up at the seat
-  abbrev is_there : Option Handed → Bool
+  abbrev pub is_there : Option Handed → Bool
   is_there None = false
   is_there (Some h) = is_same_port h.at d.seat
 
   -- as it is when it has taken the packet; as before if there is none
-  abbrev told_with : Option Handed → Acting
+  abbrev pub told_with : Option Handed → Acting
   told_with None = d.acting
   told_with (Some h) = heard h.packet.bytes (Some h.packet.slid) (told_time 2 d.acting)
 
@@ -161,8 +166,8 @@ after_sweep a =
     }
 
 -- its sweep is over, and it judges its plan
-record Judges (a : Acting) : Type 0 where
-  idle : is_idle a.window ≡ true
+pub record Judges (a : Acting) : Type 0 where
+  pub idle : is_idle a.window ≡ true
   stays : a.is_leaving ≡ false
   is_sweep : a.policy.activity ≡ Sweeps
   judges : (sweeps.swept a.time (is_whole a.manager) (rival_seen a.manager) a.policy).act ≡ Judge
@@ -175,14 +180,14 @@ acted_so a h =
     ∙ ap (λ (what : Act). caught_up (done_by what (after_sweep a))) h.judges
 
 -- as it is when it has taken the last answer, before it decides
-abbrev over : Acting
+abbrev pub over : Acting
 over = caught_up (all_overdue (stopped (caught_up (told_with swept (slice_get swept.scene.handed 11)))))
 
-judges : Judges over
+pub judges : Judges over
 unfolding cabled_at fresh_agent after_inject after_lose after_repeat after_deliver outcome_of after_answer get_of set_of changed_port with_bytes
 judges = record { idle = refl; stays = refl; is_sweep = refl; judges = refl }
 
-last_there : is_there swept (slice_get swept.scene.handed 11) ≡ true
+pub last_there : is_there swept (slice_get swept.scene.handed 11) ≡ true
 unfolding cabled_at fresh_agent after_inject after_lose after_repeat after_deliver outcome_of after_answer get_of set_of changed_port with_bytes
 last_there = refl
 
@@ -228,7 +233,7 @@ module _ (a : Acting) where
       noted (if is_none fault then Writes New else Refused Write) (record a {
         manager = if is_none fault then after_write_steps a.manager else a.manager;
         policy = judging.writing a.time (is_none fault) a.policy;
-        kept = Some plan;
+        kept = if is_none fault then Some plan else a.kept;
         is_void = false;
       })
 
@@ -236,10 +241,13 @@ module _ (a : Acting) where
   written_so h =
       ap asked_to_write (may_write in_pairs replies a.manager h) ∙ ap writing_so (phases_so in_pairs replies a.manager h)
 
+-- as it is when its writing was asked for
+abbrev pub to_write : Acting
+to_write = writing_so (record to_judge { policy = (anew to_judge.policy).policy }) (phases_then in_pairs replies to_judge.manager)
+
 -- as it is when its writing has begun
-abbrev writing : Deciding
-writing =
-    printed_by swept (writing_so (record to_judge { policy = (anew to_judge.policy).policy }) (phases_then in_pairs replies to_judge.manager))
+abbrev pub writing : Deciding
+writing = printed_by swept to_write
 
 heard_last : after_deciding_event swept (Hear 2 11) ≡ printed_by swept (judging_of (planned to_judge.manager) to_judge)
 heard_last =
@@ -249,7 +257,7 @@ kept_none : to_judge.kept ≡ None
 unfolding cabled_at fresh_agent after_inject after_lose after_repeat after_deliver outcome_of after_answer get_of set_of changed_port with_bytes
 kept_none = refl
 
-writes : after_deciding_event swept (Hear 2 11) ≡ writing
+pub writes : after_deciding_event swept (Hear 2 11) ≡ writing
 writes =
     heard_last
     ∙ ap (λ (p : Option PlanValue). printed_by swept (judging_of p to_judge)) (plan_is to_judge.manager has_swept)
@@ -266,24 +274,53 @@ is_written_then : is_written written.acting.manager ≡ true
 unfolding cabled_at fresh_agent after_inject after_lose after_repeat after_deliver outcome_of after_answer get_of set_of changed_port with_bytes
 is_written_then = refl
 
-is_master_then : written.acting.manager.standing.state ≡ Master
+-- its Sets --------------------------------------------------------------------------------------------------------
+
+abbrev phases : List Phase
+phases = phases_then in_pairs replies to_judge.manager
+
+-- it begins no other writing, and each Set that an agent takes is one of these phases: by a test
+abbrev event_kept : Deciding → DecidingEvent → Bool
+event_kept d (Around (Deliver serial)) = is_kept plan (fabric_of bare) (port 0 1) phases d.scene.fabric serial
+event_kept d (Around event) = false
+event_kept d (Send which) = true
+event_kept d event = not (begins_writing d event)
+
+abbrev are_kept : List DecidingEvent → Deciding → Bool
+are_kept [] d = true
+are_kept (event ∷ events) d = event_kept d event && are_kept events (after_deciding_event d event)
+
+kept : are_kept after writing ≡ true
 unfolding cabled_at fresh_agent after_inject after_lose after_repeat after_deliver outcome_of after_answer get_of set_of changed_port with_bytes
-is_master_then = refl
+kept = refl
+
+-- each of them keeps the plan by these phases
+abbrev KeepBy : PlanValue → List Phase → Type 0
+KeepBy its_plan steps = AllKeepManaged its_plan (IsOwnSet (fabric_of bare) (port 0 1) steps) after writing
+
+not_true : (b : Bool) → not b ≡ true → b ≡ false
+not_true true e = cc
+not_true false e = refl
+
+event_keeps : (d : Deciding) (event : DecidingEvent) → event_kept d event ≡ true
+    → KeepsManaged plan (IsOwnSet (fabric_of bare) (port 0 1) phases) d event
+event_keeps d (Around (Deliver serial)) e = delivery_keeps plan (fabric_of bare) (port 0 1) phases d.scene.fabric serial e
+event_keeps d (Around (Lose serial)) e = tt
+event_keeps d (Around (Repeat serial)) e = tt
+event_keeps d (Around (SendFrom from sending)) e = tt
+event_keeps d (Around (Emit at sending)) e = tt
+event_keeps d (Send which) e = tt
+event_keeps d (Tell time what) e = not_true (begins_writing d (Tell time what)) e
+event_keeps d (Hear time which) e = not_true (begins_writing d (Hear time which)) e
+
+all_keep : (events : List DecidingEvent) (d : Deciding) → are_kept events d ≡ true
+    → AllKeepManaged plan (IsOwnSet (fabric_of bare) (port 0 1) phases) events d
+all_keep [] d e = tt
+all_keep (event ∷ events) d e =
+    let parts = and_parts (event_kept d event) (are_kept events (after_deciding_event d event)) e in
+    (event_keeps d event parts.0, all_keep events (after_deciding_event d event) parts.1)
 
 -- the run ---------------------------------------------------------------------------------------------------------
-
-abbrev events : List DecidingEvent
-events = Tell 1 Time ∷ (between ++ Hear 2 11 ∷ after)
-
-in_turn : (events later : List DecidingEvent) (d : Deciding)
-    → after_deciding_events (events ++ later) d ≡ after_deciding_events later (after_deciding_events events d)
-in_turn [] later d = refl
-in_turn (event ∷ events) later d = in_turn events later (after_deciding_event d event)
-
-ends : after_deciding_events events beginning ≡ written
-ends =
-    ap (after_deciding_events (between ++ Hear 2 11 ∷ after)) begun ∙ in_turn between (Hear 2 11 ∷ after) sweeping
-    ∙ ap (after_deciding_events after) writes
 
 -- whether the event is possible at any seat
 abbrev is_plain : DecidingEvent → Bool
@@ -315,21 +352,66 @@ between_can =
     elsewhere : port 2 1 ≢ port 0 1
     elsewhere e = let same : 2 ≡ 0 = ap (λ (p : NodePort). p.node) e in omega (arith, same)
 
-can_decide : AllByRecursion (CanDecide (port 0 1)) events
-can_decide =
-    (tt, all_append (CanDecide (port 0 1)) between (Hear 2 11 ∷ after) between_can (all_can (Hear 2 11 ∷ after) refl))
+abbrev before : List DecidingEvent
+before = Tell 1 Time ∷ between
+
+swept_then : after_deciding_events before beginning ≡ swept
+swept_then = ap (after_deciding_events between) begun
+
+writing_then : managed_at_writing beginning before (Hear 2 11) ≡ writing
+writing_then = ap (λ (d : Deciding). after_deciding_event d (Hear 2 11)) swept_then ∙ writes
+
+finished : (c : Acting) → (sent (caught_up c)).manager ≡ emptied c.manager
+finished c = (out_of (caught_up c)).manager ∙ (caught c).manager
+
+its_manager : writing.acting.manager ≡ emptied (begun_with to_judge.manager phases)
+its_manager = finished to_write
+
+rested : does_write swept ≡ false
+unfolding cabled_at fresh_agent after_inject after_lose after_repeat after_deliver outcome_of after_answer get_of set_of changed_port with_bytes
+rested = refl
+
+now_writes : does_write writing ≡ true
+unfolding cabled_at fresh_agent after_inject after_lose after_repeat after_deliver outcome_of after_answer get_of set_of changed_port with_bytes
+now_writes = refl
+
+begins_one : begins_writing swept (Hear 2 11) ≡ true
+begins_one = (λ i. not (rested i) && does_write (writes i)) ∙ now_writes
+
+keeps : AllKeepManaged (plan_at (managing_of writing)) (own_sets (managing_of beginning) (managing_of writing)) after writing
+keeps =
+    subst (λ (x : Manager). KeepBy (plan_of x.planning.rule x.planning.lmc (cells_of x.store)) (phases_by x x.sweep)) (sym its_manager)
+    (by_known in_pairs replies to_judge.manager has_swept KeepBy (all_keep after writing kept))
+
+brings_up : BringsUpManaged beginning before (Hear 2 11) after
+brings_up =
+    record {
+      new = record {
+        port_guid = 17;
+        port = 1;
+        priority = 0;
+        conduct = Live 1;
+        planning = in_pairs;
+        timing = timing;
+        limits = limits;
+        newest = 0;
+        few = omega arith;
+        acting = refl;
+        printed = refl;
+      };
+      starts = starts;
+      before_can = (tt, between_can);
+      begins_can = tt;
+      after_can = all_can after refl;
+      writes = subst (λ (d : Deciding). begins_writing d (Hear 2 11) ≡ true) (sym swept_then) begins_one;
+      sweep = sweep_in to_judge.manager.sweep;
+      is_last = ap (λ (d : Deciding). d.acting.manager.sweep) writing_then ∙ ap (λ (x : Manager). x.sweep) its_manager
+          ∙ sweep_is in_pairs replies to_judge.manager has_swept;
+      whole = has_swept.whole;
+      keep = subst (λ (d : Deciding). AllKeepManaged (plan_at (managing_of d)) (own_sets (managing_of beginning) (managing_of d)) after d)
+          (sym writing_then) keeps;
+      written = ap (λ (d : Deciding). is_written (after_deciding_events after d).acting.manager) writing_then ∙ is_written_then;
+    }
 
 pub some_manager_decides : SomeManagerDecides
-some_manager_decides =
-    record {
-      who = record { port_guid = 17; port = 1; priority = 0; conduct = Live 1; planning = in_pairs };
-      managing = around;
-      new = refl;
-      starts = starts;
-      timing = timing;
-      limits = limits;
-      events = events;
-      can_decide = can_decide;
-      is_master = subst (λ (d : Deciding). d.acting.manager.standing.state ≡ Master) (sym ends) is_master_then;
-      is_written = subst (λ (d : Deciding). is_written d.acting.manager ≡ true) (sym ends) is_written_then;
-    }
+some_manager_decides = record { deciding = beginning; before = before; begins = Hear 2 11; after = after; brings_up = brings_up }

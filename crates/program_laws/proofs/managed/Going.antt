@@ -1,46 +1,34 @@
 -- What a manager that decides by itself does is to make calls of its manager, to take packets from it, and to move them.
-use Rattle.std.proofs.Common.{◌≡◌, ◌∙◌, ◌++◌, ◌<◌, ◌^◌, ℕ, zero, suc, arith, Bool, true, false, List, [], ◌∷◌, Option, None, Some, length, not, refl, ap, subst}
-use Rattle.std.proofs.lemmas.Bool.{le-leb, lt-ltb}
+use Rattle.std.proofs.Common.{◌≡◌, ◌∙◌, ◌++◌, ◌<◌, ◌^◌, ℕ, zero, suc, Bool, true, false, List, [], ◌∷◌, Option, None, Some, length, not, refl, ap, subst}
 use Rattle.std.specs.List.{AllByRecursion}
-use Rattle.std.specs.Prelude.{◌&&◌, if◌then◌else◌, is_none, option_to_list}
+use Rattle.std.specs.Prelude.{if◌then◌else◌, is_none, option_to_list}
 use Rattle.smp_bytes.specs.Field.{number_in}
 use Rattle.smp_bytes.specs.Packet.{fault_of, is_response, transaction_id}
 use Rattle.smp_bytes.specs.declared.smp_fault.SmpFault.{SmpFault}
-use Rattle.reply_facts.specs.Sighting.{is_generation}
-use Rattle.lft_blocks.specs.Plan.{PlanValue}
 use Rattle.sm_manager.specs.CallLists.{Call, after_call, after_calls}
 use Rattle.sm_manager.specs.Manager.{Manager, after_take_outgoing, emptied}
 use Rattle.sm_manager.specs.Packets.{after_packet}
-use Rattle.sm_manager.specs.Writing.{is_written}
 use Rattle.sm_manager.specs.declared.outgoing.Outgoing.{Outgoing}
-use Rattle.sm_state.specs.Standing.{one_more}
-use Rattle.sm_policy.specs.Judged.{cause_of, judged, wrote}
-use Rattle.sm_policy.specs.Policy.{Decision, is_sweeping}
-use Rattle.sm_policy.specs.Resting.{rested}
-use Rattle.sm_policy.specs.Swept.{swept}
-use Rattle.sm_policy.specs.declared.act.Act.{Act}
-use Rattle.sm_policy.specs.declared.act.Act.TheVariants as act
-use Rattle.sm_policy.specs.declared.activity.Activity.{Activity}
-use Rattle.sm_policy.specs.declared.write_cause.WriteCause.{WriteCause}
-use Rattle.sm_policy.specs.declared.activity.Activity.TheVariants as activity
+use Rattle.sm_policy.specs.Policy.{is_sweeping}
 use Rattle.request_window.specs.Window.{after_answer, after_drop_out, after_drop_queued, after_overdue, after_send, answers as is_answered, late_in}
 use Rattle.request_window.specs.declared.late.Late.{Late}
 use Rattle.request_window.specs.declared.late.Late.TheVariants.{Again, GivenUp}
 use Rattle.request_window.specs.declared.out.Out.{Out}
-use Rattle.acting_manager.specs.Acting.{Acting, caught_up, collected, is_request, looked, noted}
-use Rattle.acting_manager.specs.Acts.{about_plan, acted, acted_in, decided, done_by, is_whole, left_in, noted_unplanned, rival_seen}
+use Rattle.acting_manager.specs.Acting.{Acting, caught_up, collected, is_request, looked}
 use Rattle.acting_manager.specs.Heard.{answered, asked, handed_in, heard_by, requested, responded}
-use Rattle.acting_manager.specs.Planned.{comparison_of, planned}
-use Rattle.acting_manager.specs.declared.note.Note.TheVariants.{Swept, Wrote}
-use Rattle.acting_manager.specs.Working.{Told, acted_if_idle, after_told, all_overdue, dropped, dropped_one, late_done, leaving, one_overdue, one_sent}
-use Rattle.acting_manager.specs.Working.{out_dropped, queued_dropped, repeated, sent, sent_one, stopped, taken as taken_in, told_time, worked}
+use Rattle.acting_manager.specs.Working.{Told, all_overdue, dropped, dropped_one, late_done, leaving, one_overdue, one_sent}
+use Rattle.acting_manager.specs.Working.{out_dropped, queued_dropped, repeated, sent, sent_one, stopped, taken as taken_in, told_time}
 use Rattle.program_laws.specs.Deciding.{HoldsOnly}
 use Rattle.program_laws.proofs.managed.Moves.{IsGivenOf, IsLateOf, both, drops_out, drops_queued, filtered, first_of, late_ones, later_of, sends_next, without_answered}
 
 -- either case of a condition
-cases : {A : Type 0} (b : Bool) (x y : A) (P : A → Type 1) → P x → P y → P (if b then x else y)
+pub cases : {A : Type 0} (b : Bool) (x y : A) (P : A → Type 1) → P x → P y → P (if b then x else y)
 cases true x y P p q = p
 cases false x y P p q = q
+
+-- a manager that was told something as it decides: it has given up what is to be given up, and taken what was queued
+abbrev pub readied : Acting → Acting
+readied a = caught_up (all_overdue (stopped (caught_up a)))
 
 -- calls ------------------------------------------------------------------------------------------
 
@@ -50,11 +38,13 @@ taken_by [] m = []
 taken_by (Call.Take ∷ calls) m = option_to_list (after_take_outgoing m).packet ++ taken_by calls (after_call m Call.Take)
 taken_by (call ∷ calls) m = taken_by calls (after_call m call)
 
--- the call is one that a manager makes which is told `what`: it takes in no packet but that, and no view; a floor is a
--- generation
+-- the call is one that a manager makes which is told `what`, until it decides: it takes in no packet but that, and no
+-- view; it begins no sweep and no writing, and raises no floor
 abbrev pub IsAllowed : Told → Call → Type 0
+IsAllowed what Call.BeginSweep = ⊥
+IsAllowed what Call.WriteSteps = ⊥
 IsAllowed what (Call.Packet bytes from) = what ≡ Told.Packet bytes from
-IsAllowed what (Call.Raise floor) = is_generation floor ≡ true
+IsAllowed what (Call.Raise floor) = ⊥
 IsAllowed what (Call.Merge floor sightings) = ⊥
 IsAllowed what call = Unit {0}
 
@@ -141,29 +131,26 @@ module _ (what : Told) where
     newest = subst (λ n. n < 2 ^ 32) newest h;
   }
 
-  same : (a b : Acting) → a.window ≡ b.window → a.ready ≡ b.ready → Keeps a b
+  pub same : (a b : Acting) → a.window ≡ b.window → a.ready ≡ b.ready → Keeps a b
   same a b window ready P held = record {
     queued = subst (λ w. AllByRecursion P w.queued) window held.queued;
     outs = subst (λ w. AllByRecursion (λ (out : Out). P out.request) w.outs) window held.outs;
     ready = subst (AllByRecursion P) ready held.ready;
   }
 
-  still : (a b : Acting) → a.manager ≡ b.manager → a.newest ≡ b.newest → a.window ≡ b.window → a.ready ≡ b.ready → Goes a b
+  pub still : (a b : Acting) → a.manager ≡ b.manager → a.newest ≡ b.newest → a.window ≡ b.window → a.ready ≡ b.ready → Goes a b
   still a b manager newest window ready = moves a b manager newest (same a b window ready)
 
-  raises : (a b : Acting) (call : Call) → IsAllowed what call → after_call a.manager call ≡ b.manager → b.newest < 2 ^ 32 → Keeps a b → Going what a b
-  raises a b call allowed manager newest keeps = record {
+  pub calls : (a b : Acting) (call : Call) → IsAllowed what call → after_call a.manager call ≡ b.manager → a.newest ≡ b.newest → Keeps a b → Goes a b
+  calls a b call allowed manager newest keeps h = record {
     calls = call ∷ [];
     allowed = (allowed, tt);
     are = manager;
     keeps = λ P t held. keeps P held;
-    newest = newest;
+    newest = subst (λ n. n < 2 ^ 32) newest h;
   }
 
-  calls : (a b : Acting) (call : Call) → IsAllowed what call → after_call a.manager call ≡ b.manager → a.newest ≡ b.newest → Keeps a b → Goes a b
-  calls a b call allowed manager newest keeps h = raises a b call allowed manager (subst (λ n. n < 2 ^ 32) newest h) keeps
-
-  thus : (a b c : Acting) → Goes a b → Goes b c → Goes a c
+  pub thus : (a b c : Acting) → Goes a b → Goes b c → Goes a c
   thus a b c r s h =
       let first = r h in
       let later = s first.newest in
@@ -199,7 +186,7 @@ module _ (what : Told) where
   looks : Steps looked
   looks a = cases _ _ _ (Goes a) (still a _ refl refl refl refl) (still a _ refl refl refl refl)
 
-  catches_up : Steps caught_up
+  pub catches_up : Steps caught_up
   catches_up a = thus a (collected a) (caught_up a) (collects a) (looks (collected a))
 
   repeats : (n : ℕ) (step : Acting → Acting) → Steps step → Steps (repeated n step)
@@ -244,73 +231,6 @@ module _ (what : Told) where
   hears_by : (packet : List ℕ) (from : Option ℕ) (fault : Option SmpFault) → what ≡ Told.Packet packet from → Steps (heard_by packet from fault)
   hears_by packet from (Some fault) e a = still a a refl refl refl refl
   hears_by packet from None e a = cases (is_response packet) _ _ (Goes a) (responds packet from e a) (asks packet from e a)
-
-  -- acts -----------------------------------------------------------------------------------------
-
-  writes_if : (what : Act) (cause : WriteCause) (plan : Option PlanValue) → Steps (about_plan what cause plan)
-  writes_if act.Write cause (Some plan) a = calls a _ Call.WriteSteps tt refl refl (same a _ refl refl)
-  writes_if act.Write cause None a = still a a refl refl refl refl
-  writes_if act.Settle cause plan a = calls a _ Call.Handover tt refl refl (same a _ refl refl)
-  writes_if act.Wait cause plan a = still a a refl refl refl refl
-  writes_if act.Poll cause plan a = still a a refl refl refl refl
-  writes_if act.Announce cause plan a = still a a refl refl refl refl
-  writes_if act.Sweep cause plan a = still a a refl refl refl refl
-  writes_if act.Rediscover cause plan a = still a a refl refl refl refl
-  writes_if act.HandOver cause plan a = still a a refl refl refl refl
-  writes_if act.Yield cause plan a = still a a refl refl refl refl
-  writes_if act.Judge cause plan a = still a a refl refl refl refl
-
-  notes_unplanned : (plan : Option PlanValue) (a b : Acting) → Goes (noted_unplanned plan a) b → Goes a b
-  notes_unplanned None a b s = thus a (noted_unplanned None a) b (still a _ refl refl refl refl) s
-  notes_unplanned (Some plan) a b s = s
-
-  does : (what : Act) → Steps (done_by what)
-  does act.Wait a = still a a refl refl refl refl
-  does act.Poll a = calls a _ (Call.Poll None) tt refl refl (same a _ refl refl)
-  does act.Announce a = still a _ refl refl refl refl
-  does act.Sweep a =
-      let b = record a { manager = after_call a.manager (Call.Raise (one_more a.newest)); newest = one_more a.newest } in
-      thus a b _ (λ h. raises a b (Call.Raise (one_more a.newest)) (is_next a.newest) refl (omega (arith, h)) (same a b refl refl))
-      (calls b _ Call.BeginSweep tt refl refl (same b _ refl refl))
-    where
-      is_next : (n : ℕ) → is_generation (one_more n) ≡ true
-      is_next n = λ i. le-leb 1 (one_more n) (omega arith) i && lt-ltb (one_more n) (2 ^ 32) (omega arith) i
-  does act.Rediscover a = calls a _ Call.Rediscover tt refl refl (same a _ refl refl)
-  does act.HandOver a = calls a _ Call.Handover tt refl refl (same a _ refl refl)
-  does act.Yield a = calls a _ Call.Yield tt refl refl (same a _ refl refl)
-  does act.Judge a =
-      let plan = planned a.manager in
-      let d = judged a.time (comparison_of a.kept plan) a.reads.ports a.policy in
-      let cause = cause_of (comparison_of a.kept plan) a.reads.ports a.policy in
-      let b = record (noted_unplanned plan a) { policy = d.policy } in
-      notes_unplanned plan a _ (thus (noted_unplanned plan a) b _ (still (noted_unplanned plan a) b refl refl refl refl) (writes_if d.act cause plan b))
-  does act.Write a = still a a refl refl refl refl
-  does act.Settle a = still a a refl refl refl refl
-
-  decides : (d : Decision) → Steps (decided d)
-  decides d a = let b = record a { policy = d.policy } in thus a b _ (still a b refl refl refl refl) (does d.act b)
-
-  acts_in : (what : Activity) → Steps (acted_in what)
-  acts_in activity.Rests a = decides (rested a.time a.policy) a
-  acts_in activity.Sweeps a =
-      let b = noted (Swept (is_whole a.manager)) a in
-      thus a b _ (still a b refl refl refl refl) (decides (swept a.time (is_whole a.manager) (rival_seen a.manager) a.policy) b)
-  acts_in activity.Writes a =
-      let b = noted (Wrote (is_written a.manager)) a in
-      thus a b _ (still a b refl refl refl refl) (decides (wrote a.time (is_written a.manager) a.policy) b)
-  acts_in activity.Hands a = still a _ refl refl refl refl
-
-  leaves_in : (what : Activity) → Steps (left_in what)
-  leaves_in activity.Rests a = still a a refl refl refl refl
-  leaves_in activity.Sweeps a = calls a _ Call.Yield tt refl refl (same a _ refl refl)
-  leaves_in activity.Writes a = still a a refl refl refl refl
-  leaves_in activity.Hands a = still a _ refl refl refl refl
-
-  acts : Steps acted
-  acts a = cases a.is_leaving _ _ (Goes a) (leaves_in a.policy.activity a) (acts_in a.policy.activity a)
-
-  acts_if_idle : Steps acted_if_idle
-  acts_if_idle a = cases _ _ _ (Goes a) (thus a (acted a) _ (acts a) (catches_up (acted a))) (still a a refl refl refl refl)
 
   -- requests -------------------------------------------------------------------------------------
 
@@ -389,21 +309,21 @@ module _ (what : Told) where
         ready = held.ready;
       })
 
-  sends : Steps sent
+  pub sends : Steps sent
   sends a = cases _ _ _ (Goes a) (still a a refl refl refl refl) (repeats a.window.limits.outstanding one_sent sends_once a)
 
   -- what a manager is told -------------------------------------------------------------------------
 
-  works : Steps worked
-  works a =
+  -- a manager that is told something gets ready to act
+  pub readies : (a : Acting) → Goes a (readied a)
+  readies a =
       let caught = caught_up a in
       let stop = stopped caught in
       let late = all_overdue stop in
-      let again = caught_up late in
       thus a caught _ (catches_up a) (thus caught stop _ (stops caught) (thus stop late _ (repeats (length stop.window.outs) one_overdue overdue_once stop)
-      (thus late again _ (catches_up late) (thus again (acted_if_idle again) _ (acts_if_idle again) (sends (acted_if_idle again))))))
+      (catches_up late)))
 
-  tells_time : (time : ℕ) → Steps (told_time time)
+  pub tells_time : (time : ℕ) → Steps (told_time time)
   tells_time time a = cases _ _ _ (Goes a) (still a _ refl refl refl refl) (still a _ refl refl refl refl)
 
   leaves : Steps leaving
@@ -412,14 +332,8 @@ module _ (what : Told) where
       (cases (is_sweeping a.policy.activity) _ _ (Goes a) (still a _ refl refl refl refl)
       (calls a _ Call.Yield tt refl refl (λ P held. record { queued = tt; outs = tt; ready = held.ready })))
 
-  takes : (told : Told) → what ≡ told → Steps (taken_in told)
+  pub takes : (told : Told) → what ≡ told → Steps (taken_in told)
   takes Told.Time e a = still a a refl refl refl refl
   takes (Told.Packet bytes from) e a = hears_by bytes from (fault_of bytes) e a
   takes Told.Look e a = still a _ refl refl refl refl
   takes Told.Leave e a = leaves a
-
-pub tells : (time : ℕ) (what : Told) → Steps what (after_told time what)
-tells time what a =
-    let b = told_time time a in
-    let c = taken_in what b in
-    thus what a b _ (tells_time what time a) (thus what b c _ (takes what what refl b) (works what c))

@@ -70,10 +70,10 @@ use Rattle.sm_policy.specs.declared.write_cause.WriteCause.{WriteCause}
 use Rattle.sm_policy.specs.declared.write_cause.WriteCause.TheVariants as cause
 use Rattle.sm_policy.specs.declared.ports.Ports.{Ports}
 use Rattle.acting_manager.specs.Acting.{Acting}
+use Rattle.acting_manager.specs.Administration.{administered}
 use Rattle.acting_manager.specs.Working.{wake_of}
 use Rattle.acting_manager.specs.declared.note.Note.{Note}
 use Rattle.acting_manager.specs.declared.note.Note.TheVariants as note
-use Rattle.acting_manager.specs.Administration.{administered}
 use Rattle.serve_run.specs.Decided.{act_word, after_manage, after_word, cause_text, decided, note_line, note_text, ports_text, sa_line, wake_line, wake_text}
 use Rattle.program_laws.specs.Framed.{AnswersEndOnce, EndsOnce, has_dot, is_line_end}
 
