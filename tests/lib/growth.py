@@ -12,7 +12,6 @@ import os
 import pathlib
 import re
 import shutil
-import struct
 import subprocess
 from collections.abc import Callable, Iterable, Iterator, Sequence
 
@@ -382,16 +381,6 @@ def scheduled(
     return "run", *options, topology, costs.put(f"schedule{len(costs.files)}of{hosts}", lambda: text)
 
 
-def asked_path(fabric: sample_fabrics.Fabric) -> str:
-    """Returns the line by which a host asks for the path between the ports of the first and the last adapter, by their
-    GIDs."""
-    hosts = [name for name, (kind, *_) in fabric.nodes.items() if kind == sample_fabrics.ADAPTER]
-    ends = PREFIX, fabric.guid(hosts[-1]) + 1, PREFIX, fabric.guid(hosts[0]) + 1
-    head = struct.pack(">BBBBHHQHHI", 1, 3, 2, 1, 0, 0, 1, 0x0035, 0, 0)
-    request = head + bytes(24) + struct.pack(">Q", 1 << 2 | 1 << 3) + bytes(8) + struct.pack(">QQQQ", *ends)
-    return f"sa {request.ljust(256, bytes(1)).hex()} from 7"
-
-
 def brought_up(costs: Costs, command: str, hosts: int, line: str, times: int, options: Sequence[str]) -> Words:
     """Makes the lines for a manager of six switches in two levels, with `hosts` adapters at each of the four lower
     ones: it brings the subnet up, and then gets `line` `times` times."""
@@ -400,7 +389,9 @@ def brought_up(costs: Costs, command: str, hosts: int, line: str, times: int, op
     first = costs.put("".join((*words, str(hosts))), lambda: "".join(
         f"{it}\n" for it in served_lines.bringing_up(costs.program, costs.folder, words, fabric)
     ))
-    for word, told in ("PACKET", served_lines.ASKED), ("TRAP", served_lines.TRAPPED), ("PATH", asked_path(fabric)):
+    for word, told in (
+        ("PACKET", served_lines.ASKED), ("TRAP", served_lines.TRAPPED), ("PATH", served_lines.asked_path(fabric)),
+    ):
         line = line.replace(word, told)
     text = "".join(f"{it}\n" for it in line.split("/") * times)
     return *words, "<", costs.put(f"lines{len(costs.files)}", lambda: (costs.folder / first).read_text() + text)
@@ -436,9 +427,6 @@ def from_roots(costs: Costs, switches: int) -> Words:
     """Returns the options for plans of a mesh from roots."""
     return *SPREAD, "--roots", roots(costs, switches // 10)
 
-
-# The prefix of link-local GIDs.
-PREFIX = 0xFE80000000000000
 
 # The live conduct of managers, lines by which a switch sends a trap twice, lines that a served manager answers from
 # what it has at hand, and such lines for a manager that decides by itself: a time that goes back is the last one, and

@@ -6,10 +6,10 @@ from collections.abc import Sequence
 
 import sample_fabrics
 from built_program import check
-from live_agents import Agents
+from live_agents import PORT_INFO, Agents, field
 from sample_fabrics import Fabric
 from served_lines import (
-    ASKED, ASKS, FIRST_TIME, MASTER, REPRESS, TRAPPED, WHO, first_request, managed_up, seat, tells,
+    ASKED, ASKS, FIRST_TIME, MASTER, REPRESS, TRAPPED, WHO, asked_path, first_request, managed_up, seat, tells,
 )
 from served_process import MOST, Served
 
@@ -174,6 +174,46 @@ def check_refusals(program: Program) -> None:
     check("note state master\nnote swept no\nwake 2500\n" in told[2], f"a sweep of the last generation: {told}")
     wanted = [waking("note refused sweep\n", 4500), waking("note refused sweep\n", 8500)]
     check(told[3:] == wanted, f"after the last generation: {told[3:]}")
+
+
+# The number of the rate of a link, by LinkWidthActive, LinkSpeedActive and LinkSpeedExtActive. InfiniBand Architecture
+# Specification, Volume 1: subnet administration, PathRecord.
+RATES = {
+    (1, 1, 0): 2, (16, 1, 0): 5, (2, 1, 0): 3, (4, 1, 0): 6, (8, 1, 0): 4,
+    (1, 2, 0): 5, (16, 2, 0): 3, (2, 2, 0): 6, (4, 2, 0): 7, (8, 2, 0): 8,
+    (1, 4, 0): 3, (16, 4, 0): 6, (2, 4, 0): 7, (4, 4, 0): 9, (8, 4, 0): 10,
+    (1, 4, 1): 11, (16, 4, 1): 19, (2, 4, 1): 12, (4, 4, 1): 13, (8, 4, 1): 14,
+    (1, 4, 2): 15, (16, 4, 2): 20, (2, 4, 2): 16, (4, 4, 2): 17, (8, 4, 2): 18,
+    (1, 4, 4): 20, (16, 4, 4): 16, (2, 4, 4): 17, (4, 4, 4): 21, (8, 4, 4): 22,
+    (1, 4, 8): 16, (16, 4, 8): 17, (2, 4, 8): 21, (4, 4, 8): 23, (8, 4, 8): 24,
+}
+
+
+class Linked(Agents):
+    """The agents of a fabric whose links all have one width and speed."""
+
+    link = 0, 0, 0
+
+    def told(self, name: str, came_by: int, packet: bytes) -> bytes | None:
+        data = super().told(name, came_by, packet)
+        if data is None or field(packet, 16, 2) != PORT_INFO:
+            return data
+        changed, (width, speed, extended) = bytearray(data), self.link
+        changed[31], changed[35], changed[62] = width, changed[35] & 15 | speed << 4, changed[62] & 15 | extended << 4
+        return bytes(changed)
+
+
+def check_rates(program: Program) -> None:
+    """Checks the number of the rate of each link in the path that a host is told."""
+    fabric = sample_fabrics.two_levels(1, 1, 2)
+    for link, rate in RATES.items():
+        served, agents = Served(program, seat(fabric), command="manage"), Linked(fabric, ("H1", 1))
+        agents.link = link
+        lines = managed_up(lambda line: served.ask(line.encode()).decode().splitlines(), agents)
+        told = served.ask(f"{lines[-1].split()[0]} {asked_path(fabric)}".encode()).decode().split()
+        served.end()
+        answer = bytes.fromhex(told[1])
+        check(answer[4:6] == bytes(2) and answer[111] == 0x80 | rate, f"the rate of {link}: {answer[111]}, not {rate}")
 
 
 def check_pauses(program: Program) -> None:

@@ -6,11 +6,12 @@ import collections
 import os
 import pathlib
 import re
+import struct
 import subprocess
 from collections.abc import Callable, Sequence
 
 from live_agents import PERMISSIVE, Agents
-from sample_fabrics import Fabric
+from sample_fabrics import ADAPTER, Fabric
 
 # The end of an answer.
 END = b".\n"
@@ -29,6 +30,8 @@ TRAP += "00" * 128
 TRAPPED = f"packet {TRAP} from 9"
 # What represses this trap.
 REPRESS = TRAP[:6] + "07" + TRAP[8:]
+# The prefix of link-local GIDs.
+PREFIX = 0xFE80000000000000
 
 
 def tells(count: int, key: int = 1, state: int = DISCOVERING) -> str:
@@ -83,6 +86,16 @@ def served_up(ask: Ask, agents: Agents) -> list[str]:
     if told != ["written yes"]:
         raise ValueError(f"a served manager does not write its plan: {told}")
     return lines
+
+
+def asked_path(fabric: Fabric) -> str:
+    """Returns the line by which a host asks for the path between the ports of the first and the last adapter, by their
+    GIDs."""
+    hosts = [name for name, (kind, *_) in fabric.nodes.items() if kind == ADAPTER]
+    ends = PREFIX, fabric.guid(hosts[-1]) + 1, PREFIX, fabric.guid(hosts[0]) + 1
+    head = struct.pack(">BBBBHHQHHI", 1, 3, 2, 1, 0, 0, 1, 0x0035, 0, 0)
+    request = head + bytes(24) + struct.pack(">Q", 1 << 2 | 1 << 3) + bytes(8) + struct.pack(">QQQQ", *ends)
+    return f"sa {request.ljust(256, bytes(1)).hex()} from 7"
 
 
 def managed_up(ask: Ask, agents: Agents) -> list[str]:
