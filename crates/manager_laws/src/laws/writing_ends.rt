@@ -34,8 +34,8 @@ pub fn own_sets_are_taken()
     ensures { OwnSetsAreTaken }
 {}
 
-/// Under the premises of `own_sets_are_taken`, the plan counts as written once each of these Sets was answered, whatever
-/// the answers say. Answered means: none has timed out, none is outstanding, and none is still to be sent.
+/// Under the premises of `own_sets_are_taken`, the plan counts as written once each of these Sets was answered,
+/// whatever the answers say. Answered means: none has timed out, none is outstanding, and none is still to be sent.
 pub fn answered_plans_are_written()
     ensures { AnsweredPlansAreWritten }
 {}

@@ -297,8 +297,8 @@ pub runs_known : (w : Managing) (d : Deciding) (events : List DecidingEvent) →
 runs_known w d [] can k = k
 runs_known w d (event ∷ events) can k =
     let d' = after_deciding_event d event in
-    runs_known w d' events can.1
-    (step_known w d d' k (seat_stays event d) (stepped IsOutside k.at d k.stands event (subst (λ seat. CanDecide seat event) (sym k.seat) can.0) (outside event)))
+    let step = stepped IsOutside k.at d k.stands event (subst (λ seat. CanDecide seat event) (sym k.seat) can.0) (outside event) in
+    runs_known w d' events can.1 (step_known w d d' k (seat_stays event d) step)
 
 -- writings ---------------------------------------------------------------------------------------------
 
@@ -311,7 +311,8 @@ no_writing was Writes more e =
     let parts = and_parts (not (is_writing was)) true e in let no = sym (ap (λ x. not (is_writing x)) more) ∙ parts.0 in cc
 
 -- a sweep that has every answer, by what the manager says of it
-whole_so : (s : Sweep) → is_whole_by (if is_done s then Done s.unanswered s.too_far else Running s.unanswered s.too_far) (Some s.silent_managers) ≡ true → IsWhole s
+whole_so : (s : Sweep) → is_whole_by (if is_done s then Done s.unanswered s.too_far else Running s.unanswered s.too_far) (Some s.silent_managers) ≡ true
+    → IsWhole s
 whole_so s e = by_done (is_done s) refl e
   where
     by_done : (b : Bool) → is_done s ≡ b
@@ -394,4 +395,5 @@ writes_what_one_sweep_saw d events event new can last e =
     let w = managing_of d in
     let now = after_deciding_events events d in
     let k = runs_known w d events can (begins_known d new) in
-    written_so w now (after_deciding_event now event) k (stepped IsOutside k.at now k.stands event (subst (λ seat. CanDecide seat event) (sym k.seat) last) (outside event)) e
+    let step = stepped IsOutside k.at now k.stands event (subst (λ seat. CanDecide seat event) (sym k.seat) last) (outside event) in
+    written_so w now (after_deciding_event now event) k step e

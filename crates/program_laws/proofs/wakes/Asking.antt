@@ -246,10 +246,12 @@ event_keeps w (managing.TimeOut transaction) beside = absurd beside
 event_keeps w (managing.Raise floor) beside = refl
 event_keeps w (managing.Merge floor sightings) beside = refl
 event_keeps w (managing.Poll lid) beside =
-    cond_both (is_none (poll_fault w.manager lid)) _ _ (λ (m : Manager). m.sweep ≡ w.manager.sweep) (λ _. (polled_keeps w.manager (poll_way w.manager lid)).sweep)
+    cond_both (is_none (poll_fault w.manager lid)) _ _
+    (λ (m : Manager). m.sweep ≡ w.manager.sweep) (λ _. (polled_keeps w.manager (poll_way w.manager lid)).sweep)
     (λ _. refl)
 event_keeps w managing.HandOver beside =
-    cond_both (is_none (handover_fault w.manager)) _ _ (λ (m : Manager). m.sweep ≡ w.manager.sweep) (λ _. (handed_keeps w.manager (successor_way w.manager)).sweep)
+    cond_both (is_none (handover_fault w.manager)) _ _
+    (λ (m : Manager). m.sweep ≡ w.manager.sweep) (λ _. (handed_keeps w.manager (successor_way w.manager)).sweep)
     (λ _. refl)
 event_keeps w managing.Yield beside =
     cond_both (is_none (yield_fault w.manager)) _ _ (λ (m : Manager). m.sweep ≡ w.manager.sweep) (λ _. (handed_keeps w.manager (heir_way w.manager)).sweep)
@@ -373,12 +375,14 @@ module _ (from : Scene) (seat : NodePort) (plan : PlanValue) where
               (record {
                 scene = all_asked.scene ∙ ap (λ (y : Sweeping). y.scene) begun_is;
                 seat = all_asked.seat ∙ ap (λ (y : Sweeping). y.seat) begun_is ∙ sym g.fair.seat_is;
-                sweep = (λ j. Some (with_all_sent (started (g.fair.side.port j) (next_generation w.manager.store) 1 keeps_so))) ∙ ap (λ y. Some y) (sym sweep_is);
+                sweep = (λ j. Some (with_all_sent (started (g.fair.side.port j) (next_generation w.manager.store) 1 keeps_so)))
+                    ∙ ap (λ y. Some y) (sym sweep_is);
               });
         }
 
   module _ (old : Type 0) (w : Managing) (g : Goes from.fabric seat plan old w) (s : IsSeen w) where
-    beside_seen : (event : ManagerEvent) → CanBe seat event → IsBeside event → (after_manager_event w event).seat ≡ w.seat → IsSeen (after_manager_event w event)
+    beside_seen : (event : ManagerEvent) → CanBe seat event → IsBeside event → (after_manager_event w event).seat ≡ w.seat
+        → IsSeen (after_manager_event w event)
     beside_seen event can beside seat_is =
         record {
           seen = seen_further AnyScene from w.scene (after_manager_event w event).scene s.seen now;

@@ -313,7 +313,8 @@ times_rise limits (line ∷ lines) a s =
     let now = next.time in
     omega (arith, later, now)
 
-all_news : (timing : Timing) (limits : Limits) (lines : List Line) (a : Acting) → IsSoon limits a.time a → (after_lines lines a).time < 2 ^ 64 → HasNews timing a
+all_news : (timing : Timing) (limits : Limits) (lines : List Line) (a : Acting) → IsSoon limits a.time a → (after_lines lines a).time < 2 ^ 64
+    → HasNews timing a
     → HasNews timing (after_lines lines a)
 all_news timing limits [] a s few h = h
 all_news timing limits (line ∷ lines) a s few h =
@@ -384,4 +385,9 @@ always_asks a h room stays_on few active = by_idle (is_idle a.window) refl
         let asks = settled.asks stays_on busy room in
         let soon = due_wake (a.time + 3 * a.window.limits.timeout) a (first_due a (has_soon a h) (settled.out stays_on busy room)) stays_on busy
         asks.wake asks.is in
-        record { wake = asks.wake; is = asks.is; not_past = asks.not_past; soon = in_turn asks.wake a.time (longest_wait h.timing) (3 * a.window.limits.timeout) soon }
+        record {
+          wake = asks.wake;
+          is = asks.is;
+          not_past = asks.not_past;
+          soon = in_turn asks.wake a.time (longest_wait h.timing) (3 * a.window.limits.timeout) soon;
+        }

@@ -289,8 +289,8 @@ module _ (w : Writing) (m : Manager) (r : Running w m) (few : m.counter ≤ 2 ^ 
       by_purpose purpose.Poll e = absurd (cc)
       by_purpose purpose.Control e = absurd (cc)
       by_purpose (purpose.Step c) e =
-          ap (λ (x : Called). x.manager)
-          (cond-false (is_spent (after_step m p false)) (refused m SequenceSpent) (done (after_step m p false)) (le-ltb (2 ^ 32) (after_step m p false).counter fits))
+          let after = after_step m p false in
+          ap (λ (x : Called). x.manager) (cond-false (is_spent after) (refused m SequenceSpent) (done after) (le-ltb (2 ^ 32) after.counter fits))
 
 pub timeout_steps : (W : ℕ → Type 0) (m : Manager) (s : Steps W m) (transaction : ℕ)
     → Steps (λ t. (W t × (t ≡ transaction → ⊥)) ⊎ AnyAsks t (after_call m (Call.Timeout transaction)).outgoing) (after_call m (Call.Timeout transaction))
@@ -310,7 +310,8 @@ timeout_steps W m s transaction =
 -- other steps -----------------------------------------------------------------------------------------------------
 
 -- a new manager has none
-pub steps_first : {W : ℕ → Type 0} {guid port priority : ℕ} {conduct : Conduct} {planning : Planning} → Steps W (new_manager guid port priority conduct planning)
+pub steps_first : {W : ℕ → Type 0} {guid port priority : ℕ} {conduct : Conduct} {planning : Planning}
+    → Steps W (new_manager guid port priority conduct planning)
 steps_first = record { rising = omega arith; few = omega arith; going = inl (refl, refl); waits = λ numbers p there step. absurd (contains_none p there) }
 
 -- what is given out changes nothing of them

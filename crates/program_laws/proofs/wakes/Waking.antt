@@ -148,16 +148,33 @@ module _ (limits : Limits) where
           let m = after_call a.manager (Call.Packet packet from) in
           let heard = makes limits acks a m fits (packet_makes a.manager fits.whole packet from) in
           let b = record a { policy = p; manager = m } in
-          Kept (record { fits = record { same = heard.fits.same; whole = heard.fits.whole }; leaving = refl; about = about; time = refl; next = heard.next; still = heard.still; falls = heard.falls })
+          Kept (record {
+            fits = record { same = heard.fits.same; whole = heard.fits.whole };
+            leaving = refl;
+            about = about;
+            time = refl;
+            next = heard.next;
+            still = heard.still;
+            falls = heard.falls;
+          })
           refl
           (λ none. given_up_same a b about refl (ap is_master (state_stays a.manager packet from asks none)))
       by_handed false =
           let b = record a { policy = p } in
-          Kept (record { fits = record { same = fits.same; whole = fits.whole }; leaving = refl; about = about; time = refl; next = omega arith; still = λ _. refl; falls = omega arith })
+          Kept (record {
+            fits = record { same = fits.same; whole = fits.whole };
+            leaving = refl;
+            about = about;
+            time = refl;
+            next = omega arith;
+            still = λ _. refl;
+            falls = omega arith;
+          })
           refl
           (λ none. given_up_same a b about refl refl)
 
-  asks_it : (packet : List ℕ) (from : Option ℕ) (a : Acting) → is_response packet ≡ false → Fits limits a → Took (one_if (is_control packet)) a (asked packet from a)
+  asks_it : (packet : List ℕ) (from : Option ℕ) (a : Acting) → is_response packet ≡ false → Fits limits a
+      → Took (one_if (is_control packet)) a (asked packet from a)
   asks_it packet from a asks fits =
       cond_both (a.is_leaving && hands_over packet) a (requested packet from a) (Took (one_if (is_control packet)) a)
       (λ _. unchanged (one_if (is_control packet)) a fits) (λ _. requests packet from a asks fits)
@@ -174,7 +191,15 @@ module _ (limits : Limits) where
   takes (Told.Packet bytes from) a remains fits = hears_by bytes from (fault_of bytes) a fits
   takes Told.Look a remains fits =
       let b = taken Told.Look a in
-      Kept (record { fits = record { same = fits.same; whole = fits.whole }; leaving = refl; about = refl; time = refl; next = omega arith; still = λ _. refl; falls = omega arith })
+      Kept (record {
+        fits = record { same = fits.same; whole = fits.whole };
+        leaving = refl;
+        about = refl;
+        time = refl;
+        next = omega arith;
+        still = λ _. refl;
+        falls = omega arith;
+      })
       refl (λ none. given_up_same a b refl refl refl)
   takes Told.Leave a remains fits = absurd remains
 

@@ -29,35 +29,34 @@ pub fn always_asks()
     ensures { AlwaysAsks }
 {}
 
-/// As long as a manager that decides by itself has requests, it asks to be told the time, and is told the time that it
-/// asked for, or a later one, at most as often as these can be late, and once more for each control. If no line comes
-/// more than some milliseconds after the time that the manager asked for, this takes at most so many turns, and one
-/// more, each of three time-outs and these milliseconds. A request can be late as often as it may be sent. The requests
-/// are those of the window, the Sets of a writing that are still to be sent, what a sweep asks meanwhile, and an
-/// acknowledgement for each control. So if the manager is told the time whenever it asks, it has no requests left after
-/// that many times, and decides what is next. Any packets may come, in any order, a sweep may be asked for, and the
-/// manager may stand still. Its requests may be sent more than 0 times, more than 0 may be out, and it is not told to
-/// leave.
+/// While a manager that decides by itself has requests, it asks to be told the time, and is told a time that it asked
+/// for, or a later one, at most as often as these can be late, plus once for each control. So if it is told the time
+/// whenever it asks, it has none left after one time more, and decides what is next. If no line comes more than some
+/// milliseconds after the time that the manager asked for, the lines take at most that many turns, plus one. A turn is
+/// three time-outs, plus these milliseconds. A request can be late as often as it may be sent. The requests are those
+/// of the window, the Sets of a writing that are still to be sent, what a sweep asks meanwhile, and an acknowledgement
+/// for each control. Any packets may come, in any order, a sweep may be asked for, and the manager may stand still. Its
+/// requests may be sent more than 0 times, more than 0 may be out, and it is not told to leave.
 pub fn windows_empty()
     ensures { WindowsEmpty }
 {}
 
 /// While it sweeps, a manager that decides by itself gets on as in `windows_empty`. So if it is told the time whenever
-/// it asks, its sweep is over after that many times. Whatever else happens is as in `windows_empty`.
+/// it asks, its sweep is over after so many times. Whatever else happens is as in `windows_empty`.
 pub fn managed_sweeps_end()
     ensures { ManagedSweepsEnd }
 {}
 
 /// While it writes, and has requests, a manager that decides by itself gets on as in `windows_empty`. So if it is told
-/// the time whenever it asks, its writing is over after that many times. Whatever else happens is as in
+/// the time whenever it asks, its writing is over after so many times. Whatever else happens is as in
 /// `windows_empty`.
 pub fn managed_writings_end()
     ensures { ManagedWritingsEnd }
 {}
 
 /// When a manager that decides by itself decides, no sweep of it runs: each request of its sweep was answered or given
-/// up. Any packets may have come, in any order, whatever else it was told, as
-/// long as it was not told to leave. Its newest generation fits in 32 bits at first.
+/// up. Any packets may have come, in any order, whatever else it was told, if it was not told to leave. Its newest
+/// generation fits in 32 bits at first.
 pub fn sweeps_lose_nothing()
     ensures { SweepsLoseNothing }
 {}
@@ -76,10 +75,10 @@ pub fn managed_sweeps_ask_few()
 {}
 
 /// A sweep of a new manager that decides by itself, at its seat, lasts at most as many turns as its requests can be
-/// late, one more for each control, and one, each of three time-outs and the milliseconds by which its shell is late. A
-/// request can be late as often as it may be sent. The requests are those of the window, Sets that are still to be
-/// sent, as many as a sweep may ask (`managed_sweeps_ask_few`) and one more, and an acknowledgement for each control.
-/// The sweep is looked at from any moment at which it runs. All else is as in `windows_empty` and
+/// late, plus one for each control, plus one; a turn is three time-outs, plus the milliseconds by which its shell is
+/// late. A request can be late as often as it may be sent. The requests are those of the window, Sets that are still to
+/// be sent, as many as a sweep may ask (`managed_sweeps_ask_few`) and one more, and an acknowledgement for each
+/// control. The sweep is looked at from any moment at which it runs. All else is as in `windows_empty` and
 /// `managed_sweeps_ask_few`.
 pub fn sweeps_end_in_time()
     ensures { SweepsEndInTime }
@@ -91,8 +90,8 @@ pub fn some_sweep_is_at_a_seat()
     ensures { SomeSweepIsAtASeat }
 {}
 
-/// A writing of a manager that decides by itself lasts at most as many turns as its Sets can be late, one more for each
-/// control, and one, each of three time-outs and the milliseconds by which its shell is late. A Set can be late as
+/// A writing of a manager that decides by itself lasts at most as many turns as its Sets can be late, plus one for each
+/// control, plus one; a turn is three time-outs, plus the milliseconds by which its shell is late. A Set can be late as
 /// often as it may be sent, and so can an acknowledgement for each control. A plan has at most five times `most_steps`
 /// Sets. The manager has something to write, its newest generation fits in 32 bits at first, and nobody has told it to
 /// leave. All else is as in `windows_empty`.

@@ -11,8 +11,8 @@ pub fn writes_what_one_sweep_saw()
     ensures { WritesWhatOneSweepSaw }
 {}
 
-/// A manager that decides by itself begins a writing only by an event before which it was not about one, and after which
-/// it is: by any other event, events of a manager lead on, none of which begins a writing.
+/// A manager that decides by itself begins a writing only by an event that takes it from not being about one to being
+/// about one; what any other event does, some events of a manager do, and none of these begins a writing.
 #[tactic(auto, using(crate::proofs::managed::Keeping::writes_nothing_else))]
 pub fn writes_nothing_else()
     ensures { WritesNothingElse }

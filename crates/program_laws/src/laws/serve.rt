@@ -76,9 +76,9 @@ pub fn packets_are_printed()
     ensures { PacketsArePrinted }
 {}
 
-/// If a process decides by itself, an answer has the text that the line itself prints, then a line for each note, then a
-/// line for each packet that is sent, in these orders, then the line that says when the process is to be told the time
-/// next, and then the line of a dot.
+/// If a process decides by itself, an answer has the text that the line itself prints, then a line for each note, then
+/// a line for each packet that is sent, in these orders, then the line that says when the process is to be told the
+/// time next, and then the line of a dot.
 #[tactic(auto, using(crate::proofs::serve::Said::decisions_are_printed))]
 pub fn decisions_are_printed()
     ensures { DecisionsArePrinted }
