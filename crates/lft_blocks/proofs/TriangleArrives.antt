@@ -251,7 +251,7 @@ has_room : ¬ (IsNoRoom 1 cells)
 has_room none = cc
 
 module _ (part : Part) (all : (v : NodePort) → IsEndPort triangle v → part v) where
-  in_force : IsInForce part (cells_of facts) (plan_of up_and_down 1 (cells_of facts)) triangle
+  pub in_force : IsInForce part (cells_of facts) (plan_of up_and_down 1 (cells_of facts)) triangle
   in_force =
       record {
         is_fabric = is_fabric;
@@ -260,7 +260,7 @@ module _ (part : Part) (all : (v : NodePort) → IsEndPort triangle v → part v
             (subst (λ (c : Cells). EachIndexed (λ k n. HasPlanned 1 c triangle k n (end_of n)) triangle.nodes) (sym facts_have) rows);
       }
 
-facts_have_room : ¬ (IsNoRoom 1 (cells_of facts))
+pub facts_have_room : ¬ (IsNoRoom 1 (cells_of facts))
 facts_have_room = subst (λ (c : Cells). ¬ (IsNoRoom 1 c)) (sym facts_have) has_room
 
 second_owns : owner_of (plan_of up_and_down 1 (cells_of facts)).given 7 ≡ Some (record { node = 512; port = 1 })

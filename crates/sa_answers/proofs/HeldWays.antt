@@ -111,7 +111,7 @@ module _ (told : Told) (f : Fabric) (part : Part) (is_fabric : IsFabric f) (clos
     pub end : IsEndPort f (vertex_of f p)
     pub within : part (vertex_of f p)
 
-  in_part : (p : NodePort) (at : ℕ × ℕ) (h : Here p at) → IsEndPortIn part f (vertex_of f p) h.node
+  pub in_part : (p : NodePort) (at : ℕ × ℕ) (h : Here p at) → IsEndPortIn part f (vertex_of f p) h.node
   in_part p at h = record { node_there = ap (slice_get f.nodes) (vertex_node f p) ∙ h.there; end_port = h.end; in_part = h.within }
 
   kind_told : (p : NodePort) (at : ℕ × ℕ) (h : Here p at) → is_switch_node told.cells at.0 ≡ is_switch h.node.kind
@@ -119,36 +119,44 @@ module _ (told : Told) (f : Fabric) (part : Part) (is_fabric : IsFabric f) (clos
       ap (is_switch_node told.cells) (sym h.guid)
       ∙ ap (λ o. option_map_or (λ n. is_switch n.0) o false) (covers.tells_end_ports (vertex_of f p) h.node (in_part p at h)).kind
 
-  usable : (p : NodePort) (at : ℕ × ℕ) (h : Here p at) → is_switch h.node.kind ≡ true → is_usable told.cells at.0 ≡ true
+  pub usable : (p : NodePort) (at : ℕ × ℕ) (h : Here p at) → is_switch h.node.kind ≡ true → is_usable told.cells at.0 ≡ true
   usable p at h kind =
       and_from (is_switch_node told.cells at.0) (is_some (cap_of told.cells at.0)) (kind_told p at h ∙ kind)
       (ap (λ g. is_some (cap_of told.cells g)) (sym h.guid) ∙ ap is_some ((covers.tells_end_ports (vertex_of f p) h.node (in_part p at h)).cap kind))
 
-  no_switch : (p : NodePort) (at : ℕ × ℕ) (h : Here p at) → is_switch h.node.kind ≡ false → is_usable told.cells at.0 ≡ false
+  pub no_switch : (p : NodePort) (at : ℕ × ℕ) (h : Here p at) → is_switch h.node.kind ≡ false → is_usable told.cells at.0 ≡ false
   no_switch p at h kind = and_left (is_switch_node told.cells at.0) (is_some (cap_of told.cells at.0)) (kind_told p at h ∙ kind)
 
   held_at : (p : NodePort) (at : ℕ × ℕ) (h : Here p at) → HoldsPlanAt told.plan f (vertex_of f p) h.node
   held_at p at h = holds (vertex_of f p) h.node (in_part p at h)
+
+  -- a switch goes by its table
+  pub by_table : (p : NodePort) (at : ℕ × ℕ) (by_wire : Bool) (h : Here p at) → is_switch h.node.kind ≡ true
+      → course f lid (record { at = p; by_wire = by_wire }) ≡ entry_course h.node.ports p.node (f.entry p.node lid)
+  by_table p at by_wire h kind =
+      let (top, top_is, below) = owned_to_top told.plan.given owner lid owned in
+      let high : top ≤ f.top p.node = subst (λ (n : ℕ). top ≤ f.top n) (vertex_node f p) ((held_at p at h).top kind top top_is) in
+      let low : lid ≤ f.top p.node = omega (arith, below, high) in
+      let inside : (lid == 0 || nat_lt (f.top p.node) lid) ≡ false =
+      or_from (lid == 0) (nat_lt (f.top p.node) lid) (ne_eqb lid 0 (λ z. omega (arith, z, some))) (le-ltb (f.top p.node) lid low) in
+      switch_does f lid (record { at = p; by_wire = by_wire }) h.node h.there kind
+      ∙ ap (λ t. cond t Drops (entry_course h.node.ports p.node (f.entry p.node lid))) inside
+
+  -- an entry of its table is that of the plan's block
+  pub block_entry : (p : NodePort) (at : ℕ × ℕ) (h : Here p at) (b : List ℕ) → block_at told.plan at.0 (lid / 64) ≡ Some b
+      → slice_get b (lid % 64) ≡ Some (f.entry p.node lid)
+  block_entry p at h b is =
+      (held_at p at h).blocks (lid / 64) b (ap (λ g. block_at told.plan g (lid / 64)) h.guid ∙ is) (lid % 64) (omega arith)
+      ∙ (λ i. Some (f.entry (vertex_node f p i) (whole_lid lid i)))
 
   -- a switch goes by the plan's entry
   by_planned : (p : NodePort) (at : ℕ × ℕ) (by_wire : Bool) (h : Here p at) → is_switch h.node.kind ≡ true → (entry : ℕ)
       → planned_entry told.plan at.0 lid ≡ entry → (entry == 255) ≡ false
       → course f lid (record { at = p; by_wire = by_wire }) ≡ entry_course h.node.ports p.node entry
   by_planned p at by_wire h kind entry e other =
-      let held = held_at p at h in
-      let id = vertex_node f p in
-      let (top, top_is, below) = owned_to_top told.plan.given owner lid owned in
-      let high : top ≤ f.top p.node = subst (λ (n : ℕ). top ≤ f.top n) id (held.top kind top top_is) in
-      let low : lid ≤ f.top p.node = omega (arith, below, high) in
-      let stands : (b : List ℕ) → block_at told.plan at.0 (lid / 64) ≡ Some b → slice_get b (lid % 64) ≡ Some (f.entry p.node lid) =
-      λ b is. held.blocks (lid / 64) b (ap (λ g. block_at told.plan g (lid / 64)) h.guid ∙ is) (lid % 64) (omega arith)
-      ∙ (λ i. Some (f.entry (id i) (whole_lid lid i))) in
-      let its_entry : f.entry p.node lid ≡ entry = entry_there lid entry (f.entry p.node lid) (block_at told.plan at.0 (lid / 64)) stands e other in
-      let inside : (lid == 0 || nat_lt (f.top p.node) lid) ≡ false =
-      or_from (lid == 0) (nat_lt (f.top p.node) lid) (ne_eqb lid 0 (λ z. omega (arith, z, some))) (le-ltb (f.top p.node) lid low) in
-      switch_does f lid (record { at = p; by_wire = by_wire }) h.node h.there kind
-      ∙ ap (λ t. cond t Drops (entry_course h.node.ports p.node (f.entry p.node lid))) inside
-      ∙ ap (entry_course h.node.ports p.node) its_entry
+      by_table p at by_wire h kind
+      ∙ ap (entry_course h.node.ports p.node)
+      (entry_there lid entry (f.entry p.node lid) (block_at told.plan at.0 (lid / 64)) (block_entry p at h) e other)
 
   -- the other end of a wire that the facts tell of
   record Over (p : NodePort) (into : ℕ × ℕ) : Type 0 where
@@ -183,7 +191,7 @@ module _ (told : Told) (f : Fabric) (part : Part) (is_fabric : IsFabric f) (clos
       }
 
   -- whether an adapter's port has the LID
-  its_own : (p : NodePort) (at : ℕ × ℕ) (h : Here p at) → is_switch h.node.kind ≡ false → is_port owner at ≡ true → owns f p lid ≡ true
+  pub its_own : (p : NodePort) (at : ℕ × ℕ) (h : Here p at) → is_switch h.node.kind ≡ false → is_port owner at ≡ true → owns f p lid ≡ true
   its_own p at h kind own =
       let parts = and_parts (at.0 == owner.node) (at.1 == owner.port) own in
       let vertex : vertex_of f p ≡ p = adapter_vertex f p (type_at f p.node h.node h.there ∙ kind) in

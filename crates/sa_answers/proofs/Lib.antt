@@ -1,3 +1,4 @@
+pub mod ArrivedWays
 pub mod Asked
 pub mod Choices
 pub mod Following
@@ -5,4 +6,6 @@ pub mod HeldPaths
 pub mod HeldWays
 pub mod Least
 pub mod Replies
+pub mod SomePath
+pub mod ToldPaths
 pub mod Ways

@@ -1,6 +1,7 @@
 -- A packet that is followed to its end goes along wires, and what was found is the least of what their ports let through.
-use Rattle.std.proofs.Common.{◌≡◌, ℕ, zero, suc, Bool, true, false, cond, List, [], ◌∷◌, Option, None, Some, refl, sym, ap, ◌∙◌}
-use Rattle.std.proofs.lemmas.Bool.{and_parts, eqb-true}
+-- A packet that goes along wires to its end is followed to it in one step more than there are wires.
+use Rattle.std.proofs.Common.{◌≡◌, ◌<◌, ℕ, zero, suc, Bool, true, false, cond, List, [], ◌∷◌, length, Option, None, Some, refl, sym, ap, ◌∙◌, arith}
+use Rattle.std.proofs.lemmas.Bool.{and_from, and_parts, eq-eqb, eqb-true}
 use Rattle.std.proofs.lemmas.Option.{same_Some}
 use Rattle.std.specs.Prelude.{◌==◌}
 use Rattle.subnet_view.specs.declared.end_port.EndPort.{EndPort}
@@ -53,3 +54,23 @@ module _ (told : Told) (lid : ℕ) (owner : EndPort) where
                   }
             ] refl t
       ] refl e
+
+  -- a packet that is followed in some number of steps
+  pub followed_along : (wires : List Wire) (n : ℕ) (at : ℕ × ℕ) (by_wire : Bool) (least : Bound) → GoesAlong told lid owner at by_wire wires → length wires < n
+      → (bound : Bound) × (followed told lid owner n at by_wire least ≡ Some bound)
+  followed_along wires zero at by_wire least goes few = absurd (omega arith)
+  followed_along [] (suc n) at by_wire least (takes, its) few =
+      let here : is_port owner (at.0, owner.port) ≡ true =
+      and_from (at.0 == owner.node) (owner.port == owner.port) (eq-eqb at.0 owner.node its) (eq-eqb owner.port owner.port refl) in (
+        least,
+        ap (λ s. gone_on (onward n) (after_step told owner at least s)) takes ∙ ap (λ b. cond b (Some least) None) here,
+      )
+  followed_along (w ∷ wires) (suc n) at by_wire least (leaves, of_node, wire, rest) few =
+      let out : ℕ × ℕ = (at.0, w.out.1) in
+      let there : across told.cells at.0 w.out.1 ≡ Some w.into = ap (λ g. across told.cells g w.out.1) (sym of_node) ∙ wire in
+      let on = followed_along wires n w.into true (over_wire told least out w.into) rest (omega arith) in (
+        on.0,
+        ap (λ s. gone_on (onward n) (after_step told owner at least s)) leaves
+            ∙ ap (λ o. gone_on (onward n) (over told least out o)) there
+            ∙ on.1,
+      )

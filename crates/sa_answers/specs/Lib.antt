@@ -1,4 +1,5 @@
 pub mod AnswerLaws
+pub mod AnsweredRequests
 pub mod Bound
 pub mod Ends
 pub mod PathLaws

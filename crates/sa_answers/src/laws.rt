@@ -1,5 +1,6 @@
 //! The laws of what subnet administration tells.
 ghost use Rattle.sa_answers.specs.AnswerLaws.{AnswersAreTheRequests, DoneIfTold};
+ghost use Rattle.sa_answers.specs.AnsweredRequests.{PathsAreTold, SomePathIsTold};
 ghost use Rattle.sa_answers.specs.PathLaws.{PathsToldAreHeld};
 
 /// An answer has the request's TransactionID, attribute, modifier and component mask, and the method that answers the
@@ -17,4 +18,18 @@ pub fn done_if_told()
 /// there. Packets arrive there and back, and MTU and rate are the least that a port on the way lets through.
 pub fn paths_told_are_held()
     ensures { PathsToldAreHeld }
+{}
+
+/// If a part of a fabric holds the plan, and the plan's facts and those that are told of describe it, a request for
+/// the path between two of its end ports is answered with that path, if it suits the request. The request names each
+/// end port by one of its LIDs, by a GID that no other end port of the plan has, or by both. If the path does not
+/// suit, the request is refused, since there is no such record.
+pub fn paths_are_told()
+    ensures { PathsAreTold }
+{}
+
+/// Some such request is answered with a path between two different end ports: in a triangle of switches, one that gives
+/// the GID of an adapter and the second LID of another.
+pub fn some_path_is_told()
+    ensures { SomePathIsTold }
 {}
