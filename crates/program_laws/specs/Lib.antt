@@ -7,6 +7,10 @@ pub mod Told
 pub mod AlwaysAsks
 pub mod Deciding
 pub mod ManagedEnds
+pub mod FreshWork
+pub mod InTurn
+pub mod NextSweep
+pub mod RestTime
 pub mod SweepTime
 pub mod Wakes
 pub mod WritingTime
