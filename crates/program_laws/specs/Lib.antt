@@ -8,9 +8,11 @@ pub mod AlwaysAsks
 pub mod Deciding
 pub mod ManagedEnds
 pub mod FreshWork
+pub mod Healing
 pub mod InTurn
 pub mod NextSweep
 pub mod RestTime
+pub mod StandingPlans
 pub mod SweepTime
 pub mod Wakes
 pub mod WritingTime

@@ -31,18 +31,18 @@ use Rattle.program_laws.proofs.wakes.NextSweep.Split.{Ends, Whole}
 -- what is so of a manager that goes on ------------------------------------------------------------------------------------
 
 -- the manager may go on, and does not leave through the lines
-record GoesOn (a : Acting) (lines : List Line) : Type 0 where
-  decided : HasDecided a
-  tries : 1 ≤ a.window.limits.tries
-  outstanding : 1 ≤ a.window.limits.outstanding
-  stays_on : a.is_leaving ≡ false
-  none_leaves : NoneLeaves lines
+pub record GoesOn (a : Acting) (lines : List Line) : Type 0 where
+  pub decided : HasDecided a
+  pub tries : 1 ≤ a.window.limits.tries
+  pub outstanding : 1 ≤ a.window.limits.outstanding
+  pub stays_on : a.is_leaving ≡ false
+  pub none_leaves : NoneLeaves lines
 
-goes_first : (some rest : List Line) (a : Acting) → GoesOn a (some ++ rest) → GoesOn a some
+pub goes_first : (some rest : List Line) (a : Acting) → GoesOn a (some ++ rest) → GoesOn a some
 goes_first some rest a g =
     record { decided = g.decided; tries = g.tries; outstanding = g.outstanding; stays_on = g.stays_on; none_leaves = none_first some rest g.none_leaves }
 
-goes_later : (some rest : List Line) (a : Acting) → GoesOn a (some ++ rest) → GoesOn (after_lines some a) rest
+pub goes_later : (some rest : List Line) (a : Acting) → GoesOn a (some ++ rest) → GoesOn (after_lines some a) rest
 goes_later some rest a g =
     let same = same_limits some a g.decided in
     record {
@@ -53,7 +53,7 @@ goes_later some rest a g =
       none_leaves = none_later some rest g.none_leaves;
     }
 
-goes_line : (line : Line) (rest : List Line) (a : Acting) → GoesOn a (line ∷ rest) → GoesOn (after_line line a) rest
+pub goes_line : (line : Line) (rest : List Line) (a : Acting) → GoesOn a (line ∷ rest) → GoesOn (after_line line a) rest
 goes_line line rest a = goes_later (line ∷ []) rest a
 
 -- the work on a sweep -------------------------------------------------------------------------------------------------------
@@ -189,7 +189,7 @@ was_rest activity.Hands activity.Rests follows begins = absurd (cc)
 was_rest activity.Hands activity.Writes follows begins = absurd (cc)
 was_rest activity.Hands activity.Hands follows begins = absurd (cc)
 
-begun_is : (v w : Activity) → (not (is_sweeping v) && is_sweeping w) ≡ true → is_sweeping w ≡ true
+pub begun_is : (v w : Activity) → (not (is_sweeping v) && is_sweeping w) ≡ true → is_sweeping w ≡ true
 begun_is v w e = (and_parts (not (is_sweeping v)) (is_sweeping w) e).1
 
 -- a line that comes in time, while the manager rests and sweeps by itself

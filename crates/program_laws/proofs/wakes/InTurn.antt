@@ -28,13 +28,13 @@ same_follows activity.Writes = refl
 same_follows activity.Hands = refl
 
 -- what follows a rest
-abbrev IsRestOrSweep : Acting → Type 0
+abbrev pub IsRestOrSweep : Acting → Type 0
 IsRestOrSweep a = may_follow activity.Rests a.policy.activity ≡ true
 
 abbrev Then : Acting → Decision → Type 0
 Then a d = IsRestOrSweep (decided d a)
 
-rest_follows : (a : Acting) → a.policy.activity ≡ activity.Rests → IsRestOrSweep (decided (rested a.time a.policy) a)
+pub rest_follows : (a : Acting) → a.policy.activity ≡ activity.Rests → IsRestOrSweep (decided (rested a.time a.policy) a)
 rest_follows a rests =
     cond_both (is_due a.time (poll_due a.policy)) _ _ (Then a)
     (λ _. cond_both (is_none (poll_fault a.manager None)) _ _ (λ (p : Policy). may_follow activity.Rests p.activity ≡ true) (λ _. resting) (λ _. resting))

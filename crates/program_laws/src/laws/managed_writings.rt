@@ -1,4 +1,5 @@
 //! The laws of what a manager that decides by itself writes, at its seat on a fabric.
+ghost use Rattle.program_laws.specs.Healing.{HealsInTime};
 ghost use Rattle.program_laws.specs.ManagedPings.{ManagedPingsArrive, SomeManagerDecides};
 ghost use Rattle.program_laws.specs.ManagedWritings.{WritesNothingElse, WritesWhatOneSweepSaw};
 
@@ -30,4 +31,12 @@ pub fn managed_pings_arrive()
 /// Some manager decides by itself and brings a subnet up: a new manager on an adapter that is wired to another adapter.
 pub fn some_manager_decides()
     ensures { SomeManagerDecides }
+{}
+
+/// If all goes well for long enough, a manager that decides by itself sweeps, and has its plan written: at some line the
+/// work on a sweep that began among the lines ends, and the plan that it keeps is then that of its last writing, each of
+/// whose LID, block and top Sets was answered with status 0. That is after twice its longest wait and `4 * (n + 3)` turns and
+/// as many again at most, whatever it is about at first, if what it has to send can be late at most `n` times at any moment.
+pub fn heals_in_time()
+    ensures { HealsInTime }
 {}

@@ -1,0 +1,7 @@
+pub mod Answered
+pub mod Counted
+pub mod Healing
+pub mod Notes
+pub mod Standing
+pub mod Told
+pub mod Running
