@@ -12,6 +12,7 @@ pub mod Healing
 pub mod InTurn
 pub mod NextSweep
 pub mod RestTime
+pub mod StandingPings
 pub mod StandingPlans
 pub mod SweepTime
 pub mod Wakes

@@ -2,6 +2,7 @@
 ghost use Rattle.program_laws.specs.Healing.{HealsInTime};
 ghost use Rattle.program_laws.specs.ManagedPings.{ManagedPingsArrive, SomeManagerDecides};
 ghost use Rattle.program_laws.specs.ManagedWritings.{WritesNothingElse, WritesWhatOneSweepSaw};
+ghost use Rattle.program_laws.specs.StandingPings.{StandingPingsArrive};
 
 /// Whatever is told to a new manager that decides by itself, and whatever happens around it, if its shell is faithful,
 /// each writing that it begins is of what its last sweep saw: it held no facts when that sweep began, and has learned
@@ -39,4 +40,13 @@ pub fn some_manager_decides()
 /// as many again at most, whatever it is about at first, if what it has to send can be late at most `n` times at any moment.
 pub fn heals_in_time()
     ensures { HealsInTime }
+{}
+
+/// While the plan of a strict manager that decides by itself stands, and it writes nothing, each ping from an end port that
+/// its seat is joined to, for each LID of the plan, reaches the end port that owns the LID, if six conditions hold: at first
+/// no packet is on its way, and GUIDs differ; the manager is new then; its shell is faithful; no cable moves; since its last
+/// writing began, each Set that an agent took is one of the writing's own or carries the plan's values; nobody told the
+/// manager to leave.
+pub fn standing_pings_arrive()
+    ensures { StandingPingsArrive }
 {}
