@@ -2,3 +2,4 @@ pub mod serve
 pub mod managed
 pub mod wakes
 pub mod live_steps
+pub mod lasting

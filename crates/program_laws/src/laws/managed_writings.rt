@@ -1,6 +1,7 @@
 //! The laws of what a manager that decides by itself writes, at its seat on a fabric.
 ghost use Rattle.program_laws.specs.ManagedPings.{ManagedPingsArrive, SomeManagerDecides};
 ghost use Rattle.program_laws.specs.ManagedWritings.{WritesNothingElse, WritesWhatOneSweepSaw};
+ghost use Rattle.program_laws.specs.StandingPlans.{StandingPlansAreWritten};
 
 /// Whatever is told to a new manager that decides by itself, and whatever happens around it, if its shell is faithful,
 /// each writing that it begins is of what its last sweep saw: it held no facts when that sweep began, and has learned
@@ -30,4 +31,12 @@ pub fn managed_pings_arrive()
 /// Some manager decides by itself and brings a subnet up: a new manager on an adapter that is wired to another adapter.
 pub fn some_manager_decides()
     ensures { SomeManagerDecides }
+{}
+
+/// If a plan stands for a manager that decides by itself, and the manager is about no writing, the plan that it keeps is
+/// written: it was the plan of its facts when its last writing began, and each step of this that counts was answered
+/// with status 0. So it is whatever the manager was told, but to leave.
+#[tactic(auto, using(crate::proofs::lasting::Standing::standing_plans_are_written))]
+pub fn standing_plans_are_written()
+    ensures { StandingPlansAreWritten }
 {}
