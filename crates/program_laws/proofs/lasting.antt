@@ -1,3 +1,6 @@
+pub mod Answered
 pub mod Counted
-pub mod Told
+pub mod Notes
+pub mod Settling
 pub mod Standing
+pub mod Told

@@ -142,7 +142,7 @@ all_taken m p kept leaves [] s = s
 all_taken m p kept leaves (out ∷ queue) s =
     all_taken m p kept leaves queue (sound_on (record m { outgoing = out ∷ queue }) p kept leaves Call.Take tt s)
 
-sound_lasts : Lasts Sound
+pub sound_lasts : Lasts Sound
 sound_lasts =
     record {
       gives = λ a s. all_taken a.manager a.policy a.kept a.is_leaving a.manager.outgoing s;
@@ -173,7 +173,7 @@ sound_lasts =
 -- decisions ----------------------------------------------------------------------------------------------
 
 -- what stands after the decision stood before
-abbrev StandsOn : Policy → Policy → Type 0
+abbrev pub StandsOn : Policy → Policy → Type 0
 StandsOn p q = q.written.stands ≡ true → p.written.stands ≡ true
 
 forgotten_on : (p q : Policy) → q.written.stands ≡ false → StandsOn p q
@@ -205,7 +205,7 @@ ended_on now false rival p =
     cond_both (leaves_it p.state rival || goes_on p) p (waited_longer now p) (λ (q : Policy). q.written.stands ≡ true → p.written.stands ≡ true)
     (λ _ e. e) (λ _ e. e)
 
-swept_on : (now : ℕ) (is_so : Bool) (rival : Option Rival) (p : Policy) → StandsOn p (swept now is_so rival p).policy
+pub swept_on : (now : ℕ) (is_so : Bool) (rival : Option Rival) (p : Policy) → StandsOn p (swept now is_so rival p).policy
 swept_on now is_so rival p =
     cond_both p.is_stale (still (record p { activity = activity.Rests; is_stale = false })) (swept_in p.state now rival (ended now is_so rival p))
     (λ (d : Decision). StandsOn p d.policy) (λ _ e. e)
@@ -231,11 +231,11 @@ rested_on now p =
 -- acts -----------------------------------------------------------------------------------------------------
 
 -- if a plan stands, it is the one that is kept, and is written
-record IsFull (m : Manager) (p : Policy) (kept : Option PlanValue) : Type 0 where
-  lived : HasLived m
-  stands : p.written.stands ≡ true → KeepsWritten kept m
+pub record IsFull (m : Manager) (p : Policy) (kept : Option PlanValue) : Type 0 where
+  pub lived : HasLived m
+  pub stands : p.written.stands ≡ true → KeepsWritten kept m
 
-abbrev Full : Acting → Type 0
+abbrev pub Full : Acting → Type 0
 Full a = IsFull a.manager a.policy a.kept
 
 sound : (m : Manager) (p : Policy) (kept : Option PlanValue) (leaves : Bool) → IsFull m p kept → IsSound m p kept leaves
@@ -342,7 +342,7 @@ does_sound act.Write a f = sound a.manager a.policy a.kept a.is_leaving f
 does_sound act.Settle a f = sound a.manager a.policy a.kept a.is_leaving f
 
 -- a manager that is about no writing
-full : (a : Acting) → a.is_leaving ≡ false → is_writing a.policy.activity ≡ false → Of Sound a → Full a
+pub full : (a : Acting) → a.is_leaving ≡ false → is_writing a.policy.activity ≡ false → Of Sound a → Full a
 full a stays quiet s =
     record {
       lived = s.lived;

@@ -1,7 +1,7 @@
 //! The laws of what a manager that decides by itself writes, at its seat on a fabric.
 ghost use Rattle.program_laws.specs.ManagedPings.{ManagedPingsArrive, SomeManagerDecides};
 ghost use Rattle.program_laws.specs.ManagedWritings.{WritesNothingElse, WritesWhatOneSweepSaw};
-ghost use Rattle.program_laws.specs.StandingPlans.{StandingPlansAreWritten};
+ghost use Rattle.program_laws.specs.StandingPlans.{SettlesWhenWritten, StandingPlansAreWritten};
 
 /// Whatever is told to a new manager that decides by itself, and whatever happens around it, if its shell is faithful,
 /// each writing that it begins is of what its last sweep saw: it held no facts when that sweep began, and has learned
@@ -36,7 +36,13 @@ pub fn some_manager_decides()
 /// If a plan stands for a manager that decides by itself, and the manager is about no writing, the plan that it keeps is
 /// written: it was the plan of its facts when its last writing began, and each step of this that counts was answered
 /// with status 0. So it is whatever the manager was told, but to leave.
-#[tactic(auto, using(crate::proofs::lasting::Standing::standing_plans_are_written))]
 pub fn standing_plans_are_written()
     ensures { StandingPlansAreWritten }
+{}
+
+/// When a manager that decides by itself notes that nothing is left to write, the plan of what its last sweep saw is the
+/// plan that it wrote last, and this is written, as in `standing_plans_are_written`. The manager is master then, and
+/// alone, or the other master does not give way; and it has every answer, or it waits for those that lack no longer.
+pub fn settles_when_written()
+    ensures { SettlesWhenWritten }
 {}
