@@ -1,6 +1,6 @@
 -- A manager that decides by itself notes that nothing is left to write only if its plan is the one that it wrote last, and
 -- this is written.
-use Rattle.std.proofs.Common.{◌≡◌, ◌∙◌, ◌++◌, Bool, true, false, cond, List, [], ◌∷◌, Option, None, Some, refl, sym, ap, subst}
+use Rattle.std.proofs.Common.{◌≡◌, ◌∙◌, ◌++◌, Bool, true, false, cond, List, [], ◌∷◌, Option, None, Some, refl, sym, ap}
 use Rattle.std.specs.List.{list_any}
 use Rattle.std.specs.Prelude.{◌||◌}
 use Rattle.lft_blocks.specs.Plan.{PlanValue}
@@ -22,7 +22,7 @@ use Rattle.program_laws.specs.StandingPlans.{HasSettled, SettlesWhenWritten, tel
 use Rattle.program_laws.specs.Wakes.{HasDecided, Line, after_line, after_lines, before_deciding}
 use Rattle.program_laws.proofs.lasting.Notes.{IsPlain, JudgesSettled, OfNotes, any_last, decides_note, notes_last}
 use Rattle.program_laws.proofs.lasting.Standing.{Sound, full, is_sound, sound_lasts, swept_on}
-use Rattle.program_laws.proofs.lasting.Told.{Of, lasts_until}
+use Rattle.program_laws.proofs.lasting.Told.{lasts_until}
 
 -- notes -----------------------------------------------------------------------------------------------------
 

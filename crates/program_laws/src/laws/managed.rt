@@ -106,9 +106,10 @@ pub fn some_manager_begins_to_write()
     ensures { SomeManagerBeginsToWrite }
 {}
 
-/// If a manager that decides by itself notes no request that it gives up, from the line that begins its sweep to the one
-/// at which the sweep is over, the sweep has every answer, unless some port leads too far. Any packets may come, in any
-/// order, and the manager may stand still. Its newest generation fits in 32 bits at first, and nobody tells it to leave.
+/// If a manager that decides by itself notes no request that it gives up, after the line that begins its sweep and up
+/// to the one at which the sweep is over, and no port leads too far, the sweep has every answer. It gives up a request
+/// that has no answer after all tries, or one whose answer it refuses. Any packets may come, in any order, and the
+/// manager may stand still. Its newest generation fits in 32 bits at first, and nobody tells it to leave.
 pub fn answered_sweeps_are_whole()
     ensures { AnsweredSweepsAreWhole }
 {}

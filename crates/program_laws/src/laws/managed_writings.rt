@@ -33,16 +33,17 @@ pub fn some_manager_decides()
     ensures { SomeManagerDecides }
 {}
 
-/// If a plan stands for a manager that decides by itself, and the manager is about no writing, the plan that it keeps is
-/// written: it was the plan of its facts when its last writing began, and each step of this that counts was answered
-/// with status 0. So it is whatever the manager was told, but to leave.
+/// If a plan stands for a manager that decides by itself, and the manager is about no writing and was not told to
+/// leave, its last writing was of the plan that it keeps, and that is written: each of the writing's steps that count
+/// was answered with status 0. When this writing began, the plan was that of the manager's facts, and no other writing
+/// has begun since. Any packets may have come, in any order, and the manager may have stood still.
 pub fn standing_plans_are_written()
     ensures { StandingPlansAreWritten }
 {}
 
-/// When a manager that decides by itself notes that nothing is left to write, the plan of what its last sweep saw is the
-/// plan that it wrote last, and this is written, as in `standing_plans_are_written`. The manager is master then, and
-/// alone, or the other master does not give way; and it has every answer, or it waits for those that lack no longer.
+/// When a manager that decides by itself notes that nothing is left to write, the plan of its facts is the one that it
+/// wrote last, and that is written, as in `standing_plans_are_written`. The manager is master then, and alone, or the
+/// other master does not give way; and it has every answer, or waits no longer for those that lack.
 pub fn settles_when_written()
     ensures { SettlesWhenWritten }
 {}
