@@ -3,3 +3,4 @@ pub mod lasting
 pub mod managed
 pub mod wakes
 pub mod live_steps
+pub mod lasting

@@ -1,8 +1,6 @@
 pub mod Answered
 pub mod Counted
-pub mod Healing
 pub mod Notes
+pub mod Settling
 pub mod Standing
-pub mod StandingPings
 pub mod Told
-pub mod Running

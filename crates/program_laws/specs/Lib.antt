@@ -23,3 +23,5 @@ pub mod OwnSets
 pub mod StepPlan
 pub mod ManagedWritings
 pub mod ManagedPings
+pub mod StandingPlans
+pub mod WholeSweeps

@@ -1,13 +1,13 @@
 -- A sweep of which nothing was given up has every answer, whatever else comes.
-use Rattle.std.proofs.Common.{◌≡◌, ◌∙◌, ◌⊎◌, ◌++◌, inl, inr, ℕ, Bool, true, false, cond, List, [], ◌∷◌, Option, None, Some, not, refl, sym, ap, subst}
+use Rattle.std.proofs.Common.{◌≡◌, ◌∙◌, ◌⊎◌, ◌++◌, inl, inr, ℕ, Bool, true, false, cond, List, [], ◌∷◌, Option, None, Some, refl, sym, ap, subst}
 use Rattle.std.proofs.lemmas.Bool.{and_from, cond_both, cond-true, cond-false, eq-eqb, not-false, or_parts}
 use Rattle.std.specs.List.{list_any}
-use Rattle.std.specs.Prelude.{◌||◌, ◌&&◌, ◌==◌, Result, Ok, Err, is_none}
+use Rattle.std.specs.Prelude.{◌||◌, ◌==◌, Result, Ok, Err, is_none}
 use Rattle.smp_bytes.specs.Packet.{fault_of, status}
 use Rattle.smp_bytes.specs.declared.smp_fault.SmpFault.{SmpFault}
 use Rattle.sm_state.specs.declared.event.Message.{Message}
 use Rattle.sm_state.specs.declared.state.SmState.{SmState}
-use Rattle.sweep.specs.Replies.{after_reply, after_reply_to, judged, request_of}
+use Rattle.sweep.specs.Replies.{after_reply_to, judged, request_of}
 use Rattle.sweep.specs.Sweep.{Sweep, is_done}
 use Rattle.sweep.specs.declared.answer.Answer.{Answer}
 use Rattle.sweep.specs.declared.fault.SweepFault.{SweepFault}
@@ -16,8 +16,8 @@ use Rattle.sm_manager.specs.CallLists.{Call, after_call}
 use Rattle.sm_manager.specs.Election.{after_message, poll_fault, yield_fault}
 use Rattle.sm_manager.specs.Manager.{Manager, Writing, after_begin_sweep, begin_fault, is_running, progress_of, silent_in}
 use Rattle.sm_manager.specs.ManagerRequests.{counts, no_step_waits, without_number}
-use Rattle.sm_manager.specs.Packets.{Called, after_request, answered_by, done, is_for_sweep, is_info_request, packet_taken, pending_for, refused, request_answered}
-use Rattle.sm_manager.specs.Packets.{sweep_answered, unless_spent}
+use Rattle.sm_manager.specs.Packets.{Called, after_request, answered_by, done, is_for_sweep, is_info_request, packet_taken, pending_for}
+use Rattle.sm_manager.specs.Packets.{refused, request_answered, sweep_answered, unless_spent}
 use Rattle.sm_manager.specs.SmInfoAnswers.{controlled, is_control, replying, served}
 use Rattle.sm_manager.specs.Traps.{represses, repressing}
 use Rattle.sm_manager.specs.Writing.{after_step, is_done_by, is_spent, noted, phase_sent, went_on_with}
@@ -29,20 +29,20 @@ use Rattle.sm_manager.specs.declared.pending.Purpose.TheVariants as purpose
 use Rattle.sm_manager.specs.declared.progress.Progress.TheVariants.{Done, Running}
 use Rattle.sm_manager.specs.declared.way.Way.{Way}
 use Rattle.sm_policy.specs.Judged.{failed}
-use Rattle.sm_policy.specs.Policy.{announced_every, in_state, is_sweeping, later_by, moved, polled, still, sweeps_first, wanting}
+use Rattle.sm_policy.specs.Policy.{announced_every, in_state, is_sweeping, later_by, moved, still, sweeps_first, wanting}
 use Rattle.sm_policy.specs.Resting.{call_due, is_due, poll_due, rested, sweep_due, sweeping}
 use Rattle.sm_policy.specs.declared.act.Act.TheVariants as act
 use Rattle.sm_policy.specs.declared.activity.Activity.{Activity}
 use Rattle.sm_policy.specs.declared.activity.Activity.TheVariants as activity
 use Rattle.sm_policy.specs.declared.policy.Policy.{Policy}
-use Rattle.acting_manager.specs.Acting.{Acting, caught_up, collected, entered}
-use Rattle.acting_manager.specs.Acts.{acted, acted_in, decided, done_by, floor_raised, is_whole, is_whole_by, left_in}
-use Rattle.acting_manager.specs.Working.{acted_if_idle, is_idle, is_writing, leaving, sent, yielding_at_once}
+use Rattle.acting_manager.specs.Acting.{Acting, caught_up, collected}
+use Rattle.acting_manager.specs.Acts.{acted, acted_in, decided, done_by, floor_raised, is_whole_by, left_in}
+use Rattle.acting_manager.specs.Working.{acted_if_idle, is_idle, is_writing, sent, yielding_at_once}
 use Rattle.acting_manager.specs.declared.note.Note.{Note}
 use Rattle.acting_manager.specs.declared.note.Note.TheVariants.{GivenUp, Paused, State}
 use Rattle.program_laws.specs.ManagedEnds.{StaysAbout}
 use Rattle.program_laws.specs.Wakes.{HasDecided, Line, NoneLeaves, after_line, after_lines, before_deciding}
-use Rattle.program_laws.specs.WholeSweeps.{AnsweredSweepsAreWhole, NothingGivenUp, SweepsThrough, tells_loss, too_far_in}
+use Rattle.program_laws.specs.WholeSweeps.{AnsweredSweepsAreWhole, NothingGivenUp, tells_loss, too_far_in}
 use Rattle.program_laws.proofs.lasting.Notes.{any_last, decides_note}
 use Rattle.program_laws.proofs.lasting.Told.{Lasts, Of, Property, lasts_until, sends}
 use Rattle.program_laws.proofs.wakes.AtSeats.{lines_both}
@@ -193,7 +193,8 @@ rested_fresh a rests = by_due (is_due a.time (poll_due a.policy)) (is_due a.time
     quiet : is_sweeping a.policy.activity ≡ false
     quiet = ap is_sweeping rests
 
-    by_due : (poll call sweep : Bool) → IsFresh (decided (cond poll (record { policy = record a.policy { next_poll = later_by a.policy.timing.poll a.time }; act = act.Poll })
+    by_due : (poll call sweep : Bool) → IsFresh (decided
+        (cond poll (record { policy = record a.policy { next_poll = later_by a.policy.timing.poll a.time }; act = act.Poll })
         (cond call (record { policy = record a.policy { next_call = later_by announced_every a.time }; act = act.Announce })
         (cond sweep (record { policy = sweeping a.time a.policy; act = act.Sweep }) (still a.policy)))) a)
     by_due true call sweep =
@@ -253,7 +254,8 @@ begun_none line a idle sweeps =
     subst (λ (y : Acting). LostNone (sent y).manager.sweep) (sym decided_is)
     (subst LostNone (sym (sweep_then x)) (elim (acts_fresh x) [
       | inl quiet ↦
-          let wrong : true ≡ false = sym sweeps ∙ ap (λ (y : Acting). is_sweeping (sent y).policy.activity) decided_is ∙ ap is_sweeping (about_then x) ∙ quiet in
+          let wrong : true ≡ false =
+          sym sweeps ∙ ap (λ (y : Acting). is_sweeping (sent y).policy.activity) decided_is ∙ ap is_sweeping (about_then x) ∙ quiet in
           absurd (cc)
       | inr none ↦ none
     ]))
@@ -286,9 +288,11 @@ line_none line a s none sweeps = by_idle (is_idle x.window) refl
         absurd (cc)
     by_idle false busy =
         let waits_is = cond-false (is_idle x.window) (caught_up (acted x)) x busy in
-        let after = sends Heard heard_lasts x ready in
-        (sweeps, subst (λ (y : Acting). LostNone (sent y).manager.sweep) (sym waits_is)
-            (after.heard (ap (λ (y : Acting). list_any tells_loss (sent y).notes) (sym waits_is) ∙ none)))
+        let after = sends Heard heard_lasts x ready in (
+          sweeps,
+          subst (λ (y : Acting). LostNone (sent y).manager.sweep) (sym waits_is)
+              (after.heard (ap (λ (y : Acting). list_any tells_loss (sent y).notes) (sym waits_is) ∙ none)),
+        )
 
 given_parts : (during : List Line) (ends : Line) (a : Acting) → NothingGivenUp (during ++ ends ∷ []) a
     → NothingGivenUp during a × (list_any tells_loss (sent (acted_if_idle (before_deciding ends (after_lines during a)))).notes ≡ false)
@@ -332,9 +336,11 @@ all_whole (Some s) lost over near =
 
 pub answered_sweeps_are_whole : AnsweredSweepsAreWhole
 answered_sweeps_are_whole first begins a during ends s nothing near =
-    let swept : SweepsWell a =
-    (s.sweeps, subst (λ (x : Acting). LostNone x.manager.sweep) s.leads
-        (begun_none begins first s.decides (ap (λ (x : Acting). is_sweeping x.policy.activity) s.leads ∙ s.sweeps))) in
+    let swept : SweepsWell a = (
+      s.sweeps,
+      subst (λ (x : Acting). LostNone x.manager.sweep) s.leads
+          (begun_none begins first s.decides (ap (λ (x : Acting). is_sweeping x.policy.activity) s.leads ∙ s.sweeps)),
+    ) in
     let given = given_parts during ends a nothing in
     let last = lines_none during a swept given.0 s.goes_on in
     let ready = lasts_until Heard heard_lasts ends b (heard_from b last) in

@@ -1,5 +1,5 @@
 -- What counts as written does so after any call that begins no writing.
-use Rattle.std.proofs.Common.{◌≡◌, ◌∙◌, ◌++◌, ℕ, suc, Bool, true, false, List, [], ◌∷◌, Option, None, Some, length, not, refl, sym, ap, subst}
+use Rattle.std.proofs.Common.{◌≡◌, ◌∙◌, ℕ, suc, Bool, true, false, List, [], ◌∷◌, Option, None, Some, length, not, refl, sym, ap, subst}
 use Rattle.std.proofs.lemmas.Bool.{and_from, and_parts, cond_both, not_from_false, not-true, or_parts}
 use Rattle.std.specs.List.{AllByRecursion, list_any}
 use Rattle.std.specs.Prelude.{◌&&◌, ◌||◌, ◌==◌, Contains, drop, filter}
@@ -9,7 +9,8 @@ use Rattle.sm_manager.specs.CallLists.{Call, after_call}
 use Rattle.sm_manager.specs.Manager.{Manager, Writing}
 use Rattle.sm_manager.specs.ManagerRequests.{counts, is_step, no_step_waits, none_counts, without_number}
 use Rattle.sm_manager.specs.StepsAnswered.{BeginsNone}
-use Rattle.sm_manager.specs.Writing.{after_step, is_written, is_written_by, next_pending, next_phase, noted, numbered, phase_sent, went_on_with, without_empty_phases}
+use Rattle.sm_manager.specs.Writing.{after_step, is_written, is_written_by, next_pending, next_phase, noted, numbered, phase_sent, went_on_with}
+use Rattle.sm_manager.specs.Writing.{without_empty_phases}
 use Rattle.sm_manager.specs.declared.pending.Pending.{Pending}
 use Rattle.sm_manager.proofs.CountedSteps.{counts_is_step}
 use Rattle.manager_laws.proofs.Numbered.{no_step_there, none_pending_counts}

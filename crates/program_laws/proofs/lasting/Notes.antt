@@ -1,6 +1,6 @@
 -- What a manager that decides by itself notes when it decides: that nothing is left to write only if it judges that.
-use Rattle.std.proofs.Common.{◌≡◌, ◌∙◌, ◌++◌, Bool, true, false, cond, List, [], ◌∷◌, Option, None, Some, refl, sym, ap, subst}
-use Rattle.std.proofs.lemmas.Bool.{cond_both, or_parts}
+use Rattle.std.proofs.Common.{◌≡◌, ◌++◌, Bool, true, false, List, [], ◌∷◌, Option, None, Some, refl}
+use Rattle.std.proofs.lemmas.Bool.{cond_both}
 use Rattle.std.specs.List.{list_any}
 use Rattle.std.specs.Prelude.{◌||◌, is_none}
 use Rattle.lft_blocks.specs.Plan.{PlanValue}
@@ -10,7 +10,7 @@ use Rattle.sm_manager.specs.Manager.{begin_fault}
 use Rattle.sm_manager.specs.PlanFaults.{writing_fault}
 use Rattle.sm_manager.specs.Writing.{is_written}
 use Rattle.sm_manager.specs.declared.fault.ManagerFault.{ManagerFault}
-use Rattle.sm_policy.specs.Judged.{cause_of, failed, judged, wrote}
+use Rattle.sm_policy.specs.Judged.{cause_of, judged, wrote}
 use Rattle.sm_policy.specs.Policy.{Decision, announced_every, is_sweeping, later_by, still}
 use Rattle.sm_policy.specs.Resting.{call_due, is_due, poll_due, rested, sweep_due, sweeping}
 use Rattle.sm_policy.specs.Swept.{swept}

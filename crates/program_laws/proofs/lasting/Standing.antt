@@ -1,6 +1,6 @@
 -- A plan that stands for a manager that decides by itself is written, as soon as the manager is about no writing.
 use Rattle.std.proofs.Common.{◌≡◌, ◌∙◌, ◌⊎◌, ◌++◌, inl, inr, ℕ, Bool, true, false, cond, List, [], ◌∷◌, Option, None, Some, refl, sym, ap, subst}
-use Rattle.std.proofs.lemmas.Bool.{cond_both, cond-true, cond-false}
+use Rattle.std.proofs.lemmas.Bool.{cond_both, cond-true}
 use Rattle.std.specs.Prelude.{◌||◌, is_none, nat_le, nat_lt}
 use Rattle.smp_bytes.specs.Field.{number_in}
 use Rattle.smp_bytes.specs.Packet.{transaction_id}
@@ -16,11 +16,11 @@ use Rattle.sm_manager.specs.StepsAnswered.{BeginNone, BeginsNone}
 use Rattle.sm_manager.specs.Writing.{after_write_steps, is_written}
 use Rattle.sm_manager.specs.declared.fault.ManagerFault.{ManagerFault}
 use Rattle.sm_manager.specs.declared.outgoing.Outgoing.{Outgoing}
-use Rattle.sm_policy.specs.Judged.{cause_of, failed, judged, may_bring_up, may_take, once_more, settled, stood, taking, writing, wrote}
-use Rattle.sm_policy.specs.Policy.{Decision, announced_every, forgotten, in_state, is_master, is_sweeping, later_by, moved, patience, polled, still}
+use Rattle.sm_policy.specs.Judged.{cause_of, failed, judged, may_bring_up, may_take, once_more, settled, stood, writing, wrote}
+use Rattle.sm_policy.specs.Policy.{Decision, forgotten, in_state, is_sweeping, moved, patience, polled, still}
 use Rattle.sm_policy.specs.Policy.{sweeps_first, waited_longer, wanting}
-use Rattle.sm_policy.specs.Resting.{call_due, handing, is_due, poll_due, rested, sweep_due, sweeping}
-use Rattle.sm_policy.specs.Swept.{dealt, ended, gaping, goes_on, judging, leaves_it, masterless_by, meeting_at, met, swept, swept_in, whole}
+use Rattle.sm_policy.specs.Resting.{call_due, handing, is_due, poll_due, rested, sweep_due}
+use Rattle.sm_policy.specs.Swept.{dealt, ended, goes_on, judging, leaves_it, masterless_by, meeting_at, met, swept, swept_in}
 use Rattle.sm_policy.specs.declared.act.Act.{Act}
 use Rattle.sm_policy.specs.declared.act.Act.TheVariants as act
 use Rattle.sm_policy.specs.declared.activity.Activity.{Activity}
@@ -33,10 +33,10 @@ use Rattle.sm_policy.specs.declared.rival.Rival.{Rival}
 use Rattle.sm_policy.specs.declared.rival.Rival.TheVariants.{Lesser, Greater}
 use Rattle.sm_policy.specs.declared.write_cause.WriteCause.{WriteCause}
 use Rattle.acting_manager.specs.Acting.{Acting, caught_up, new_acting, noted}
-use Rattle.acting_manager.specs.Acts.{about_plan, acted, acted_in, decided, done_by, floor_raised, handed_by, is_whole, left_in, noted_unplanned}
-use Rattle.acting_manager.specs.Acts.{rival_seen, writing_with}
+use Rattle.acting_manager.specs.Acts.{about_plan, acted, acted_in, decided, done_by, floor_raised, is_whole, left_in, noted_unplanned}
+use Rattle.acting_manager.specs.Acts.{rival_seen}
 use Rattle.acting_manager.specs.Planned.{comparison_of, planned}
-use Rattle.acting_manager.specs.Working.{acted_if_idle, is_idle, is_writing, leaving, sent, yielding_at_once}
+use Rattle.acting_manager.specs.Working.{acted_if_idle, is_idle, is_writing, yielding_at_once}
 use Rattle.acting_manager.specs.declared.note.Note.{Note}
 use Rattle.acting_manager.specs.declared.note.Note.TheVariants.{Swept, Wrote}
 use Rattle.manager_laws.specs.WritingEnds.{HasLived}
@@ -67,7 +67,7 @@ lives_on m call h =
       are = after_both h.calls (call ∷ []) (new_manager h.port_guid h.port h.priority h.conduct h.planning) ∙ ap (λ (x : Manager). after_call x call) h.are;
     }
 
-pub still_last : (plan : PlanValue) (m : Manager) (call : Call) → BeginsNone m call → IsLastWritten plan m → IsLastWritten plan (after_call m call)
+still_last : (plan : PlanValue) (m : Manager) (call : Call) → BeginsNone m call → IsLastWritten plan m → IsLastWritten plan (after_call m call)
 still_last plan m call quiet l =
     record {
       before = l.before;
@@ -173,7 +173,7 @@ sound_lasts =
 -- decisions ----------------------------------------------------------------------------------------------
 
 -- what stands after the decision stood before
-abbrev StandsOn : Policy → Policy → Type 0
+abbrev pub StandsOn : Policy → Policy → Type 0
 StandsOn p q = q.written.stands ≡ true → p.written.stands ≡ true
 
 forgotten_on : (p q : Policy) → q.written.stands ≡ false → StandsOn p q
@@ -205,7 +205,7 @@ ended_on now false rival p =
     cond_both (leaves_it p.state rival || goes_on p) p (waited_longer now p) (λ (q : Policy). q.written.stands ≡ true → p.written.stands ≡ true)
     (λ _ e. e) (λ _ e. e)
 
-swept_on : (now : ℕ) (is_so : Bool) (rival : Option Rival) (p : Policy) → StandsOn p (swept now is_so rival p).policy
+pub swept_on : (now : ℕ) (is_so : Bool) (rival : Option Rival) (p : Policy) → StandsOn p (swept now is_so rival p).policy
 swept_on now is_so rival p =
     cond_both p.is_stale (still (record p { activity = activity.Rests; is_stale = false })) (swept_in p.state now rival (ended now is_so rival p))
     (λ (d : Decision). StandsOn p d.policy) (λ _ e. e)
@@ -217,10 +217,11 @@ stood_on now ports p =
     (record { policy = settled ports p; act = act.Settle }) (λ (d : Decision). StandsOn p d.policy)
     (λ _ e. e) (λ _ e. e)
 
-judged_on_stands : (now : ℕ) (comparison : Comparison) (ports : Ports) (p : Policy) → StandsOn p (judged now comparison ports p).policy
-judged_on_stands now NoPlan ports p = λ e. e
-judged_on_stands now Differs ports p = λ e. e
-judged_on_stands now Same ports p = cond_both p.written.stands (stood now ports p) _ (λ (d : Decision). StandsOn p d.policy) (λ _. stood_on now ports p) (λ _ e. e)
+judged_on : (now : ℕ) (comparison : Comparison) (ports : Ports) (p : Policy) → StandsOn p (judged now comparison ports p).policy
+judged_on now NoPlan ports p = λ e. e
+judged_on now Differs ports p = λ e. e
+judged_on now Same ports p =
+    cond_both p.written.stands (stood now ports p) _ (λ (d : Decision). StandsOn p d.policy) (λ _. stood_on now ports p) (λ _ e. e)
 
 rested_on : (now : ℕ) (p : Policy) → StandsOn p (rested now p).policy
 rested_on now p =
@@ -307,7 +308,7 @@ judges_sound a f = by_plan (planned a.manager) refl
     by_plan (Some plan) is =
         let d = judged a.time (comparison_of a.kept (Some plan)) a.reads.ports a.policy in
         about_sound d.act (cause_of (comparison_of a.kept (Some plan)) a.reads.ports a.policy) (Some plan) (record a { policy = d.policy }) is
-        (full_by a.manager a.policy d.policy a.kept (judged_on_stands a.time (comparison_of a.kept (Some plan)) a.reads.ports a.policy) f)
+        (full_by a.manager a.policy d.policy a.kept (judged_on a.time (comparison_of a.kept (Some plan)) a.reads.ports a.policy) f)
 
 polls_sound : (a : Acting) → Full a → Of Sound (done_by act.Poll a)
 polls_sound a f =
@@ -406,8 +407,8 @@ acts a s =
 
 -- lines ----------------------------------------------------------------------------------------------------
 
-pub sound_line : (line : Line) (a : Acting) → Of Sound a → Of Sound (after_line line a)
-sound_line line a s =
+a_line : (line : Line) (a : Acting) → Of Sound a → Of Sound (after_line line a)
+a_line line a s =
     let x = before_deciding line a in
     let ready = lasts_until Sound sound_lasts line a s in
     sends Sound sound_lasts (acted_if_idle x)
@@ -415,7 +416,7 @@ sound_line line a s =
 
 all_lines : (lines : List Line) (a : Acting) → Of Sound a → Of Sound (after_lines lines a)
 all_lines [] a s = s
-all_lines (line ∷ lines) a s = all_lines lines (after_line line a) (sound_line line a s)
+all_lines (line ∷ lines) a s = all_lines lines (after_line line a) (a_line line a s)
 
 -- so it is of each manager that has decided
 pub is_sound : (a : Acting) → HasDecided a → Of Sound a

@@ -1,6 +1,6 @@
 -- What lasts while a manager that decides by itself is told something: a property of its manager, its policy, the plan that
 -- it keeps, its notes, and whether it leaves, which each move keeps that it may make before it decides.
-use Rattle.std.proofs.Common.{◌≡◌, ◌∙◌, ℕ, zero, suc, Bool, true, false, cond, ◌&&◌, ◌||◌, List, [], ◌∷◌, length, not, refl, sym, ap, subst}
+use Rattle.std.proofs.Common.{◌≡◌, ℕ, zero, suc, Bool, true, false, cond, ◌&&◌, List, length}
 use Rattle.std.proofs.lemmas.Bool.{and_parts, cond_both}
 use Rattle.std.specs.Prelude.{Option, Some, None, is_none, max}
 use Rattle.smp_bytes.specs.Packet.{fault_of, is_response}

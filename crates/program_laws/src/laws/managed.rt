@@ -10,6 +10,7 @@ ghost use Rattle.program_laws.specs.RestTime.{RestsEndInTime};
 ghost use Rattle.program_laws.specs.SweepTime.{SomeSweepIsAtASeat, SweepsEndInTime};
 ghost use Rattle.program_laws.specs.WritingTime.{SomeManagerBeginsToWrite, WritingsEndInTime};
 ghost use Rattle.program_laws.specs.Wakes.{WindowsEmpty};
+ghost use Rattle.program_laws.specs.WholeSweeps.{AnsweredSweepsAreWhole};
 
 /// Whatever is told to a manager that decides by itself, and whatever happens around it, if its shell is faithful it is
 /// a manager at its seat: some events of a manager lead to the same scene with the same manager, who has given out each
@@ -109,32 +110,10 @@ pub fn some_manager_begins_to_write()
     ensures { SomeManagerBeginsToWrite }
 {}
 
-/// A manager that decides by itself rests at most for its longest wait, plus as many turns as its requests can be late,
-/// plus one; a turn is three time-outs, plus the milliseconds by which its shell is late. Then it begins a sweep. Whenever
-/// it decides, it sweeps by itself (it discovers, is master, or is a standby that knows no master), and no sweep of it is
-/// refused. The times that it was told fit in 64 bits. All else is as in `windows_empty`.
-pub fn rests_end_in_time()
-    ensures { RestsEndInTime }
-{}
-
-/// What a manager that decides by itself is about changes in one order alone: when it rests, it may begin a sweep; after a
-/// sweep it writes, hands over or rests; after a writing it hands over or rests; after a handover it rests. This is so
-/// whatever it is told, if it is not told to leave. Its requests may be sent more than 0 times.
-pub fn works_in_turn()
-    ensures { WorksInTurn }
-{}
-
-/// A manager that decides by itself begins a sweep before long, whatever it is about at first: at most its longest wait and
-/// `4 * (n + 3)` turns later, if what it has to send can be late at most `n` times at any moment until then. A sweep that
-/// runs at first is over before, and so are the writing of its plan and the offer of the subnet to another manager. All else
-/// is as in `rests_end_in_time`.
-pub fn sweeps_again_in_time()
-    ensures { SweepsAgainInTime }
-{}
-
-/// A manager that decides by itself has dealt with what a new sweep saw before long, whatever it is about at first: at most
-/// twice its longest wait and `6 * (n + 3)` turns later, it has begun a sweep, and this sweep is over, and so is the writing
-/// of its plan, if it wrote one. All else is as in `sweeps_again_in_time`.
-pub fn works_again_in_time()
-    ensures { WorksAgainInTime }
+/// If a manager that decides by itself notes no request that it gives up, after the line that begins its sweep and up
+/// to the one at which the sweep is over, and no port leads too far, the sweep has every answer. It gives up a request
+/// that has no answer after all tries, or one whose answer it refuses. Any packets may come, in any order, and the
+/// manager may stand still. Its newest generation fits in 32 bits at first, and nobody tells it to leave.
+pub fn answered_sweeps_are_whole()
+    ensures { AnsweredSweepsAreWhole }
 {}

@@ -2,7 +2,7 @@
 ghost use Rattle.program_laws.specs.Healing.{HealsInTime};
 ghost use Rattle.program_laws.specs.ManagedPings.{ManagedPingsArrive, SomeManagerDecides};
 ghost use Rattle.program_laws.specs.ManagedWritings.{WritesNothingElse, WritesWhatOneSweepSaw};
-ghost use Rattle.program_laws.specs.StandingPings.{StandingPingsArrive};
+ghost use Rattle.program_laws.specs.StandingPlans.{SettlesWhenWritten, StandingPlansAreWritten};
 
 /// Whatever is told to a new manager that decides by itself, and whatever happens around it, if its shell is faithful,
 /// each writing that it begins is of what its last sweep saw: it held no facts when that sweep began, and has learned
@@ -34,19 +34,17 @@ pub fn some_manager_decides()
     ensures { SomeManagerDecides }
 {}
 
-/// If all goes well for long enough, a manager that decides by itself sweeps, and has its plan written: at some line the
-/// work on a sweep that began among the lines ends, and the plan that it keeps is then that of its last writing, each of
-/// whose LID, block and top Sets was answered with status 0. That is after twice its longest wait and `4 * (n + 3)` turns and
-/// as many again at most, whatever it is about at first, if what it has to send can be late at most `n` times at any moment.
-pub fn heals_in_time()
-    ensures { HealsInTime }
+/// If a plan stands for a manager that decides by itself, and the manager is about no writing and was not told to
+/// leave, its last writing was of the plan that it keeps, and that is written: each of the writing's steps that count
+/// was answered with status 0. When this writing began, the plan was that of the manager's facts, and no other writing
+/// has begun since. Any packets may have come, in any order, and the manager may have stood still.
+pub fn standing_plans_are_written()
+    ensures { StandingPlansAreWritten }
 {}
 
-/// While the plan of a strict manager that decides by itself stands, and it writes nothing, each ping from an end port that
-/// its seat is joined to, for each LID of the plan, reaches the end port that owns the LID, if six conditions hold: at first
-/// no packet is on its way, and GUIDs differ; the manager is new then; its shell is faithful; no cable moves; since its last
-/// writing began, each Set that an agent took is one of the writing's own or carries the plan's values; nobody told the
-/// manager to leave.
-pub fn standing_pings_arrive()
-    ensures { StandingPingsArrive }
+/// When a manager that decides by itself notes that nothing is left to write, the plan of its facts is the one that it
+/// wrote last, and that is written, as in `standing_plans_are_written`. The manager is master then, and alone, or the
+/// other master does not give way; and it has every answer, or waits no longer for those that lack.
+pub fn settles_when_written()
+    ensures { SettlesWhenWritten }
 {}
