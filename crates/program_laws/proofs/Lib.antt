@@ -3,4 +3,3 @@ pub mod lasting
 pub mod managed
 pub mod wakes
 pub mod live_steps
-pub mod lasting

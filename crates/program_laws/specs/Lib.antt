@@ -23,5 +23,4 @@ pub mod OwnSets
 pub mod StepPlan
 pub mod ManagedWritings
 pub mod ManagedPings
-pub mod StandingPlans
 pub mod WholeSweeps

@@ -67,7 +67,7 @@ lives_on m call h =
       are = after_both h.calls (call ∷ []) (new_manager h.port_guid h.port h.priority h.conduct h.planning) ∙ ap (λ (x : Manager). after_call x call) h.are;
     }
 
-still_last : (plan : PlanValue) (m : Manager) (call : Call) → BeginsNone m call → IsLastWritten plan m → IsLastWritten plan (after_call m call)
+pub still_last : (plan : PlanValue) (m : Manager) (call : Call) → BeginsNone m call → IsLastWritten plan m → IsLastWritten plan (after_call m call)
 still_last plan m call quiet l =
     record {
       before = l.before;
@@ -407,8 +407,8 @@ acts a s =
 
 -- lines ----------------------------------------------------------------------------------------------------
 
-a_line : (line : Line) (a : Acting) → Of Sound a → Of Sound (after_line line a)
-a_line line a s =
+pub sound_line : (line : Line) (a : Acting) → Of Sound a → Of Sound (after_line line a)
+sound_line line a s =
     let x = before_deciding line a in
     let ready = lasts_until Sound sound_lasts line a s in
     sends Sound sound_lasts (acted_if_idle x)
@@ -416,7 +416,7 @@ a_line line a s =
 
 all_lines : (lines : List Line) (a : Acting) → Of Sound a → Of Sound (after_lines lines a)
 all_lines [] a s = s
-all_lines (line ∷ lines) a s = all_lines lines (after_line line a) (a_line line a s)
+all_lines (line ∷ lines) a s = all_lines lines (after_line line a) (sound_line line a s)
 
 -- so it is of each manager that has decided
 pub is_sound : (a : Acting) → HasDecided a → Of Sound a

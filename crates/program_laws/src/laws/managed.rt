@@ -1,12 +1,8 @@
 //! The laws of a manager that decides by itself: at its seat on a fabric, and how it gets on.
 ghost use Rattle.program_laws.specs.AlwaysAsks.{AlwaysAsks};
 ghost use Rattle.program_laws.specs.Deciding.{DecidingIsManaging, NewOnesStand};
-ghost use Rattle.program_laws.specs.FreshWork.{WorksAgainInTime};
-ghost use Rattle.program_laws.specs.InTurn.{WorksInTurn};
 ghost use Rattle.program_laws.specs.ManagedEnds.{ManagedSweepsAskFew, ManagedSweepsEnd, ManagedWritingsEnd};
 ghost use Rattle.program_laws.specs.ManagedEnds.{SweepsLoseNothing, WritingsLoseNothing};
-ghost use Rattle.program_laws.specs.NextSweep.{SweepsAgainInTime};
-ghost use Rattle.program_laws.specs.RestTime.{RestsEndInTime};
 ghost use Rattle.program_laws.specs.SweepTime.{SomeSweepIsAtASeat, SweepsEndInTime};
 ghost use Rattle.program_laws.specs.WritingTime.{SomeManagerBeginsToWrite, WritingsEndInTime};
 ghost use Rattle.program_laws.specs.Wakes.{WindowsEmpty};

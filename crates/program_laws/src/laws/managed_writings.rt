@@ -1,5 +1,4 @@
 //! The laws of what a manager that decides by itself writes, at its seat on a fabric.
-ghost use Rattle.program_laws.specs.Healing.{HealsInTime};
 ghost use Rattle.program_laws.specs.ManagedPings.{ManagedPingsArrive, SomeManagerDecides};
 ghost use Rattle.program_laws.specs.ManagedWritings.{WritesNothingElse, WritesWhatOneSweepSaw};
 ghost use Rattle.program_laws.specs.StandingPlans.{SettlesWhenWritten, StandingPlansAreWritten};
