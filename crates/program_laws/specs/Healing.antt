@@ -2,6 +2,7 @@
 -- no other master is there. InfiniBand Architecture Specification, Volume 1: subnet management, subnet manager (sweeping),
 -- initialization.
 use Rattle.std.specs.Prelude.{◌≡◌, ◌≤◌, ◌<◌, ◌+◌, ◌*◌, ◌^◌, ℕ, Bool, true, false, List, [], ◌∷◌, ◌++◌, Some, None}
+use Rattle.std.specs.List.{list_any}
 use Rattle.lft_blocks.specs.Plan.{PlanValue}
 use Rattle.sm_state.specs.declared.state.SmState.TheVariants.{Master}
 use Rattle.sm_manager.specs.PlanFaults.{writing_fault}
@@ -9,9 +10,9 @@ use Rattle.sm_manager.specs.Writing.{is_written}
 use Rattle.sm_policy.specs.Policy.{is_sweeping}
 use Rattle.sm_policy.specs.PolicyLaws.{longest_wait}
 use Rattle.acting_manager.specs.Acting.{Acting}
-use Rattle.acting_manager.specs.Acts.{is_whole, rival_seen}
+use Rattle.acting_manager.specs.Acts.{rival_seen}
 use Rattle.acting_manager.specs.Planned.{planned}
-use Rattle.acting_manager.specs.Working.{is_idle, is_resting, is_writing}
+use Rattle.acting_manager.specs.Working.{after_told, is_idle, is_resting, is_writing}
 use Rattle.program_laws.specs.FreshWork.{works}
 use Rattle.program_laws.specs.ManagedEnds.{StaysAbout}
 use Rattle.program_laws.specs.NextSweep.{HasFewTurns, IsToSweep, begins_sweep}
@@ -19,21 +20,24 @@ use Rattle.program_laws.specs.RestTime.{sweeps_by_itself}
 use Rattle.program_laws.specs.StandingPlans.{KeepsWritten}
 use Rattle.program_laws.specs.Wakes.{ArePrompt, HasDecided, Line, NoneLeaves, after_line, after_lines, before_deciding}
 use Rattle.program_laws.specs.Wakes.{longest_turn}
+use Rattle.program_laws.specs.WholeSweeps.{tells_loss, too_far_in}
 
--- the manager, whose sweep is over, is to judge its plan: it is master, and saw no other; the sweep has every answer, and
--- the manager did not stand still meanwhile; there is a plan, and its writing would not be refused
+-- the manager, whose sweep is over, is to judge its plan, if the sweep has every answer: the manager is master, and saw no
+-- other; no port leads too far, and the manager did not stand still meanwhile; there is a plan, and its writing would not
+-- be refused
 pub record SweptWell (a : Acting) : Type 0 where
   pub master : a.policy.state ≡ Master
   pub alone : rival_seen a.manager ≡ None
-  pub whole : is_whole a.manager ≡ true
+  pub near : too_far_in a.manager.sweep ≡ 0
   pub fresh : a.policy.is_stale ≡ false
   pub plan : PlanValue
   pub is_planned : planned a.manager ≡ Some plan
   pub unrefused : writing_fault a.manager ≡ None
 
--- all goes well when the manager is told a line: if it rests, it is to sweep; if its sweep is over, it is to judge its
--- plan; and if its writing is over, the plan is written
+-- all goes well when the manager is told a line: it gives no request up; if it rests, it is to sweep; if its sweep is over,
+-- it is to judge its plan; and if its writing is over, the plan is written
 pub record GoesWell (line : Line) (a : Acting) : Type 0 where
+  pub none_lost : list_any tells_loss (after_told line.0 line.1 a).notes ≡ false
   pub to_sweep : IsToSweep line a
   pub swept : is_idle (before_deciding line a).window ≡ true → is_sweeping (before_deciding line a).policy.activity ≡ true
       → SweptWell (before_deciding line a)
@@ -45,9 +49,11 @@ AllGoWell [] a = Unit {0}
 AllGoWell (line ∷ lines) a = GoesWell line a × AllGoWell lines (after_line line a)
 
 -- all goes well for a manager that decides by itself, through the lines. It may send each request once at least, one may be
--- out, nobody tells it to leave, and times fit in 64 bits
+-- out, nobody tells it to leave or has told it, its newest generation fits in 32 bits at first, and times fit in 64 bits
 pub record IsUndisturbed (n : ℕ) (a : Acting) (lines : List Line) : Type 0 where
   pub decided : HasDecided a
+  pub generations : decided.newest < 2 ^ 32
+  pub none_left : NoneLeaves decided.lines
   pub first : is_resting a.policy.activity ≡ true → is_idle a.window ≡ true → sweeps_by_itself a ≡ true
   pub well : AllGoWell lines a
   pub few : HasFewTurns n lines a

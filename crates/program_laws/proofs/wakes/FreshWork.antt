@@ -66,7 +66,7 @@ work_is activity.Rests e f = absurd (cc)
 work_is activity.Hands e f = absurd (cc)
 
 -- a manager that writes and goes on working writes on
-writes_on : (lines : List Line) (a : Acting) → GoesOn a lines → is_writing a.policy.activity ≡ true → StaysAbout works lines a → StaysAbout is_writing lines a
+pub writes_on : (lines : List Line) (a : Acting) → GoesOn a lines → is_writing a.policy.activity ≡ true → StaysAbout works lines a → StaysAbout is_writing lines a
 writes_on [] a g about stays = tt
 writes_on (line ∷ lines) a g about stays =
     let b = after_line line a in
