@@ -1,4 +1,5 @@
 pub mod serve
+pub mod lasting
 pub mod managed
 pub mod wakes
 pub mod live_steps

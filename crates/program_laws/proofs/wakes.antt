@@ -3,12 +3,17 @@ pub mod AtSeats
 pub mod Awaited
 pub mod Chances
 pub mod Deciding
+pub mod DueTimes
 pub mod Empties
+pub mod FreshWork
 pub mod InTime
+pub mod InTurn
 pub mod Load
 pub mod Makes
 pub mod News
+pub mod NextSweep
 pub mod Requests
+pub mod Resting
 pub mod Sending
 pub mod Settled
 pub mod States

@@ -7,6 +7,13 @@ pub mod Told
 pub mod AlwaysAsks
 pub mod Deciding
 pub mod ManagedEnds
+pub mod FreshWork
+pub mod Healing
+pub mod InTurn
+pub mod NextSweep
+pub mod RestTime
+pub mod StandingPings
+pub mod StandingPlans
 pub mod SweepTime
 pub mod Wakes
 pub mod WritingTime
@@ -16,3 +23,4 @@ pub mod OwnSets
 pub mod StepPlan
 pub mod ManagedWritings
 pub mod ManagedPings
+pub mod WholeSweeps

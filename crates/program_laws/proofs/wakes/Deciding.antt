@@ -158,7 +158,7 @@ sent_about a = ap (λ (p : Policy). p.activity) (only_sends a).policy
 
 -- while the manager is about something that passes the test, it decides nothing but what does not pass it
 module _ (test : Activity → Bool) (past : (a : Acting) → test a.policy.activity ≡ true → test (acted_in a.policy.activity a).policy.activity ≡ false) where
-  decides_past : (a : Acting) → a.is_leaving ≡ false → test a.policy.activity ≡ true → test (sent (caught_up (acted a))).policy.activity ≡ false
+  pub decides_past : (a : Acting) → a.is_leaving ≡ false → test a.policy.activity ≡ true → test (sent (caught_up (acted a))).policy.activity ≡ false
   decides_past a stays_on about =
       ap test (sent_about (caught_up (acted a)) ∙ caught_about (acted a)
       ∙ ap (λ (b : Acting). b.policy.activity) (cond-false a.is_leaving (left_in a.policy.activity a) (acted_in a.policy.activity a) stays_on))
@@ -190,7 +190,7 @@ module _ (test : Activity → Bool) (past : (a : Acting) → test a.policy.activ
             absurd (cc)
         by_idle false left rest = (left, rest left)
 
-  gets_on : (a : Acting) (lines : List Line) → HasDecided a → 1 ≤ a.window.limits.tries → 1 ≤ a.window.limits.outstanding → a.is_leaving ≡ false
+  pub gets_on : (a : Acting) (lines : List Line) → HasDecided a → 1 ≤ a.window.limits.tries → 1 ≤ a.window.limits.outstanding → a.is_leaving ≡ false
       → NoneLeaves lines → is_idle a.window ≡ false → test a.policy.activity ≡ true → StaysAbout test lines a → GetsOn lines a
   gets_on a lines h some room stays_on remains busy about goes_on =
       windows_empty a lines h some room stays_on remains busy
@@ -198,13 +198,13 @@ module _ (test : Activity → Bool) (past : (a : Acting) → test a.policy.activ
 
 -- sweeps and writings -----------------------------------------------------------------------------------------------
 
-sweeps_past : (what : Activity) (a : Acting) → is_sweeping what ≡ true → is_sweeping (acted_in what a).policy.activity ≡ false
+pub sweeps_past : (what : Activity) (a : Acting) → is_sweeping what ≡ true → is_sweeping (acted_in what a).policy.activity ≡ false
 sweeps_past activity.Sweeps a e = sweep_past is_sweeping refl refl refl a
 sweeps_past activity.Rests a e = absurd (cc)
 sweeps_past activity.Writes a e = absurd (cc)
 sweeps_past activity.Hands a e = absurd (cc)
 
-writings_past : (what : Activity) (a : Acting) → is_writing what ≡ true → is_writing (acted_in what a).policy.activity ≡ false
+pub writings_past : (what : Activity) (a : Acting) → is_writing what ≡ true → is_writing (acted_in what a).policy.activity ≡ false
 writings_past activity.Writes a e = writing_past is_writing refl refl a
 writings_past activity.Rests a e = absurd (cc)
 writings_past activity.Sweeps a e = absurd (cc)

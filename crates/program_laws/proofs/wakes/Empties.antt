@@ -42,7 +42,7 @@ module _ (limits : Limits) (some : 1 ≤ limits.tries) (room : 1 ≤ limits.outs
     Rests : Gone 0 line a b → is_woken line.0 a ≡ false → ((by : ℕ) → AnyLate by a.window.outs → AnyLate by b.window.outs) → Goes line a b
 
   -- what the manager sends then
-  sends_then : (k : ℕ) (line : Line) (a x : Acting) → a.is_leaving ≡ false → is_idle x.window ≡ false → Falls limits some k line a x
+  pub sends_then : (k : ℕ) (line : Line) (a x : Acting) → a.is_leaving ≡ false → is_idle x.window ≡ false → Falls limits some k line a x
       → Gone k line a (given_away (sent x))
   sends_then k line a x stays_on left fell =
       let sending = sends limits some x fell.fits in
@@ -104,7 +104,7 @@ module _ (limits : Limits) (some : 1 ≤ limits.tries) (room : 1 ≤ limits.outs
   one_at_most true = omega arith
   one_at_most false = omega arith
 
-  then_falls : (w v p c d x y z m n o : ℕ) → w + y + p * m ≤ x + p * n + p * c + c → v + z + p * n ≤ y + p * o + p * d + d
+  pub then_falls : (w v p c d x y z m n o : ℕ) → w + y + p * m ≤ x + p * n + p * c + c → v + z + p * n ≤ y + p * o + p * d + d
       → w + v + z + p * m ≤ x + p * o + p * (c + d) + (c + d)
   then_falls w v p c d x y z m n o h g = omega (arith, h, g)
 
@@ -136,7 +136,7 @@ module _ (limits : Limits) (some : 1 ≤ limits.tries) (room : 1 ≤ limits.outs
         let told = told_by in
         inl (le-leb out.deadline (by + longest_turn late limits) (omega (arith, near, told)))
 
-    due_after : (b : Acting) → b.time ≡ max line.0 a.time → Waits b → IsSoon limits (max line.0 a.time) b → IsDueBy (by + longest_turn late limits) b
+    pub due_after : (b : Acting) → b.time ≡ max line.0 a.time → Waits b → IsSoon limits (max line.0 a.time) b → IsDueBy (by + longest_turn late limits) b
     due_after b time waits near =
         let told = told_by in
         record {
@@ -144,7 +144,7 @@ module _ (limits : Limits) (some : 1 ≤ limits.tries) (room : 1 ≤ limits.outs
           next = elim waits.out [ inl up ↦ inl up | inr out ↦ inr (near_any b.window.outs out near.outs) ];
         }
 
-    due_still : (b : Acting) → b.time ≡ max line.0 a.time → is_woken line.0 a ≡ false → ((by : ℕ) → AnyLate by a.window.outs → AnyLate by b.window.outs)
+    pub due_still : (b : Acting) → b.time ≡ max line.0 a.time → is_woken line.0 a ≡ false → ((by : ℕ) → AnyLate by a.window.outs → AnyLate by b.window.outs)
         → IsDueBy by b
     due_still b time e keeps =
         let told = unasked_by e in

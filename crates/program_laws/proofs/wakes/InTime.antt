@@ -298,7 +298,7 @@ a_line_soon limits line a s =
     (cond_both (stood_still a.time now (wake_of a)) (paused_until now a) (record a { time = now }) (IsSoon limits now)
     (λ _. record { same = s.same; time = refl; outs = outs }) (λ _. record { same = s.same; time = refl; outs = outs }))
 
-lines_soon : (limits : Limits) (lines : List Line) (a : Acting) → IsSoon limits a.time a → IsSoon limits (after_lines lines a).time (after_lines lines a)
+pub lines_soon : (limits : Limits) (lines : List Line) (a : Acting) → IsSoon limits a.time a → IsSoon limits (after_lines lines a).time (after_lines lines a)
 lines_soon limits [] a s = s
 lines_soon limits (line ∷ lines) a s =
     let b = after_line line a in

@@ -45,7 +45,7 @@ less_load k p l l' r m h = omega (arith, h)
 
 -- what a manager is about ----------------------------------------------------------------------------------
 
-moved_about : (now : ℕ) (state : SmState) (p : Policy) → (moved now state p).activity ≡ p.activity
+pub moved_about : (now : ℕ) (state : SmState) (p : Policy) → (moved now state p).activity ≡ p.activity
 moved_about now state p =
     cond_both (sweeps_first state p.activity) (wanting (in_state now state p)) (in_state now state p)
     (λ (q : Policy). q.activity ≡ p.activity) (λ _. refl) (λ _. refl)

@@ -52,11 +52,11 @@ rise_more : (since : ℕ) (told : news.Told) (until later : ℕ) → until ≤ l
 rise_more since [] until later less few r = let first = r.0 in (omega (arith, first, less), few)
 rise_more since (x ∷ told) until later less few r = (r.0, rise_more x.0 told until later less few r.1)
 
-rise_behind : (since : ℕ) (told : news.Told) (until : ℕ) (n : News) → Rise since told until → Rise since (told ++ (until, n) ∷ []) until
+pub rise_behind : (since : ℕ) (told : news.Told) (until : ℕ) (n : News) → Rise since told until → Rise since (told ++ (until, n) ∷ []) until
 rise_behind since [] until n r = (r.0, (omega arith, r.1))
 rise_behind since (x ∷ told) until n r = (r.0, rise_behind x.0 told until n r.1)
 
-after_behind : (told more : news.Told) (p : Policy) → news.after_told (told ++ more) p ≡ news.after_told more (news.after_told told p)
+pub after_behind : (told more : news.Told) (p : Policy) → news.after_told (told ++ more) p ≡ news.after_told more (news.after_told told p)
 after_behind [] more p = refl
 after_behind (x ∷ told) more p = after_behind told more (after_news x.0 x.1 p)
 
@@ -304,7 +304,7 @@ in_turn time now wait turn h = omega (arith, h)
 
 -- lines in a row --------------------------------------------------------------------------------------------------
 
-times_rise : (limits : Limits) (lines : List Line) (a : Acting) → IsSoon limits a.time a → a.time ≤ (after_lines lines a).time
+pub times_rise : (limits : Limits) (lines : List Line) (a : Acting) → IsSoon limits a.time a → a.time ≤ (after_lines lines a).time
 times_rise limits [] a s = omega arith
 times_rise limits (line ∷ lines) a s =
     let b = after_line line a in
@@ -325,7 +325,7 @@ all_news timing limits (line ∷ lines) a s few h =
     let now = next.time in
     all_news timing limits lines b soon few (a_line timing line a (omega (arith, later, now, few)) h)
 
-has_news : (a : Acting) (h : HasDecided a) → a.time < 2 ^ 64 → HasNews h.timing a
+pub has_news : (a : Acting) (h : HasDecided a) → a.time < 2 ^ 64 → HasNews h.timing a
 has_news a h few =
     let first = new_acting (new_manager h.port_guid h.port h.priority h.conduct h.planning) h.timing h.limits h.newest in
     subst (HasNews h.timing) h.are

@@ -73,7 +73,7 @@ pub record IsSettled (a : Acting) : Type 0 where
   pub asks : a.is_leaving ≡ false → is_idle a.window ≡ false → 1 ≤ a.window.limits.outstanding → AsksForATime a
   pub out : a.is_leaving ≡ false → is_idle a.window ≡ false → 1 ≤ a.window.limits.outstanding → (is_given_up a ≡ true) ⊎ HasOut a
 
-caught_given : (a : Acting) → (caught_up a).manager.outgoing ≡ []
+pub caught_given : (a : Acting) → (caught_up a).manager.outgoing ≡ []
 caught_given a = ap (λ (m : Manager). m.outgoing) (looked_manager (collected a))
 
 -- what the manager queued is given out before it decides

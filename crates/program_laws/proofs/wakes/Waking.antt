@@ -418,3 +418,33 @@ module _ (limits : Limits) where
             Ends (from_then line a t (before_deciding line a) at 1 1
             (stays limits 1 (control_in line.1) t y (before_deciding line a) caught (ends_any y caught.fits)) (omega arith))
         by_taken (Kept g same up_same) = kept_kind line a t b at stays_on busy g same up_same
+
+    -- whatever is left
+    pub any_falls : (line : Line) (a : Acting) → Fits limits a → IsNoLeave line.1 → Falls 0 line a (before_deciding line a)
+    any_falls line a fits remains = by_taken (takes line.1 t remains fits_then)
+      where
+        t : Acting
+        t = told_time line.0 a
+
+        at : IsAt (max line.0 a.time) a t
+        at = moves_on line.0 a
+
+        fits_then : Fits limits t
+        fits_then = record {
+          same = ap (λ (w : Window). w.limits) at.window ∙ fits.same;
+          whole = subst (λ (m : Manager). IsSentWhole m.sweep) (sym at.manager) fits.whole;
+        }
+
+        b : Acting
+        b = taken line.1 t
+
+        by_goes : (k : ℕ) → Goes limits k (control_in line.1) t b → Falls 0 line a (before_deciding line a)
+        by_goes k g =
+            let y = caught_up b in
+            let caught = stays limits k (control_in line.1) t b y g (catches_up limits b g.fits) in
+            from_then line a t (before_deciding line a) at k 0
+            (stays limits k (control_in line.1) t y (before_deciding line a) caught (ends_any y caught.fits)) (omega arith)
+
+        by_taken : Took (control_in line.1) t b → Falls 0 line a (before_deciding line a)
+        by_taken (Fell g) = by_goes 1 g
+        by_taken (Kept g same up_same) = by_goes 0 g

@@ -6,6 +6,7 @@ ghost use Rattle.program_laws.specs.ManagedEnds.{SweepsLoseNothing, WritingsLose
 ghost use Rattle.program_laws.specs.SweepTime.{SomeSweepIsAtASeat, SweepsEndInTime};
 ghost use Rattle.program_laws.specs.WritingTime.{SomeManagerBeginsToWrite, WritingsEndInTime};
 ghost use Rattle.program_laws.specs.Wakes.{WindowsEmpty};
+ghost use Rattle.program_laws.specs.WholeSweeps.{AnsweredSweepsAreWhole};
 
 /// Whatever is told to a manager that decides by itself, and whatever happens around it, if its shell is faithful it is
 /// a manager at its seat: some events of a manager lead to the same scene with the same manager, who has given out each
@@ -103,4 +104,12 @@ pub fn writings_end_in_time()
 /// once it has swept.
 pub fn some_manager_begins_to_write()
     ensures { SomeManagerBeginsToWrite }
+{}
+
+/// If a manager that decides by itself notes no request that it gives up, after the line that begins its sweep and up
+/// to the one at which the sweep is over, and no port leads too far, the sweep has every answer. It gives up a request
+/// that has no answer after all tries, or one whose answer it refuses. Any packets may come, in any order, and the
+/// manager may stand still. Its newest generation fits in 32 bits at first, and nobody tells it to leave.
+pub fn answered_sweeps_are_whole()
+    ensures { AnsweredSweepsAreWhole }
 {}

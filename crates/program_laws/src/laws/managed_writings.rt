@@ -1,6 +1,7 @@
 //! The laws of what a manager that decides by itself writes, at its seat on a fabric.
 ghost use Rattle.program_laws.specs.ManagedPings.{ManagedPingsArrive, SomeManagerDecides};
 ghost use Rattle.program_laws.specs.ManagedWritings.{WritesNothingElse, WritesWhatOneSweepSaw};
+ghost use Rattle.program_laws.specs.StandingPlans.{SettlesWhenWritten, StandingPlansAreWritten};
 
 /// Whatever is told to a new manager that decides by itself, and whatever happens around it, if its shell is faithful,
 /// each writing that it begins is of what its last sweep saw: it held no facts when that sweep began, and has learned
@@ -30,4 +31,19 @@ pub fn managed_pings_arrive()
 /// Some manager decides by itself and brings a subnet up: a new manager on an adapter that is wired to another adapter.
 pub fn some_manager_decides()
     ensures { SomeManagerDecides }
+{}
+
+/// If a plan stands for a manager that decides by itself, and the manager is about no writing and was not told to
+/// leave, its last writing was of the plan that it keeps, and that is written: each of the writing's steps that count
+/// was answered with status 0. When this writing began, the plan was that of the manager's facts, and no other writing
+/// has begun since. Any packets may have come, in any order, and the manager may have stood still.
+pub fn standing_plans_are_written()
+    ensures { StandingPlansAreWritten }
+{}
+
+/// When a manager that decides by itself notes that nothing is left to write, the plan of its facts is the one that it
+/// wrote last, and that is written, as in `standing_plans_are_written`. The manager is master then, and alone, or the
+/// other master does not give way; and it has every answer, or waits no longer for those that lack.
+pub fn settles_when_written()
+    ensures { SettlesWhenWritten }
 {}

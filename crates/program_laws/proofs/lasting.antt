@@ -1,0 +1,9 @@
+pub mod Answered
+pub mod Counted
+pub mod Healing
+pub mod Notes
+pub mod Running
+pub mod Settling
+pub mod Standing
+pub mod StandingPings
+pub mod Told
