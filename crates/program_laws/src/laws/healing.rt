@@ -6,26 +6,26 @@ ghost use Rattle.program_laws.specs.NextSweep.{SweepsAgainInTime};
 ghost use Rattle.program_laws.specs.RestTime.{RestsEndInTime};
 ghost use Rattle.program_laws.specs.StandingPings.{StandingPingsArrive};
 
-/// What a manager that decides by itself is about changes in one order alone: when it rests, it may begin a sweep; after
-/// a sweep it writes, hands over or rests; after a writing it hands over or rests; after a handover it rests. This is so
-/// whatever it is told, if it is not told to leave. Its requests may be sent more than 0 times.
+/// What a manager that decides by itself is about changes in one order alone: when it rests, it may begin a sweep;
+/// after a sweep it writes, hands over or rests; after a writing it hands over or rests; after a handover it rests.
+/// This is so whatever it is told, if it is not told to leave. Its requests may be sent more than 0 times.
 pub fn works_in_turn()
     ensures { WorksInTurn }
 {}
 
-/// A manager that decides by itself rests at most for its longest wait, plus as many turns as its requests can be late,
-/// plus one; a turn is three time-outs, plus the milliseconds by which its shell is late. Then it begins a sweep, if it
-/// sweeps by itself whenever it decides (it discovers, is master, or is a standby that knows no master), and no sweep of
-/// it is refused. The longest wait is ten seconds, its period or that of its polls. The times that it was told fit in 64
-/// bits. All else is as in `windows_empty`.
+/// A manager that decides by itself rests at most for its longest wait, plus as many turns as its requests can be
+/// late, plus one; a turn is three time-outs, plus the milliseconds by which its shell is late. Then it begins a
+/// sweep, if it sweeps by itself whenever it decides (it discovers, is master, or is a standby that knows no master),
+/// and no sweep of it is refused. The longest wait is ten seconds, its period or that of its polls. The times that it
+/// was told fit in 64 bits. All else is as in `windows_empty`.
 pub fn rests_end_in_time()
     ensures { RestsEndInTime }
 {}
 
-/// A manager that decides by itself begins a sweep before long, whatever it is about at first: at most its longest wait
-/// and `4 * (n + 3)` turns later, if what it has to send can be late at most `n` times between any two moments until
-/// then. A sweep that runs at first is over before, and so are the writing of its plan and the offer of the subnet to
-/// another manager. All else is as in `rests_end_in_time`.
+/// A manager that decides by itself begins a sweep before long, whatever it is about at first: at most its longest
+/// wait and `4 * (n + 3)` turns later, if what it has to send can be late at most `n` times between any two moments
+/// until then. A sweep that runs at first is over before, and so are the writing of its plan and the offer of the
+/// subnet to another manager. All else is as in `rests_end_in_time`.
 pub fn sweeps_again_in_time()
     ensures { SweepsAgainInTime }
 {}
@@ -37,21 +37,22 @@ pub fn works_again_in_time()
     ensures { WorksAgainInTime }
 {}
 
-/// If all goes well for so long, a manager that decides by itself has swept, and has its plan written: the work on a
-/// sweep that began meanwhile is over, and the plan that it keeps is that of its last writing, each of whose LID, block
-/// and top Sets was answered with status 0. *So long* is as in `works_again_in_time`, with all that it asks. *All goes
-/// well* means: when its sweep is over, it is master and saw no other master, the sweep has every answer, it did not
-/// stand still meanwhile, and each end port finds a LID; its writing is not refused; when this is over, the plan counts
-/// as written.
+/// A manager that decides by itself has swept anew, and has its plan written, after at most as long as in
+/// `works_again_in_time`, whatever it is about at first, if six conditions hold: it gives no request up; whenever it
+/// decides while it rests, it is to sweep, as in `rests_end_in_time`; when its sweep is over, it is master and saw no
+/// other master; no path led too far, and it did not stand still meanwhile; each end port finds a LID, and its writing
+/// is not refused; when its writing is over, the plan counts as written. The plan that it keeps is then that of its
+/// last writing, each of whose LID, block and top Sets was answered with status 0. All else is as in
+/// `works_again_in_time`.
 pub fn heals_in_time()
     ensures { HealsInTime }
 {}
 
 /// While the plan of a strict manager that decides by itself stands, and it writes nothing, each ping from an end port
-/// that its seat is joined to, for each LID of the plan, reaches the end port that owns the LID, if six conditions hold:
-/// at first no packet is on its way, and GUIDs differ; the manager is new then; its shell is faithful; no cable moves;
-/// since its last writing began, each Set that an agent took is one of the writing's own or carries the plan's values;
-/// nobody told the manager to leave.
+/// that its seat is joined to, for each LID of the plan, reaches the end port that owns the LID, if six conditions
+/// hold: at first no packet is on its way, and GUIDs differ; the manager is new then; its shell is faithful; no cable
+/// moves; since its last writing began, each Set that an agent took is one of the writing's own or carries the plan's
+/// values; nobody told the manager to leave.
 pub fn standing_pings_arrive()
     ensures { StandingPingsArrive }
 {}
