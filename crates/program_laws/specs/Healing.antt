@@ -1,7 +1,7 @@
 -- A manager that decides by itself has its plan written before long, whatever it is about at first, if nothing is lost and
 -- no other master is there. InfiniBand Architecture Specification, Volume 1: subnet management, subnet manager (sweeping),
 -- initialization.
-use Rattle.std.specs.Prelude.{◌≡◌, ◌≤◌, ◌<◌, ◌+◌, ◌*◌, ◌^◌, ℕ, Bool, true, false, List, [], ◌∷◌, ◌++◌, Some, None}
+use Rattle.std.specs.Prelude.{◌≡◌, ◌≤◌, ◌<◌, ◌+◌, ◌*◌, ◌^◌, ℕ, true, false, List, [], ◌∷◌, ◌++◌, Some, None}
 use Rattle.std.specs.List.{list_any}
 use Rattle.lft_blocks.specs.Plan.{PlanValue}
 use Rattle.sm_state.specs.declared.state.SmState.TheVariants.{Master}

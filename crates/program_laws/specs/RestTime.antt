@@ -1,6 +1,6 @@
 -- How long a manager that decides by itself rests before it sweeps. InfiniBand Architecture Specification, Volume 1:
 -- subnet management, subnet manager (sweeping).
-use Rattle.std.specs.Prelude.{◌≡◌, ◌≤◌, ◌<◌, ◌+◌, ◌*◌, ◌^◌, ℕ, Bool, true, false, List, [], ◌∷◌, Option, Some, None}
+use Rattle.std.specs.Prelude.{◌≡◌, ◌≤◌, ◌<◌, ◌+◌, ◌*◌, ◌^◌, ℕ, Bool, true, false, List, [], ◌∷◌, Option, None}
 use Rattle.sm_state.specs.declared.state.SmState.{SmState}
 use Rattle.sm_state.specs.declared.state.SmState.TheVariants.{Discovering, Standby, Master}
 use Rattle.sm_manager.specs.Manager.{begin_fault}

@@ -1,14 +1,12 @@
 -- If all goes well for long enough, a manager sweeps and has its plan written.
-use Rattle.std.proofs.Common.{◌≡◌, ◌∙◌, ◌⊎◌, inl, inr, ℕ, suc, ◌+◌, ◌*◌, ◌<◌, ◌≤◌, Bool, true, false, cond, ◌&&◌, ◌||◌, not, List, [], ◌∷◌, ◌++◌, refl, sym, ap, subst, arith}
+use Rattle.std.proofs.Common.{◌≡◌, ◌∙◌, ◌⊎◌, inl, inr, ℕ, Bool, true, false, ◌&&◌, not, List, [], ◌∷◌, ◌++◌, refl, sym, ap, subst, arith}
 use Rattle.std.proofs.lemmas.Bool.{and_parts, both_ways, cond_both, cond-true, cond-false}
 use Rattle.std.specs.Prelude.{Option, Some, None, is_none}
 use Rattle.lft_blocks.specs.Plan.{PlanValue}
 use Rattle.sm_state.specs.declared.state.SmState.TheVariants.{Master}
 use Rattle.sm_manager.specs.PlanFaults.{writing_fault}
-use Rattle.sm_manager.specs.Writing.{is_written}
 use Rattle.sm_policy.specs.Judged.{anew, cause_of, failed, judged, stood}
 use Rattle.sm_policy.specs.Policy.{Decision, is_sweeping}
-use Rattle.sm_policy.specs.PolicyLaws.{longest_wait}
 use Rattle.sm_policy.specs.Swept.{ended, swept, swept_in}
 use Rattle.sm_policy.specs.declared.act.Act.{Act}
 use Rattle.sm_policy.specs.declared.act.Act.TheVariants as act
@@ -25,12 +23,12 @@ use Rattle.acting_manager.specs.Planned.{comparison_of, is_same_plan}
 use Rattle.acting_manager.specs.Working.{is_idle, is_writing, sent}
 use Rattle.acting_manager.specs.declared.note.Note.TheVariants.{Swept}
 use Rattle.program_laws.specs.FreshWork.{EndNoFreshWork, works}
-use Rattle.program_laws.specs.Healing.{AllGoWell, GoesWell, Heals, HealsInTime, IsUndisturbed, SweptWell}
+use Rattle.program_laws.specs.Healing.{AllGoWell, GoesWell, Heals, HealsInTime, SweptWell}
 use Rattle.program_laws.specs.ManagedEnds.{StaysAbout}
 use Rattle.program_laws.specs.NextSweep.{begins_sweep}
 use Rattle.program_laws.specs.StandingPlans.{KeepsWritten}
 use Rattle.program_laws.specs.WholeSweeps.{NothingGivenUp, too_far_in}
-use Rattle.program_laws.specs.Wakes.{HasDecided, Line, NoneLeaves, after_line, after_lines, before_deciding}
+use Rattle.program_laws.specs.Wakes.{Line, NoneLeaves, after_line, after_lines, before_deciding}
 use Rattle.program_laws.proofs.lasting.Answered.{answered_sweeps_are_whole}
 use Rattle.program_laws.proofs.lasting.Running.{is_running, still_runs, still_sound}
 use Rattle.program_laws.proofs.lasting.Standing.{full, is_sound}

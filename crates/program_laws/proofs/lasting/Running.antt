@@ -1,6 +1,6 @@
 -- The plan that a manager writes is the one that it keeps.
-use Rattle.std.proofs.Common.{◌≡◌, ◌∙◌, Bool, true, false, cond, ◌&&◌, List, [], ◌∷◌, ◌++◌, refl, sym, ap, subst}
-use Rattle.std.proofs.lemmas.Bool.{cond_both, cond-true, cond-false}
+use Rattle.std.proofs.Common.{◌≡◌, ◌∙◌, Bool, true, false, cond, List, [], ◌∷◌, refl, sym, ap, subst}
+use Rattle.std.proofs.lemmas.Bool.{cond_both}
 use Rattle.std.specs.Prelude.{Option, Some, None, is_none}
 use Rattle.smp_bytes.specs.Field.{number_in}
 use Rattle.smp_bytes.specs.Packet.{transaction_id}
@@ -26,7 +26,7 @@ use Rattle.sm_policy.specs.declared.write_cause.WriteCause.{WriteCause}
 use Rattle.acting_manager.specs.Acting.{Acting, caught_up, new_acting, noted}
 use Rattle.acting_manager.specs.Acts.{about_plan, acted, acted_in, done_by, floor_raised, is_whole, left_in, noted_unplanned, rival_seen}
 use Rattle.acting_manager.specs.Planned.{comparison_of, planned}
-use Rattle.acting_manager.specs.Working.{acted_if_idle, is_idle, is_writing, sent, yielding_at_once}
+use Rattle.acting_manager.specs.Working.{acted_if_idle, is_idle, is_writing, yielding_at_once}
 use Rattle.acting_manager.specs.declared.note.Note.TheVariants.{Swept}
 use Rattle.manager_laws.specs.WritingEnds.{HasLived}
 use Rattle.program_laws.specs.InTurn.{may_follow}

@@ -1,9 +1,8 @@
 -- While its plan stands, what a manager has written serves.
-use Rattle.std.proofs.Common.{◌≡◌, ◌∙◌, ◌⊎◌, inl, inr, true, false, List, [], ◌∷◌, refl, sym, ap, subst}
+use Rattle.std.proofs.Common.{◌≡◌, ◌∙◌, inl, inr, true, false, List, [], ◌∷◌, sym}
 use Rattle.sweep.specs.Sweep.{Sweep}
-use Rattle.acting_manager.specs.Acting.{Acting}
 use Rattle.manager_laws.specs.Complete.{IsWhole}
-use Rattle.program_laws.specs.Deciding.{Deciding, DecidingEvent, after_deciding_event, after_deciding_events}
+use Rattle.program_laws.specs.Deciding.{Deciding, DecidingEvent, after_deciding_events}
 use Rattle.program_laws.specs.ManagedPings.{BringsUpManaged, managed_at_end, managed_at_writing}
 use Rattle.program_laws.specs.ManagedWritings.{IsNew, MayWrite, WritesOneSweep, managing_of}
 use Rattle.program_laws.specs.StandingPings.{StandingPingsArrive, StandsManaged}

@@ -1,7 +1,6 @@
 -- While a manager rests, the time at which it sweeps is not put off.
-use Rattle.std.proofs.Common.{◌≡◌, ◌∙◌, ℕ, zero, suc, ◌<◌, ◌≤◌, ◌^◌, Bool, true, false, cond, ◌&&◌, List, [], ◌∷◌, ◌++◌, length, refl, sym, ap, subst, arith}
+use Rattle.std.proofs.Common.{◌≡◌, ◌∙◌, ℕ, zero, suc, ◌≤◌, Bool, true, false, cond, ◌&&◌, List, [], ◌∷◌, ◌++◌, length, refl, sym, ap, subst, arith}
 use Rattle.std.proofs.lemmas.Bool.{cond_both}
-use Rattle.std.proofs.lemmas.Option.{same_Some}
 use Rattle.std.specs.Prelude.{Option, Some, None, is_none, max}
 use Rattle.smp_bytes.specs.Packet.{fault_of, is_response}
 use Rattle.smp_bytes.specs.declared.smp_fault.SmpFault.{SmpFault}
@@ -25,7 +24,7 @@ use Rattle.request_window.specs.declared.late.Late.{Late}
 use Rattle.request_window.specs.declared.late.Late.TheVariants.{Again, GivenUp}
 use Rattle.acting_manager.specs.Acting.{Acting, caught_up, collected, entered, looked}
 use Rattle.acting_manager.specs.Heard.{answered, answers_poll, asked, given_up, handed_in, hands_over, heard_by, requested, responded, says_master, tells_change, told}
-use Rattle.acting_manager.specs.Working.{Told, all_overdue, dropped, dropped_one, is_given_up, is_resting, late_done, one_overdue, out_dropped, paused_until}
+use Rattle.acting_manager.specs.Working.{Told, all_overdue, dropped, dropped_one, is_given_up, late_done, one_overdue, out_dropped, paused_until}
 use Rattle.acting_manager.specs.Working.{queued_dropped, repeated, stood_still, stopped, taken, told_time, wake_of}
 use Rattle.program_laws.specs.Wakes.{IsNoLeave, Line, before_deciding}
 use Rattle.program_laws.proofs.wakes.News.{HasNews, after_behind, rise_behind}

@@ -1,7 +1,7 @@
 -- A manager that is to sweep ends its work on a new sweep before long, whatever it is about at first.
-use Rattle.std.proofs.Common.{◌≡◌, ◌∙◌, ℕ, zero, suc, ◌+◌, ◌*◌, ◌<◌, ◌≤◌, ◌^◌, Bool, true, false, ◌&&◌, ◌||◌, not, List, [], ◌∷◌, ◌++◌, refl, sym, ap, subst, arith}
+use Rattle.std.proofs.Common.{◌≡◌, ◌∙◌, ℕ, ◌+◌, ◌*◌, ◌<◌, ◌≤◌, ◌^◌, Bool, true, false, ◌&&◌, not, List, [], ◌∷◌, ◌++◌, refl, sym, ap, subst, arith}
 use Rattle.std.proofs.lemmas.Bool.{and_parts}
-use Rattle.std.specs.Prelude.{Option, max}
+use Rattle.std.specs.Prelude.{Option}
 use Rattle.sm_state.specs.declared.state.SmState.{SmState}
 use Rattle.sm_state.specs.declared.state.SmState.TheVariants.{NotActive, Discovering, Standby, Master}
 use Rattle.sm_policy.specs.Policy.{is_sweeping}
@@ -12,10 +12,10 @@ use Rattle.sm_policy.specs.declared.rival.Rival.{Rival}
 use Rattle.request_window.specs.declared.limits.Limits.{Limits}
 use Rattle.acting_manager.specs.Acting.{Acting}
 use Rattle.acting_manager.specs.Working.{is_idle, is_resting, is_writing, wake_of}
-use Rattle.program_laws.specs.FreshWork.{EndNoFreshWork, IsWithoutFreshWork, WorksAgainInTime, works}
+use Rattle.program_laws.specs.FreshWork.{EndNoFreshWork, WorksAgainInTime, works}
 use Rattle.program_laws.specs.InTurn.{may_follow}
 use Rattle.program_laws.specs.ManagedEnds.{StaysAbout}
-use Rattle.program_laws.specs.NextSweep.{BeginNoSweep, HasFewTurns, IsToSweep, begins_sweep}
+use Rattle.program_laws.specs.NextSweep.{BeginNoSweep, HasFewTurns, begins_sweep}
 use Rattle.program_laws.specs.RestTime.{sweeps_by_itself, sweeps_in}
 use Rattle.program_laws.specs.Wakes.{ArePrompt, HasDecided, IsBy, Line, NoneLeaves, after_line, after_lines, longest_turn}
 use Rattle.program_laws.proofs.wakes.AtSeats.{lines_both}
@@ -23,7 +23,7 @@ use Rattle.program_laws.proofs.wakes.Deciding.{sweeps_past, writings_past}
 use Rattle.program_laws.proofs.wakes.InTime.{a_line_soon, has_soon}
 use Rattle.program_laws.proofs.wakes.InTurn.{works_in_turn}
 use Rattle.program_laws.proofs.wakes.News.{always_asks, times_rise}
-use Rattle.program_laws.proofs.wakes.NextSweep.{Split, about_last, busy_told, few_first, few_later, has_more, line_stays, line_told, lines_stay, no_sweep_rests}
+use Rattle.program_laws.proofs.wakes.NextSweep.{Split, about_last, busy_told, few_first, few_later, has_more, line_told, lines_stay, no_sweep_rests}
 use Rattle.program_laws.proofs.wakes.NextSweep.{no_writing_rests, none_first, none_later, prompt_first, prompt_later, same_limits, split, stage_time}
 use Rattle.program_laws.proofs.wakes.NextSweep.{sweeps_again_in_time}
 use Rattle.program_laws.proofs.wakes.NextSweep.Split.{Ends, Whole}

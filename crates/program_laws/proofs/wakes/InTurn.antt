@@ -1,13 +1,11 @@
 -- A manager that decides goes on with what may follow.
-use Rattle.std.proofs.Common.{◌≡◌, ◌∙◌, ◌≤◌, Bool, true, false, cond, refl, sym, ap, subst}
-use Rattle.std.proofs.lemmas.Bool.{cond_both, cond-true, cond-false}
-use Rattle.std.specs.Prelude.{Option, Some, None, is_none}
+use Rattle.std.proofs.Common.{◌≡◌, ◌∙◌, Bool, true, false, cond, refl, ap, subst}
+use Rattle.std.proofs.lemmas.Bool.{cond_both, cond-false}
+use Rattle.std.specs.Prelude.{None, is_none}
 use Rattle.sm_manager.specs.Election.{poll_fault}
 use Rattle.sm_manager.specs.Manager.{begin_fault}
-use Rattle.sm_policy.specs.Judged.{failed}
-use Rattle.sm_policy.specs.Policy.{Decision, is_sweeping, polled}
+use Rattle.sm_policy.specs.Policy.{Decision, is_sweeping}
 use Rattle.sm_policy.specs.Resting.{call_due, is_due, poll_due, rested, sweep_due}
-use Rattle.sm_policy.specs.declared.act.Act.TheVariants as act
 use Rattle.sm_policy.specs.declared.activity.Activity.{Activity}
 use Rattle.sm_policy.specs.declared.activity.Activity.TheVariants as activity
 use Rattle.sm_policy.specs.declared.policy.Policy.{Policy}
@@ -15,7 +13,7 @@ use Rattle.acting_manager.specs.Acting.{Acting, caught_up}
 use Rattle.acting_manager.specs.Acts.{acted, acted_in, decided, floor_raised, left_in}
 use Rattle.acting_manager.specs.Working.{is_idle, sent}
 use Rattle.program_laws.specs.InTurn.{WorksInTurn, may_follow}
-use Rattle.program_laws.specs.Wakes.{Line, before_deciding}
+use Rattle.program_laws.specs.Wakes.{before_deciding}
 use Rattle.program_laws.proofs.wakes.Deciding.{caught_about, sent_about, writing_past}
 use Rattle.program_laws.proofs.wakes.Settled.{has_settled}
 use Rattle.program_laws.proofs.wakes.Waking.{Falls, any_falls}

@@ -3,8 +3,8 @@ use Rattle.std.proofs.Common.{◌≡◌, ◌∙◌, ℕ, zero, suc, ◌+◌, ◌
 use Rattle.std.proofs.lemmas.Bool.{both_ways, cond_both, cond-true, cond-false}
 use Rattle.std.proofs.lemmas.List.{append_assoc, append-nil}
 use Rattle.std.proofs.lemmas.Nat.{mul-le}
-use Rattle.std.specs.Prelude.{Option, Some, None, max}
-use Rattle.sm_policy.specs.Policy.{is_master, is_sweeping}
+use Rattle.std.specs.Prelude.{Some, max}
+use Rattle.sm_policy.specs.Policy.{is_sweeping}
 use Rattle.sm_policy.specs.PolicyLaws.{longest_wait}
 use Rattle.sm_policy.specs.Resting.{due_in}
 use Rattle.sm_policy.specs.declared.activity.Activity.{Activity}
@@ -15,14 +15,14 @@ use Rattle.acting_manager.specs.Acts.{acted, acted_in}
 use Rattle.acting_manager.specs.Working.{acted_if_idle, given_away, is_given_up, is_idle, is_resting, is_writing, not_before, sent, wake_in, wake_of}
 use Rattle.program_laws.specs.InTurn.{may_follow}
 use Rattle.program_laws.specs.ManagedEnds.{StaysAbout}
-use Rattle.program_laws.specs.NextSweep.{BeginNoSweep, HasFewTurns, IsWithoutSweep, SweepsAgainInTime, begins_sweep}
-use Rattle.program_laws.specs.RestTime.{IsRest, RestsThrough, sweeps_by_itself}
-use Rattle.program_laws.specs.Wakes.{ArePrompt, GetsOn, HasDecided, IsBy, Line, NoneLeaves, after_line, after_lines, before_deciding, longest_turn}
+use Rattle.program_laws.specs.NextSweep.{BeginNoSweep, HasFewTurns, IsWithoutSweep, SweepsAgainInTime}
+use Rattle.program_laws.specs.RestTime.{RestsThrough}
+use Rattle.program_laws.specs.Wakes.{ArePrompt, HasDecided, IsBy, Line, NoneLeaves, after_line, after_lines, before_deciding, longest_turn}
 use Rattle.program_laws.specs.Wakes.{turns_until}
 use Rattle.program_laws.proofs.wakes.AtSeats.{lines_both, longer}
-use Rattle.program_laws.proofs.wakes.Deciding.{decides_past, gets_on, sent_about, sweeps_past, writings_past}
-use Rattle.program_laws.proofs.wakes.Empties.{first_due, line_goes, sends_then}
-use Rattle.program_laws.proofs.wakes.InTime.{IsSoon, a_line_soon, has_soon, lines_soon}
+use Rattle.program_laws.proofs.wakes.Deciding.{decides_past, gets_on, sweeps_past, writings_past}
+use Rattle.program_laws.proofs.wakes.Empties.{first_due, sends_then}
+use Rattle.program_laws.proofs.wakes.InTime.{a_line_soon, has_soon, lines_soon}
 use Rattle.program_laws.proofs.wakes.InTurn.{works_in_turn}
 use Rattle.program_laws.proofs.wakes.News.{times_rise}
 use Rattle.program_laws.proofs.wakes.Resting.{rests_end_in_time}

@@ -1,5 +1,5 @@
 -- A manager that rests begins a sweep in time.
-use Rattle.std.proofs.Common.{◌≡◌, ◌∙◌, ◌⊎◌, inl, inr, ℕ, zero, suc, ◌+◌, ◌-◌, ◌*◌, ◌<◌, ◌≤◌, ◌^◌, Bool, true, false, cond, ◌&&◌, List, [], ◌∷◌, ◌||◌, ◌++◌, not, length, refl, sym, ap, subst, arith}
+use Rattle.std.proofs.Common.{◌≡◌, ◌∙◌, inl, inr, ℕ, ◌+◌, ◌-◌, ◌*◌, ◌≤◌, Bool, true, false, cond, ◌&&◌, List, [], ◌∷◌, ◌||◌, ◌++◌, not, length, refl, sym, ap, subst, arith}
 use Rattle.std.proofs.lemmas.Bool.{cond_both, cond-true, cond-false, eq-eqb, leb-false, leb-true, le-leb}
 use Rattle.std.proofs.lemmas.Nat.{mul-le}
 use Rattle.std.specs.List.{AllByRecursion}
@@ -10,7 +10,7 @@ use Rattle.sm_state.specs.declared.state.SmState.TheVariants.{NotActive, Discove
 use Rattle.sm_manager.specs.Manager.{Manager, begin_fault, is_running}
 use Rattle.sm_manager.specs.declared.outgoing.Outgoing.{Outgoing}
 use Rattle.sm_policy.specs.Judged.{failed}
-use Rattle.sm_policy.specs.Policy.{Decision, in_state, is_master, later_by, moved, still, sweeps_first, wanting}
+use Rattle.sm_policy.specs.Policy.{is_master, moved, still, sweeps_first}
 use Rattle.sm_policy.specs.PolicyLaws.{longest_wait}
 use Rattle.sm_policy.specs.Resting.{call_due, call_due_in, due_in, earlier, is_due, poll_due, poll_due_in, rest_due, rested, sweep_due, sweep_due_in, sweeping}
 use Rattle.sm_policy.specs.declared.act.Act.TheVariants as act
@@ -24,7 +24,7 @@ use Rattle.acting_manager.specs.Acting.{Acting, caught_up, collected, entered, i
 use Rattle.acting_manager.specs.Acts.{acted, acted_in, decided, floor_raised, left_in, sweeping_on}
 use Rattle.acting_manager.specs.Working.{all_overdue, are_none, given_away, is_given_up, is_idle, is_resting, is_writing, not_before, sent, stopped}
 use Rattle.acting_manager.specs.Working.{taken, told_time, wake_of}
-use Rattle.program_laws.specs.RestTime.{IsRest, MaySweep, RestsEndInTime, RestsThrough, sweeps_by_itself, sweeps_in}
+use Rattle.program_laws.specs.RestTime.{MaySweep, RestsEndInTime, RestsThrough, sweeps_by_itself, sweeps_in}
 use Rattle.program_laws.specs.Wakes.{ArePrompt, AsksForATime, IsBy, IsNoLeave, Line, NoneLeaves, after_line, after_lines, before_deciding, chances_in}
 use Rattle.program_laws.specs.Wakes.{controls_in, control_in, longest_turn, next_in, sets_to_come, turns_until}
 use Rattle.program_laws.proofs.wakes.Chances.{AnyLate}
