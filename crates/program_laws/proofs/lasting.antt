@@ -1,9 +1,12 @@
 pub mod Answered
 pub mod Counted
+pub mod FirstPlans
 pub mod Healing
+pub mod HealingAtSeat
 pub mod Notes
 pub mod Running
 pub mod Settling
 pub mod Standing
 pub mod StandingPings
+pub mod StillWritten
 pub mod Told

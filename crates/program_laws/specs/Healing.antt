@@ -75,8 +75,8 @@ pub record Heals (lines : List Line) (a : Acting) : Type 0 where
   pub begun : begins_sweep begins (after_lines before a) ≡ true
   pub goes_on : StaysAbout works during (after_line begins (after_lines before a))
   pub over : works (after_line ends (after_lines during (after_line begins (after_lines before a)))).policy.activity ≡ false
-  pub written : KeepsWritten (before_deciding ends (after_lines during (after_line begins (after_lines before a)))).kept
-      (before_deciding ends (after_lines during (after_line begins (after_lines before a)))).manager
+  pub written : KeepsWritten (after_line ends (after_lines during (after_line begins (after_lines before a)))).kept
+      (after_line ends (after_lines during (after_line begins (after_lines before a)))).manager
 
 -- if all goes well for so long, the manager has swept and has its plan written (`Heals`)
 abbrev pub HealsInTime : Type 0

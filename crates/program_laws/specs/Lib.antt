@@ -9,6 +9,7 @@ pub mod Deciding
 pub mod ManagedEnds
 pub mod FreshWork
 pub mod Healing
+pub mod HealingAtSeat
 pub mod InTurn
 pub mod NextSweep
 pub mod RestTime

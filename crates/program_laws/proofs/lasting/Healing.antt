@@ -32,6 +32,7 @@ use Rattle.program_laws.specs.Wakes.{Line, NoneLeaves, after_line, after_lines, 
 use Rattle.program_laws.proofs.lasting.Answered.{answered_sweeps_are_whole}
 use Rattle.program_laws.proofs.lasting.Running.{is_running, still_runs, still_sound}
 use Rattle.program_laws.proofs.lasting.Standing.{full, is_sound}
+use Rattle.program_laws.proofs.lasting.StillWritten.{line_written}
 use Rattle.program_laws.proofs.wakes.Deciding.{caught_about, sent_about}
 use Rattle.program_laws.proofs.wakes.FreshWork.{GoesOn, begun_is, goes_first, goes_later, goes_line, works_again_in_time, writes_on}
 use Rattle.program_laws.proofs.wakes.NextSweep.{Split, about_last, has_more, none_first, split}
@@ -153,8 +154,17 @@ module _ (line : Line) (a : Acting) (g : GoesOn a (line ∷ [])) (about : works 
       let k = (still_runs line a (is_running a g.decided)).writes stays (ap is_writing e) in
       record { plan = k.plan; is_kept = k.is_kept; last = k.last; written = well.wrote idle (ap is_writing e) }
 
-  ends_written : KeepsWritten x.kept x.manager
-  ends_written = by_what x.policy.activity refl (ap works fell.about ∙ about)
+  -- and so it is after the line
+  no_writing : (what : Activity) → works what ≡ false → is_writing what ≡ false
+  no_writing activity.Rests e = refl
+  no_writing activity.Hands e = refl
+  no_writing activity.Sweeps e = absurd (cc)
+  no_writing activity.Writes e = absurd (cc)
+
+  ends_written : KeepsWritten (after_line line a).kept (after_line line a).manager
+  ends_written =
+      line_written line a stays idle (no_writing (after_line line a).policy.activity over)
+      (by_what x.policy.activity refl (ap works fell.about ∙ about))
     where
       by_what : (what : Activity) → x.policy.activity ≡ what → works what ≡ true → KeepsWritten x.kept x.manager
       by_what activity.Sweeps e w = sweep_written e

@@ -80,7 +80,7 @@ still_last plan m call quiet l =
       are = after_both l.calls (call ∷ []) (after_write_steps l.before) ∙ ap (λ (x : Manager). after_call x call) l.are;
     }
 
-still_kept : (kept : Option PlanValue) (m : Manager) (call : Call) → BeginsNone m call → KeepsWritten kept m → KeepsWritten kept (after_call m call)
+pub still_kept : (kept : Option PlanValue) (m : Manager) (call : Call) → BeginsNone m call → KeepsWritten kept m → KeepsWritten kept (after_call m call)
 still_kept kept m call quiet k =
     record {
       plan = k.plan;

@@ -1,6 +1,7 @@
 -- While its plan stands, what a manager has written serves.
 use Rattle.std.proofs.Common.{◌≡◌, ◌∙◌, inl, inr, true, false, List, [], ◌∷◌, sym}
 use Rattle.sweep.specs.Sweep.{Sweep}
+use Rattle.sm_policy.specs.declared.policy.Policy.{Policy}
 use Rattle.manager_laws.specs.Complete.{IsWhole}
 use Rattle.program_laws.specs.Deciding.{Deciding, DecidingEvent, after_deciding_events}
 use Rattle.program_laws.specs.ManagedPings.{BringsUpManaged, managed_at_end, managed_at_writing}
@@ -32,6 +33,11 @@ new_decided d new =
 events_decided : (events : List DecidingEvent) (d : Deciding) → HasDecided d.acting → HasDecided (after_deciding_events events d).acting
 events_decided events d h = has_more d.acting (lines_of events d) (after_deciding_events events d).acting (sym (events_acting events d)) h
 
+-- what a strict manager writes has every answer
+pub strict_whole : (p : Policy) (x : Sweep) → p.timing.is_strict ≡ true → MayWrite p x → IsWhole x
+strict_whole p x strict (inl all) = all
+strict_whole p x strict (inr gaps) = let wrong : true ≡ false = sym strict ∙ gaps.0 in absurd (cc)
+
 module _ (d : Deciding) (before : List DecidingEvent) (begins : DecidingEvent) (after : List DecidingEvent)
     (s : StandsManaged d before begins after) where
   abbrev now : Deciding
@@ -48,10 +54,6 @@ module _ (d : Deciding) (before : List DecidingEvent) (begins : DecidingEvent) (
   one : WritesOneSweep (managing_of d) now
   one = writes_what_one_sweep_saw d before begins s.new s.before_can s.begins_can s.writes
 
-  whole : (x : Sweep) → MayWrite now.acting.policy x → IsWhole x
-  whole x (inl all) = all
-  whole x (inr gaps) = let wrong : true ≡ false = sym s.strict ∙ gaps.0 in absurd (cc)
-
   brings_up : BringsUpManaged d before begins after
   brings_up =
       record {
@@ -63,7 +65,7 @@ module _ (d : Deciding) (before : List DecidingEvent) (begins : DecidingEvent) (
         writes = s.writes;
         sweep = one.sweep;
         is_last = one.is_last;
-        whole = whole one.sweep one.may;
+        whole = strict_whole now.acting.policy one.sweep s.strict one.may;
         keep = s.keep;
         written = (standing_plans_are_written end.acting decided s.stays_on s.stands s.quiet).written;
       }

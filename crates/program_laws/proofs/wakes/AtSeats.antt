@@ -25,7 +25,7 @@ pub lines_both : (first later : List Line) (a : Acting) → after_lines (first +
 lines_both [] later a = refl
 lines_both (line ∷ first) later a = lines_both first later _
 
-events_both : (first later : List DecidingEvent) (d : Deciding) → after_deciding_events (first ++ later) d
+pub events_both : (first later : List DecidingEvent) (d : Deciding) → after_deciding_events (first ++ later) d
     ≡ after_deciding_events later (after_deciding_events first d)
 events_both [] later d = refl
 events_both (event ∷ first) later d = events_both first later (after_deciding_event d event)
@@ -45,7 +45,7 @@ sent_acting : (d : Deciding) (o : Option Outgoing) → (sending_from o d).acting
 sent_acting d None = refl
 sent_acting d (Some out) = refl
 
-event_acting : (d : Deciding) (event : DecidingEvent) → (after_deciding_event d event).acting ≡ after_lines (line_by d event) d.acting
+pub event_acting : (d : Deciding) (event : DecidingEvent) → (after_deciding_event d event).acting ≡ after_lines (line_by d event) d.acting
 event_acting d (Around event) = refl
 event_acting d (Tell time what) = refl
 event_acting d (Hear time which) = heard_acting time d (slice_get d.scene.handed which)

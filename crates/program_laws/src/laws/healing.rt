@@ -1,6 +1,7 @@
 //! The laws of how soon a manager that decides by itself has its plan written, and of what that means.
 ghost use Rattle.program_laws.specs.FreshWork.{WorksAgainInTime};
 ghost use Rattle.program_laws.specs.Healing.{HealsInTime};
+ghost use Rattle.program_laws.specs.HealingAtSeat.{HealsAtSeat};
 ghost use Rattle.program_laws.specs.InTurn.{WorksInTurn};
 ghost use Rattle.program_laws.specs.NextSweep.{SweepsAgainInTime};
 ghost use Rattle.program_laws.specs.RestTime.{RestsEndInTime};
@@ -55,4 +56,14 @@ pub fn heals_in_time()
 /// values; nobody told the manager to leave.
 pub fn standing_pings_arrive()
     ensures { StandingPingsArrive }
+{}
+
+/// A manager that decides by itself, at its seat on a fabric, serves its subnet after at most as long as in
+/// `heals_in_time`, whatever it is about at first: at some moment until then, each ping from an end port that its seat is
+/// joined to, for each LID of the plan of its last writing, reaches the end port that owns the LID, if five conditions
+/// hold: at the very first no packet is on its way, GUIDs differ, and the manager is new; its shell is faithful, and no
+/// cable moves; all goes well for it, as in `heals_in_time`; it was strict when its last writing began; since then each
+/// Set that an agent took is one of the writing's own or carries the plan's values.
+pub fn heals_at_seat()
+    ensures { HealsAtSeat }
 {}
