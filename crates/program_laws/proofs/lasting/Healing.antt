@@ -58,7 +58,8 @@ compared_plan : (kept : Option PlanValue) (plan : PlanValue) → has_plan (compa
 compared_plan None plan = refl
 compared_plan (Some kept) plan = cond_both (is_same_plan plan kept) Same Differs (λ (c : Comparison). has_plan c ≡ true) (λ _. refl) (λ _. refl)
 
-writing_begins : (cause : WriteCause) (plan : PlanValue) (a : Acting) → writing_fault a.manager ≡ None → is_writing (writing_on cause plan a).policy.activity ≡ true
+writing_begins : (cause : WriteCause) (plan : PlanValue) (a : Acting) → writing_fault a.manager ≡ None
+    → is_writing (writing_on cause plan a).policy.activity ≡ true
 writing_begins cause plan a unrefused =
     cond_both (is_none (writing_fault a.manager)) _ (failed a.time a.policy) (λ (p : Policy). is_writing p.activity ≡ true) (λ _. refl)
     (λ no. absurd (both_ways (is_none (writing_fault a.manager)) no (ap is_none unrefused)))
@@ -84,7 +85,8 @@ swept_is a well whole =
     ∙ cond-false a.policy.is_stale _ (swept_in a.policy.state a.time None (ended a.time true None a.policy)) well.fresh
     ∙ ap (λ s. swept_in s a.time None (ended a.time true None a.policy)) well.master
 
-sweep_writes : (a : Acting) → SweptWell a → is_whole a.manager ≡ true → a.policy.written.stands ≡ false → is_writing (acted_in activity.Sweeps a).policy.activity ≡ true
+sweep_writes : (a : Acting) → SweptWell a → is_whole a.manager ≡ true → a.policy.written.stands ≡ false
+    → is_writing (acted_in activity.Sweeps a).policy.activity ≡ true
 sweep_writes a well whole none =
     let b : Acting = noted (Swept (is_whole a.manager)) a in
     let c : Acting = record b { policy = (judges a.time a.policy).policy } in
@@ -226,7 +228,8 @@ find (line ∷ lines) a well = by_begun (find lines b well.1) (begins_sweep line
           over = over;
         })
 
-    by_begun : Found lines b ⊎ EndNoFreshWork false lines b → (x : Bool) → begins_sweep line a ≡ x → Found (line ∷ lines) a ⊎ EndNoFreshWork false (line ∷ lines) a
+    by_begun : Found lines b ⊎ EndNoFreshWork false lines b → (x : Bool) → begins_sweep line a ≡ x
+        → Found (line ∷ lines) a ⊎ EndNoFreshWork false (line ∷ lines) a
     by_begun rest true is = by_split is (split works lines b)
     by_begun (inl f) false is = inl (shifted f)
     by_begun (inr none) false is = inr (well.0.to_sweep, subst (λ x. EndNoFreshWork x lines b) (sym is) none)

@@ -159,7 +159,9 @@ module _ (d : Deciding) (before events : List DecidingEvent) (n : ℕ) (r : IsUn
   keeps = subst (λ (a : Acting). KeepsWritten a.kept a.manager) (sym (ap (λ (x : Deciding). x.acting) whole_is ∙ acting_is)) h.written
 
   can : AllByRecursion (CanDecide d.seat) (before ++ first)
-  can = both (CanDecide d.seat) before first r.before_can (all_first (CanDecide d.seat) first up_to.later (subst (AllByRecursion (CanDecide d.seat)) are r.events_can))
+  can =
+      both (CanDecide d.seat) before first r.before_can
+      (all_first (CanDecide d.seat) first up_to.later (subst (AllByRecursion (CanDecide d.seat)) are r.events_can))
 
   is_first : IsFirst d.acting
   is_first = subst IsFirst (sym r.new.acting) (record { none = refl; quiet = refl })

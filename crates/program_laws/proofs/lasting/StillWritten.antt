@@ -61,7 +61,8 @@ written_lasts =
 abbrev WrittenOrWrites : Acting → Type 0
 WrittenOrWrites a = KeepsWritten a.kept a.manager ⊎ (is_writing a.policy.activity ≡ true)
 
-about_written : (what : Act) (cause : WriteCause) (plan : Option PlanValue) (a : Acting) → KeepsWritten a.kept a.manager → WrittenOrWrites (about_plan what cause plan a)
+about_written : (what : Act) (cause : WriteCause) (plan : Option PlanValue) (a : Acting) → KeepsWritten a.kept a.manager
+    → WrittenOrWrites (about_plan what cause plan a)
 about_written act.Write cause (Some plan) a k = by_fault (writing_fault a.manager)
   where
     by_fault : (o : Option ManagerFault)
@@ -80,7 +81,8 @@ about_written act.HandOver cause plan a k = inl k
 about_written act.Yield cause plan a k = inl k
 about_written act.Judge cause plan a k = inl k
 
-unplanned_written : (plan : Option PlanValue) (a : Acting) → KeepsWritten a.kept a.manager → KeepsWritten (noted_unplanned plan a).kept (noted_unplanned plan a).manager
+unplanned_written : (plan : Option PlanValue) (a : Acting) → KeepsWritten a.kept a.manager
+    → KeepsWritten (noted_unplanned plan a).kept (noted_unplanned plan a).manager
 unplanned_written None a k = k
 unplanned_written (Some plan) a k = k
 

@@ -200,4 +200,5 @@ module _ (timing : Timing) (a : Acting) (h : HasNews timing a) where
       here : a.policy.state ≡ Master → IsDueBy by (rest_due a.policy)
       here master =
           subst (λ (p : Policy). IsDueBy by (rest_due p)) h.are
-          (never_waits_long timing h.told a.time h.rise (λ e. let wrong : NotActive ≡ Master = sym e ∙ ap (λ (p : Policy). p.state) h.are ∙ master in absurd (cc)))
+          (never_waits_long timing h.told a.time h.rise
+          (λ e. let wrong : NotActive ≡ Master = sym e ∙ ap (λ (p : Policy). p.state) h.are ∙ master in absurd (cc)))

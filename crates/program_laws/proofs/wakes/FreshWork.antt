@@ -66,7 +66,8 @@ work_is activity.Rests e f = absurd (cc)
 work_is activity.Hands e f = absurd (cc)
 
 -- a manager that writes and goes on working writes on
-pub writes_on : (lines : List Line) (a : Acting) → GoesOn a lines → is_writing a.policy.activity ≡ true → StaysAbout works lines a → StaysAbout is_writing lines a
+pub writes_on : (lines : List Line) (a : Acting) → GoesOn a lines → is_writing a.policy.activity ≡ true → StaysAbout works lines a
+    → StaysAbout is_writing lines a
 writes_on [] a g about stays = tt
 writes_on (line ∷ lines) a g about stays =
     let b = after_line line a in
@@ -257,7 +258,8 @@ works_again_in_time n a lines w late prompt = by_fresh (fresh lines a w.none)
         let line_time = (a_line_soon c.window.limits line c (has_soon c here.decided)).time in
         let end_small = subst (λ (z : Acting). z.time < 2 ^ 64) end_is w.time in
         let small : c.time < 2 ^ 64 = omega (arith, last_rises, line_time, end_small) in
-        let first = rests_on some (goes_first some (line ∷ rest) a g) none (few_first n some (line ∷ rest) a few) small (prompt_first late some (line ∷ rest) a p) in
+        let first = rests_on some (goes_first some (line ∷ rest) a g) none (few_first n some (line ∷ rest) a few) small
+        (prompt_first late some (line ∷ rest) a p) in
         let rests = was_rest c.policy.activity b.policy.activity (works_in_turn c line here.decided here.tries here.stays_on here.none_leaves.0) begins in
         let told = subst (λ (l : Limits). line.0 ≤ c.time + wait + longest_turn late l) same
         (rest_told late line c (has_more a some c refl w.decided) here.outstanding here.stays_on small (itself_last some a none w.first rests) p'.0) in

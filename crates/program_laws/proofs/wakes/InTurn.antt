@@ -71,7 +71,8 @@ works_in_turn a line h some stays_on remains = by_idle (is_idle x.window) refl
     by_idle true idle =
         ap (may_follow a.policy.activity)
         (sent_about (caught_up (acted x)) ∙ caught_about (acted x)
-        ∙ ap (λ (b : Acting). b.policy.activity) (cond-false x.is_leaving (left_in x.policy.activity x) (acted_in x.policy.activity x) (fell.leaving ∙ stays_on)))
+        ∙ ap (λ (b : Acting). b.policy.activity)
+        (cond-false x.is_leaving (left_in x.policy.activity x) (acted_in x.policy.activity x) (fell.leaving ∙ stays_on)))
         ∙ subst (λ (what : Activity). may_follow what (acted_in x.policy.activity x).policy.activity ≡ true) fell.about
         (acts_follow x.policy.activity x refl)
     by_idle false left = ap (may_follow a.policy.activity) (sent_about x ∙ fell.about) ∙ same_follows a.policy.activity

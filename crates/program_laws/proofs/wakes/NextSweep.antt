@@ -431,7 +431,8 @@ module _ (r : ℕ) (after : IsInTime r) (test : Activity → Bool)
           let next = falls_rank test c.policy.activity b.policy.activity (works_in_turn c line here tries stays_on remains.0) goes_on.0 about_then ends in
           let lower : rank c.policy.activity ≤ rank a.policy.activity = ranks_fall some (line ∷ rest) a w.decided w.tries w.stays_on w'.none_leaves w'.none in
           let last = after n late rest b (later n some line rest a w') (omega (arith, next, lower, few)) (prompt_later late some (line ∷ rest) a p).1 in
-          subst (λ (z : Acting). z.time ≤ a.time + wait + turns_by n (suc r) * turn) (sym (lines_both some (line ∷ rest) a) ∙ sym (ap (λ ls. after_lines ls a) is))
+          subst (λ (z : Acting). z.time ≤ a.time + wait + turns_by n (suc r) * turn)
+          (sym (lines_both some (line ∷ rest) a) ∙ sym (ap (λ ls. after_lines ls a) is))
           (in_all a.time c.time b.time (after_lines rest b).time wait n r turn first (omega (arith, told, now))
           (subst (λ (l : Limits). (after_lines rest b).time ≤ b.time + wait + turns_by n r * longest_turn late l) (same_limits (line ∷ []) c here ∙ same) last))
         where

@@ -118,7 +118,8 @@ looked_still a e = cond-true (number_of_state a.manager.standing.state == number
 -- nothing more waits for its turn
 idle_more : (queued packets : List Outgoing) (outs : List Out) → packets ≡ [] → are_none queued outs ≡ true
     → are_none (queued ++ filter is_request packets) outs ≡ true
-idle_more queued packets outs e idle = subst (λ (more : List Outgoing). are_none (queued ++ filter is_request more) outs ≡ true) (sym e) (by_lists queued outs idle)
+idle_more queued packets outs e idle =
+    subst (λ (more : List Outgoing). are_none (queued ++ filter is_request more) outs ≡ true) (sym e) (by_lists queued outs idle)
   where
     by_lists : (queued : List Outgoing) (outs : List Out) → are_none queued outs ≡ true → are_none (queued ++ []) outs ≡ true
     by_lists [] outs e = e
@@ -207,7 +208,8 @@ module _ (limits : Limits) (some : 1 ≤ limits.tries) (room : 1 ≤ limits.outs
           record {
             soon = subst (λ (y : Acting). IsDueSoon last y.policy) (sym after_is) (subst (IsDueSoon last) (sym (only_sends x).policy) soon_then);
             near = near_then;
-            given = subst (λ (y : Acting). y.manager.outgoing ≡ []) (sym after_is) (ap (λ (m : Manager). m.outgoing) (only_sends x).manager ∙ settled_given line a);
+            given = subst (λ (y : Acting). y.manager.outgoing ≡ []) (sym after_is)
+                (ap (λ (m : Manager). m.outgoing) (only_sends x).manager ∙ settled_given line a);
             idle = λ idle. absurd (busy_idle b waits.busy idle);
             asks = λ _. record { wake = waits.asks.wake; is = waits.asks.is; not_past = waits.asks.not_past };
           }
@@ -271,7 +273,8 @@ module _ (limits : Limits) (some : 1 ≤ limits.tries) (room : 1 ≤ limits.outs
           wake_is =
               cond-false (a.is_leaving && is_resting a.policy.activity) _ _ (ap (λ b. b && is_resting a.policy.activity) stays_on)
               ∙ ap (not_before a.time)
-              (cond-false (is_given_up a) _ _ (ap (λ (w : Activity). is_writing w && (a.is_void || not (is_master a.manager.standing.state))) bounded.soon.rests)
+              (cond-false (is_given_up a) _ _
+              (ap (λ (w : Activity). is_writing w && (a.is_void || not (is_master a.manager.standing.state))) bounded.soon.rests)
               ∙ cond-true (is_idle a.window) _ _ idle ∙ ap (λ (w : Activity). due_in w a.time a.policy) bounded.soon.rests ∙ asked.is)
 
           due_by : (late by : ℕ) → IsBy late line.0 (wake_of a) → last + longest_turn late limits ≤ by
@@ -313,16 +316,20 @@ module _ (limits : Limits) (some : 1 ≤ limits.tries) (room : 1 ≤ limits.outs
       decides : (due : Bool) → is_due x.time (sweep_due x.policy) ≡ due
           → acted x ≡ decided (cond due (record { policy = sweeping x.time x.policy; act = act.Sweep }) (still x.policy)) x
       decides due e =
-          acts_is ∙ ap (λ d. decided d x) (rest_is x.time x.policy may.itself ∙ ap (λ (b : Bool). cond b (record { policy = sweeping x.time x.policy; act = act.Sweep }) (still x.policy)) e)
+          acts_is
+          ∙ ap (λ d. decided d x) (rest_is x.time x.policy may.itself
+          ∙ ap (λ (b : Bool). cond b (record { policy = sweeping x.time x.policy; act = act.Sweep }) (still x.policy)) e)
 
       -- a sweep would begin
       begun : is_due x.time (sweep_due x.policy) ≡ true → ⊥
       begun e =
           let c = record x { policy = sweeping x.time x.policy } in
           let sweeps : (sweeping_on c).policy.activity ≡ activity.Sweeps =
-          ap (λ (p : Policy). p.activity) (cond-true (is_none (begin_fault (floor_raised x).manager)) c.policy (failed c.time c.policy) (ap is_none may.unrefused)) in
+          ap (λ (p : Policy). p.activity)
+          (cond-true (is_none (begin_fault (floor_raised x).manager)) c.policy (failed c.time c.policy) (ap is_none may.unrefused)) in
           let ends : b.policy.activity ≡ activity.Sweeps =
-          ap (λ (y : Acting). y.policy.activity) (after_acts (sweeping_on c) (decides true e)) ∙ sent_about (caught_up (sweeping_on c)) ∙ caught_about (sweeping_on c) ∙ sweeps in
+          ap (λ (y : Acting). y.policy.activity) (after_acts (sweeping_on c) (decides true e))
+          ∙ sent_about (caught_up (sweeping_on c)) ∙ caught_about (sweeping_on c) ∙ sweeps in
           let wrong : false ≡ true = sym (ap is_resting ends) ∙ rests in
           absurd (cc)
 
@@ -405,7 +412,8 @@ module _ (limits : Limits) (some : 1 ≤ limits.tries) (room : 1 ≤ limits.outs
               idle_then : is_idle b.window ≡ true
               idle_then =
                   ap (λ (w : Acting). is_idle w.window) is
-                  ∙ sent_idle z (ap (λ (w : Acting). is_idle w.window) z_is ∙ idle_more x.window.queued x.manager.outgoing x.window.outs (settled_given line a) idle)
+                  ∙ sent_idle z (ap (λ (w : Acting). is_idle w.window) z_is
+                  ∙ idle_more x.window.queued x.manager.outgoing x.window.outs (settled_given line a) idle)
 
     any_step : (is_idle x.window ≡ true → MaySweep x) → SomeStep line a b
     any_step may = by_idle (is_idle x.window) refl (is_idle a.window) refl
