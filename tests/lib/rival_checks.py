@@ -27,12 +27,13 @@ STEADY = 4
 
 @contextlib.contextmanager
 def stopped(number: int) -> Iterator[None]:
-    """Stops a process, and lets it go on."""
+    """Stops a process, and lets it go on, if it is still there."""
     os.kill(number, signal.SIGSTOP)
     try:
         yield
     finally:
-        os.kill(number, signal.SIGCONT)
+        with contextlib.suppress(ProcessLookupError):
+            os.kill(number, signal.SIGCONT)
 
 
 def state_in(log: str) -> str | None:

@@ -189,9 +189,10 @@ static void say_master(void)
 
 	if (!master)
 		return;
-	if (is_master())
+	if (is_master()) {
 		note(WARNING, "ANOTHER MASTER: %s, priority %u", called_as(master), master->priority);
-	else if (!given_up)
+		status.is_settled = 0;
+	} else if (!given_up)
 		given_up = now() + (wins(master) ? 0 : YIELDING);
 }
 
@@ -331,6 +332,14 @@ static void heard_unanswered(const char *hex)
 	note_silent(bytes);
 }
 
+/* Hears that the manager stood still, so that another one may have written meanwhile. */
+static void heard_pause(void)
+{
+	note(WARNING, "nothing was done for a while: the subnet is looked at anew");
+	status.is_settled = 0;
+	write_status(&status);
+}
+
 /* Returns what follows a word in a note, or NULL if the note begins otherwise. */
 static const char *behind(const char *told, const char *word)
 {
@@ -369,7 +378,7 @@ static void heard_note(const char *told)
 	else if (!strcmp(told, "rediscover"))
 		note(WARNING, "nobody is master");
 	else if (!strcmp(told, "paused"))
-		note(WARNING, "nothing was done for a while: the subnet is looked at anew");
+		heard_pause();
 }
 
 /* Cuts the first line off a text, ends it by 0, and returns it. */

@@ -1,4 +1,4 @@
-//! What a manager does when it decides.
+//! How a manager takes its next step, and carries out what its policy decides.
 ghost use Rattle.std.specs.Prelude.{◌≡◌, OnOk};
 ghost use Rattle.sm_manager.specs.Manager.{begin_fault};
 ghost use Rattle.acting_manager.specs.Acting.{value_of};
@@ -18,7 +18,7 @@ use smp_bytes::Generation;
 use std::alloc::AllocError;
 
 impl ActingManager {
-    /// Does what is next, while no request is out or waits for its turn.
+    /// Takes the manager's next step. It is called only if no request is out or waits to be sent.
     pub(crate) fn act(&mut self) -> Result<(), AllocError>
         ensures { OnOk result (value_of self.new ≡ acted (value_of self.old)) }
     {
@@ -29,8 +29,8 @@ impl ActingManager {
         }
     }
 
-    /// Does what is next for a manager that leaves: it hands over to its heir once its sweep is over, and waits for the
-    /// end of its handover.
+    /// Takes the next step of a manager that leaves: after a sweep it hands over to its heir, and after that handover it
+    /// rests. It begins nothing else.
     fn act_leaving(&mut self) -> Result<(), AllocError>
         ensures { OnOk result (value_of self.new
             ≡ left_in (value_of self.old).policy.activity (value_of self.old)) }
@@ -45,7 +45,7 @@ impl ActingManager {
         }
     }
 
-    /// Does what is next, by what the manager is about.
+    /// Takes the next step of a manager that stays, by its activity.
     fn act_by_activity(&mut self) -> Result<(), AllocError>
         ensures { OnOk result (value_of self.new
             ≡ acted_in (value_of self.old).policy.activity (value_of self.old)) }
@@ -85,7 +85,7 @@ impl ActingManager {
         self.perform(act)
     }
 
-    /// Does `act`.
+    /// Carries out `act`. `Wait`, `Write` and `Settle` change nothing here.
     fn perform(&mut self, act: Act) -> Result<(), AllocError>
         ensures { OnOk result (value_of self.new ≡ done_by act (value_of self.old)) }
     {
@@ -101,7 +101,7 @@ impl ActingManager {
         }
     }
 
-    /// Polls the master. If there is no way to it, no master is known.
+    /// Polls the master. If the manager refuses to, notes that no master is known.
     fn poll(&mut self) -> Result<(), AllocError>
         ensures { OnOk result (value_of self.new ≡ polling (value_of self.old)) }
     {
@@ -111,7 +111,7 @@ impl ActingManager {
         Ok(())
     }
 
-    /// Begins a sweep, at a generation above all earlier ones.
+    /// Begins a sweep at a new generation, above all earlier ones.
     fn sweep(&mut self) -> Result<(), AllocError>
         ensures { OnOk result (value_of self.new ≡ sweeping_on (value_of self.old)) }
     {
@@ -119,7 +119,7 @@ impl ActingManager {
         self.begin_sweep()
     }
 
-    /// Raises the floor of the manager's facts to the generation after the newest one, which is then the newest.
+    /// Makes a new generation, one above the newest, and raises the floor of the manager's facts to it.
     fn raise_floor(&mut self)
         ensures { value_of self.new ≡ floor_raised (value_of self.old) }
     {
@@ -128,7 +128,7 @@ impl ActingManager {
             .raise_floor(Generation::new(self.newest).unwrap());
     }
 
-    /// Begins a sweep.
+    /// Begins a sweep, and drops what the last one read. If the manager refuses to sweep, notes a failure.
     fn begin_sweep(&mut self) -> Result<(), AllocError>
         ensures { OnOk result (value_of self.new ≡ swept_with
             (begin_fault (value_of self.old).manager) (value_of self.old)) }
@@ -141,7 +141,7 @@ impl ActingManager {
         self.note_as(has_begun, Act::Sweep)
     }
 
-    /// Discovers anew.
+    /// Has the manager leave Standby for Discovering.
     fn rediscover(&mut self) -> Result<(), AllocError>
         ensures { OnOk result (value_of self.new ≡ rediscovering (value_of self.old)) }
     {
@@ -167,7 +167,7 @@ impl ActingManager {
         self.note_if(is_out, Act::Yield)
     }
 
-    /// Notes that `act` was done, if `is_done`, and else that it was refused.
+    /// Notes that `act` was done if `is_done` is true, and otherwise that the manager refused it.
     pub(crate) fn note_as(&mut self, is_done: bool, act: Act) -> Result<(), AllocError>
         ensures { OnOk result (value_of self.new ≡ noted_as is_done act (value_of self.old)) }
     {
@@ -178,7 +178,7 @@ impl ActingManager {
         })
     }
 
-    /// Notes that `act` was done, if `is_done`.
+    /// Notes that `act` was done if `is_done` is true.
     fn note_if(&mut self, is_done: bool, act: Act) -> Result<(), AllocError>
         ensures { OnOk result (value_of self.new ≡ noted_if is_done act (value_of self.old)) }
     {
@@ -190,15 +190,15 @@ impl ActingManager {
     }
 }
 
-/// Returns whether the last sweep of `manager` has every answer but those of managers.
+/// Returns whether the last sweep of `manager` has every answer except those of other managers.
 fn is_whole(manager: &Manager) -> bool
     ensures { result ≡ is_whole manager.now }
 {
     is_whole_by(manager.progress(), manager.silent_managers())
 }
 
-/// Returns whether `progress` is that of a sweep that has every answer but those of managers, of which `silent` have not
-/// answered.
+/// Returns whether a sweep with this `progress` is over, found no port too far away, and has every answer except those
+/// of `silent` other managers.
 fn is_whole_by(progress: Progress, silent: Option<u64>) -> bool
     ensures { result ≡ is_whole_by progress silent }
 {
@@ -214,7 +214,8 @@ fn is_whole_by(progress: Progress, silent: Option<u64>) -> bool
     }
 }
 
-/// Returns how the greatest master that the last sweep of `manager` saw stands to `manager`.
+/// Returns whether the greatest master that the last sweep of `manager` saw is greater or lesser than `manager`, or
+/// `None` if the sweep saw no master.
 fn rival_seen(manager: &Manager) -> Option<Rival>
     ensures { result ≡ rival_seen manager.now }
 {
@@ -225,7 +226,7 @@ fn rival_seen(manager: &Manager) -> Option<Rival>
     )
 }
 
-/// Returns how `other` stands to the manager whose SMInfo is `own`, or `None` if `other` is `None`.
+/// Returns whether `other` is greater or lesser than the manager whose SMInfo is `own`, or `None` if `other` is `None`.
 fn rival_of(own: &SmInfo, other: Option<SeenManager>) -> Option<Rival>
     ensures { result ≡ rival_of own.now other }
 {

@@ -15,6 +15,7 @@ pub mod SeenFabrics
 pub mod Serials
 pub mod Traced
 pub mod TracedCalls
+pub mod TracedMore
 pub mod TrapsEnd
 pub mod TripAdvances
 pub mod TripCalls

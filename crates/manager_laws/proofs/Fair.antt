@@ -25,7 +25,7 @@ use Rattle.manager_laws.specs.Scene.{Handed, Scene, Sending, ByLid, ByPath, Answ
 use Rattle.manager_laws.specs.Scene.{after_event, answered_from, answer_to, asks_manager, handed_by, sent, sent_from}
 use Rattle.manager_laws.proofs.Answers.{Continues, continued}
 use Rattle.manager_laws.proofs.Swept as swept
-use Rattle.fabric_sim.proofs.TracedCalls.{weaker_manager, weaker_all}
+use Rattle.fabric_sim.proofs.TracedMore.{weaker_manager, weaker_all}
 use Rattle.manager_laws.specs.Managing.{Managing, IsElsewhere, taking, packet_of, sending}
 use Rattle.manager_laws.proofs.Numbered.{AreOnce, out_of}
 use Rattle.manager_laws.proofs.Scenes.{IsEarlier, IsOld, IsOwn, IsOwnSending, Sends, SetsInfoAlone, Tells, WereTraced, IsTraced, Stays, sending_traced}

@@ -25,7 +25,8 @@ use Rattle.fabric_sim.specs.Delivery.{after_deliver, answer_at}
 use Rattle.fabric_sim.specs.Changes.{after_emit, after_inject, after_repeat, after_lose}
 use Rattle.fabric_sim.proofs.Traced.{IsRequestFor, IsOnCourse, IsForManager}
 use Rattle.fabric_sim.proofs.TracedCalls.{AreTraced, IsAskedBy, deliveries_trace, deliveries_hand_up_traced, emissions_trace, injections_trace}
-use Rattle.fabric_sim.proofs.TracedCalls.{emitted_agents, injected_agents, copies_trace, losses_trace, weaker_manager, weaker_all}
+use Rattle.fabric_sim.proofs.TracedCalls.{emitted_agents, injected_agents, copies_trace, losses_trace}
+use Rattle.fabric_sim.proofs.TracedMore.{weaker_manager, weaker_all}
 use Rattle.fabric_sim.proofs.TripShapes.{agent_there}
 use Rattle.lft_blocks.specs.Plan.{PlanValue}
 use Rattle.plan_steps.specs.Step.{set_packet}

@@ -1,4 +1,4 @@
-//! How a manager deals with other managers: the manager's state after a sweep, its polls, and its handovers.
+//! How a manager deals with other managers: its state after a sweep, its polls, and its handovers.
 ghost use Rattle.std.specs.Prelude.{◌≡◌, ◌<◌, ◌+◌, ◌≤◌, ◌^◌, ◌∷◌, ◌++◌, [], None, Some, true, IfOk, OnOk, OnErr};
 ghost use Rattle.std.specs.Prelude.{option_copied};
 ghost use Rattle.std.specs.VecDeque.{deque_capacity, deque_len};
@@ -36,7 +36,7 @@ use smp_bytes::{Lid, Method, Path, PortNum};
 use std::collections::VecDeque;
 use subnet_view::{EndPort, is_end_port};
 
-/// Moves `standing` at the end of a sweep that saw the managers `seen`.
+/// Changes the state in `standing` at the end of a sweep that saw the managers `seen`.
 pub(crate) fn end_sweep(standing: &mut Standing, seen: &[SeenManager])
     ensures { standing.new ≡ after_verdict seen.now standing.old }
 {
@@ -73,7 +73,7 @@ impl Manager {
     }
 
     /// Returns the way of a poll: to `lid` or, if `lid` is `None`, to the manager to poll. Returns `Nobody` if there is
-    /// no way to that one.
+    /// no manager to poll, or no way to it.
     fn poll_way(&self, lid: Option<Lid>) -> Result<Way, ManagerFault>
         ensures judged { Judges result (unless_way (poll_way self.now lid)) }
         ensures way { IfOk result (λ way. poll_way self.now lid ≡ Some way) }
@@ -84,9 +84,9 @@ impl Manager {
         }
     }
 
-    /// Returns the way to the port where the manager `seen` was seen: along the path by which the last sweep first
-    /// reached that port. Returns `Nobody` if `seen` is `None`, if there is no such path, or if the path does not leave
-    /// by this manager's port or has more than 63 hops.
+    /// Returns the way to the port where the manager `seen` was seen: the path by which the last sweep first reached
+    /// that port. Returns `Nobody` if `seen` is `None`, if there is no such path, if the path has more than 63 hops, or
+    /// if it does not leave by this manager's port.
     fn way_seen(&self, seen: Option<SeenManager>) -> Result<Way, ManagerFault>
         ensures judged { Judges result (unless_way (way_seen self.now seen)) }
         ensures way { IfOk result (λ way. way_seen self.now seen ≡ Some way) }
@@ -319,8 +319,9 @@ fn is_way_out(port: PortNum, path: &Path<63>) -> bool
     }
 }
 
-/// Queues `message` as a control that goes `way`. Does nothing if `way` or `message` is `None`. Otherwise `requests`
-/// must have memory and a number for the control, and `outgoing` memory for its packet. Does not allocate.
+/// Queues the control that carries `message`, to be sent by `way`. Does nothing if `way` or `message` is `None`.
+/// Otherwise `requests` must have memory and a number for the control, and `outgoing` must have memory for its packet.
+/// Does not allocate.
 pub(crate) fn send_message(
     way: Option<Way>,
     message: &Option<Message>,
@@ -346,8 +347,8 @@ pub(crate) fn send_message(
     }
 }
 
-/// Queues `control`, which goes `way`, with the SMInfo of `standing`. `requests` must have memory and a number for the
-/// control, and `outgoing` memory for its packet. Does not allocate.
+/// Queues `control`, with the SMInfo of `standing`, to be sent by `way`. `requests` must have memory and a number for
+/// the control, and `outgoing` must have memory for its packet. Does not allocate.
 fn send_control(
     way: Way,
     control: Control,

@@ -3,17 +3,17 @@ ghost use Rattle.sm_manager.specs.Election.{info_packet, lid_of_way, path_of_way
 
 use smp_bytes::{AttributeId, Lid, Method, Path, Smp};
 
-/// The way of a request to another manager.
+/// How a request to another manager is routed.
 #[derive(Debug, Drop)]
 pub enum Way {
     /// By LIDs, to this LID.
     ToLid(Lid),
-    /// Along this path.
+    /// By a directed route, along this path.
     Along(Path<63>),
 }
 
 impl Way {
-    /// Returns the LID to which a packet is sent that goes this way, or `None` along a path.
+    /// Returns the LID to which this way leads, or `None` if it is a path.
     pub(crate) fn lid(&self) -> Option<Lid>
         ensures { result ≡ lid_of_way self.now }
     {
@@ -23,7 +23,7 @@ impl Way {
         }
     }
 
-    /// Returns the path of this way, or `None` by LIDs.
+    /// Returns the path of this way, or `None` if it goes by LIDs.
     pub(crate) fn into_path(self) -> Option<Path<63>>
         ensures { result ≡ path_of_way self }
     {
@@ -33,8 +33,8 @@ impl Way {
         }
     }
 
-    /// Returns the packet of a request for SMInfo that goes this way, with the number `number`, which must fit in 32
-    /// bits.
+    /// Returns the packet of a request that goes this way: `method` of SMInfo, with the number `number`, which must fit
+    /// in 32 bits.
     pub(crate) fn packet(
         &self,
         method: Method,

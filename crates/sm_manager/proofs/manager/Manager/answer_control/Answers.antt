@@ -39,9 +39,11 @@ returns-clause-ok c =
     let counts = c.send_message.ensures.counter ∙ (λ i. counter i + message_count (to i) (moves i).message) in
     let waits = c.send_message.ensures.pending ∙ (λ i. pending i ++ message_pending (counter i) (to i) (moves i).message) in
     let goes = c.send_message.ensures.outgoing
-    ∙ ap (λ xs. xs ++ message_out c.move_on-answer.new.standing c.make_room.new.requests.counter c.acknowledged_by-way.result said) c.push_back_reserved.ensures.items
+    ∙ ap (λ xs. xs ++ message_out c.move_on-answer.new.standing c.make_room.new.requests.counter c.acknowledged_by-way.result said)
+    c.push_back_reserved.ensures.items
     ∙ (λ i. (outgoing i ++ answers i ∷ []) ++ message_out (stands i) (counter i) (to i) (moves i).message) in
-    let told = sym (message_sent (answering (record m { standing = moved_to move.state heard }) packet from (status_of move)) (acknowledged_by packet from) move.message) in
+    let told = sym (message_sent (answering (record m { standing = moved_to move.state heard }) packet from (status_of move))
+    (acknowledged_by packet from) move.message) in
     let number = numbers_taken _ m packet from c.acknowledged_by-way.result c.attribute_modifier.result c.message_count-count.result c.step-transition.result
     c.self.view_is c.acknowledged_by-way.ensures c.attribute_modifier.ensures c.step-transition.ensures c.message_count-count.ensures in
     (λ i. record (c.self.view_is i) { standing = stands i; counter = counts i; pending = waits i; outgoing = goes i }) ∙ told
@@ -52,7 +54,8 @@ returns-clause-judged c =
     let m : Manager = c.args.self.now in
     let packet = c.args.smp.now in
     let from = c.args.from in
-    spent_fault m (controlled m packet from) _ (numbers_taken _ m packet from c.acknowledged_by-way.result c.attribute_modifier.result c.message_count-count.result
+    spent_fault m (controlled m packet from) _
+    (numbers_taken _ m packet from c.acknowledged_by-way.result c.attribute_modifier.result c.message_count-count.result
     c.step-transition.result c.self.view_is c.acknowledged_by-way.ensures c.attribute_modifier.ensures c.step-transition.ensures c.message_count-count.ensures)
     ∙ c.in_ok-make_room.ensures.judged
 
@@ -62,6 +65,8 @@ returns-in_err-make_room-clause-judged c =
     let packet = c.args.smp.now in
     let from = c.args.from in
     let q = err_from_is_err_and c.from_residual.result c.from_residual.ensures.1 in
-    let spent = spent_fault m (controlled m packet from) _ (numbers_taken _ m packet from c.acknowledged_by-way.result c.attribute_modifier.result c.message_count-count.result
-    c.step-transition.result c.self.view_is c.acknowledged_by-way.ensures c.attribute_modifier.ensures c.step-transition.ensures c.message_count-count.ensures) in
+    let spent = spent_fault m (controlled m packet from) _
+    (numbers_taken _ m packet from c.acknowledged_by-way.result c.attribute_modifier.result c.message_count-count.result
+    c.step-transition.result c.self.view_is c.acknowledged_by-way.ensures c.attribute_modifier.ensures c.step-transition.ensures
+    c.message_count-count.ensures) in
     rw (q.1, q.2, spent) c.in_err-make_room.ensures.judged

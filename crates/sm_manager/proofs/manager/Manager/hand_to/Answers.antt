@@ -20,7 +20,8 @@ returns-clause-ok c =
     let kept = c.reserve.ensures in
     let sent = c.send_control.ensures in
     subst
-    (λ (x : Manager). record m { standing = standing; counter = requests.counter; pending = requests.pending; outgoing = out.items } ≡ handed_to x (receiver_way x c.args.receiver))
+    (λ (x : Manager). record m { standing = standing; counter = requests.counter; pending = requests.pending; outgoing = out.items }
+    ≡ handed_to x (receiver_way x c.args.receiver))
     c.self.view_is
     (handed_parts m standing requests.counter requests.pending out.items (receiver_way m c.args.receiver) way c.in-Some.message
     (ap (λ (x : Manager). receiver_way x c.args.receiver) c.self.view_is ∙ c.in_ok-way.ensures.way)

@@ -14,5 +14,6 @@ returns-clause-judged c =
     let seen : port_seen (cells_of m.store) c.in-Some.receiver ≡ Some c.in-Some-port_seen.port =
     sym (c.port_seen.ensures ∙ ap (λ (x : Manager). port_seen (cells_of x.store) c.in-Some.receiver) c.self.view_is) ∙ c.in-Some-port_seen.is in
     subst (JudgesButFor is_memory c.where_numbered.result)
-    (judged_with_lid _ m c.args.receiver c.in-Some.receiver c.in-Some-port_seen.port c.has_numbers.result c.self.view_is c.in-Some.is seen c.has_numbers.ensures.enough)
+    (judged_with_lid _ m c.args.receiver c.in-Some.receiver c.in-Some-port_seen.port c.has_numbers.result c.self.view_is
+    c.in-Some.is seen c.has_numbers.ensures.enough)
     (c.where_numbered.ensures.judged (plan_fault m.planning.lmc (cells_of m.store)) c.planned_lid.ensures.judged)

@@ -20,19 +20,27 @@ replies m packet from fails = ap (unless_spent m) (sym (cond-false (is_control m
 pub returns-then-is_control-clause-judged : goal.returns-then-is_control-clause-judged
 returns-then-is_control-clause-judged c =
     subst (λ (x : Called). JudgesButFor is_memory c.answer_control.result x.fault)
-    (obeys c.args.self.now c.args.smp.now c.args.from (ap (λ (x : Manager). is_control x.standing c.args.smp.now) (sym c.self.view_is) ∙ sym c.is_control.ensures ∙ c.if-is_control.true)) c.answer_control.ensures.judged
+    (obeys c.args.self.now c.args.smp.now c.args.from
+    (ap (λ (x : Manager). is_control x.standing c.args.smp.now) (sym c.self.view_is) ∙ sym c.is_control.ensures ∙ c.if-is_control.true))
+    c.answer_control.ensures.judged
 
 pub returns-then-is_control-clause-ok : goal.returns-then-is_control-clause-ok
 returns-then-is_control-clause-ok c =
     subst (λ (x : Called). OnOk c.answer_control.result (c.answer_control.new.self ≡ x.manager))
-    (obeys c.args.self.now c.args.smp.now c.args.from (ap (λ (x : Manager). is_control x.standing c.args.smp.now) (sym c.self.view_is) ∙ sym c.is_control.ensures ∙ c.if-is_control.true)) c.answer_control.ensures.ok
+    (obeys c.args.self.now c.args.smp.now c.args.from
+    (ap (λ (x : Manager). is_control x.standing c.args.smp.now) (sym c.self.view_is) ∙ sym c.is_control.ensures ∙ c.if-is_control.true))
+    c.answer_control.ensures.ok
 
 pub returns-else-is_control-clause-judged : goal.returns-else-is_control-clause-judged
 returns-else-is_control-clause-judged c =
     subst (λ (x : Called). JudgesButFor is_memory c.reply.result x.fault)
-    (replies c.args.self.now c.args.smp.now c.args.from (ap (λ (x : Manager). is_control x.standing c.args.smp.now) (sym c.self.view_is) ∙ sym c.is_control.ensures ∙ c.if-is_control.false)) c.reply.ensures.judged
+    (replies c.args.self.now c.args.smp.now c.args.from
+    (ap (λ (x : Manager). is_control x.standing c.args.smp.now) (sym c.self.view_is) ∙ sym c.is_control.ensures ∙ c.if-is_control.false))
+    c.reply.ensures.judged
 
 pub returns-else-is_control-clause-ok : goal.returns-else-is_control-clause-ok
 returns-else-is_control-clause-ok c =
     subst (λ (x : Called). OnOk c.reply.result (c.reply.new.self ≡ x.manager))
-    (replies c.args.self.now c.args.smp.now c.args.from (ap (λ (x : Manager). is_control x.standing c.args.smp.now) (sym c.self.view_is) ∙ sym c.is_control.ensures ∙ c.if-is_control.false)) c.reply.ensures.ok
+    (replies c.args.self.now c.args.smp.now c.args.from
+    (ap (λ (x : Manager). is_control x.standing c.args.smp.now) (sym c.self.view_is) ∙ sym c.is_control.ensures ∙ c.if-is_control.false))
+    c.reply.ensures.ok
