@@ -17,8 +17,8 @@ use Rattle.sm_manager.specs.Manager.{new_manager, newest_held, next_generation}
 use Rattle.lft_blocks.specs.Planning.{Planning}
 use Rattle.sm_state.specs.declared.conduct.Conduct.{Conduct}
 use Rattle.sm_manager.specs.Writing.{is_written}
-use Rattle.manager_laws.specs.Pings.{EachPingArrives}
 use Rattle.manager_laws.specs.Managing.{Managing, ManagerEvent, Raise, after_manager_event}
+use Rattle.manager_laws.specs.WritingPings.{PlannedPingsArrive}
 use Rattle.manager_laws.specs.Written.{at_end, at_writing, plan_at}
 use Rattle.manager_laws.specs.Takeover.{SweepsAlone, planning_at, plan_by_it}
 
@@ -77,9 +77,7 @@ pub record IsServed (held : Facts) (w : Managing) (before between after : List M
       → lid_of (plan_at (at_writing w before between)).given e
       ≡ lid_of (plan_by_it (planning_at w before between) held).given e
   pub arrives : is_written (at_end w before between after).manager ≡ true
-      → EachPingArrives (planning_at w before between).rule (cells_of (at_writing w before between).manager.store)
-      (plan_at (at_writing w before between))
-      (at_end w before between after).scene.fabric w.seat
+      → PlannedPingsArrive (at_writing w before between) (at_end w before between after).scene.fabric w.seat
 
 -- if a manager takes the rest of a subnet over, whatever is gone, the rest is served (`IsServed`)
 abbrev pub RestIsServed : Type 0

@@ -278,9 +278,18 @@ module _ (facts : Facts) (planning : Planning) (t0 : Masters) (h : ShareLids fac
           subst (λ p. HoldsPlan (IsJoinedTo (fabric_of t5.scene.fabric) m0.seat) p (fabric_of t5.scene.fabric)) plan_is
           (subst (λ (w : Managing). HoldsPlan (IsJoinedTo (fabric_of w.scene.fabric) m0.seat) (plan_at (at_writing w0 s1.events s2.events))
           (fabric_of w.scene.fabric)) e5
-          (holds_it w0 s1.events s2.events s3.events run (subst (λ (w : Managing). cells_of w.manager.store ≡ []) (sym e1) x.nothing)
-          (subst (AreNoSweeps s2.events) (sym e2) (no_sweeps_along s2.events (seen_by t2.scene o2.next) s2.along)) s
-          (ap (λ (w : Managing). w.manager.sweep) e3 ∙ is) whole (subst (λ (w : Managing). is_written w.manager ≡ true) (sym e5) x.written)))
+          (holds_it w0 s1.events s2.events s3.events
+          (record {
+            writes = record {
+              run = run;
+              knew_nothing = subst (λ (w : Managing). cells_of w.manager.store ≡ []) (sym e1) x.nothing;
+              alone = subst (AreNoSweeps s2.events) (sym e2) (no_sweeps_along s2.events (seen_by t2.scene o2.next) s2.along);
+            };
+            sweep = s;
+            is_last = ap (λ (w : Managing). w.manager.sweep) e3 ∙ is;
+            whole = whole;
+          })
+          (subst (λ (w : Managing). is_written w.manager ≡ true) (sym e5) x.written)))
 
       pub all_hold : AllHold facts planning t5
       all_hold k n there =

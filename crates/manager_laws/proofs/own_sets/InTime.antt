@@ -46,10 +46,7 @@ pub answered_in_time : (w : Managing) (before between after : List ManagerEvent)
     → IsAnswered w before between after
 answered_in_time w before between after b in_time =
     record {
-      writes = record { run = b.run; knew_nothing = b.knew_nothing; alone = b.alone };
-      sweep = b.sweep;
-      is_last = b.is_last;
-      whole = b.whole;
+      planned = b.planned;
       answered = record {
         none_given_up = give_up_none after (at_first_steps w before between) in_time;
         over = written_over (at_end w before between after).manager b.written;

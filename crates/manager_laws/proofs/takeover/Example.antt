@@ -271,12 +271,12 @@ run =
 pub sweeps : SweepsAlone beginning [] between after
 sweeps =
     record {
-      run = run;
-      knew_nothing = nothing_found;
-      alone = no_sweeps between (after_manager_event beginning Begin) refl;
-      sweep = sweep_in swept.manager.sweep;
-      is_last = ap (λ (x : Managing). x.manager.sweep) at_is ∙ sweep_is its_planning replies swept.manager has_swept;
-      whole = has_swept.whole;
+      planned = record {
+        writes = record { run = run; knew_nothing = nothing_found; alone = no_sweeps between (after_manager_event beginning Begin) refl };
+        sweep = sweep_in swept.manager.sweep;
+        is_last = ap (λ (x : Managing). x.manager.sweep) at_is ∙ sweep_is its_planning replies swept.manager has_swept;
+        whole = has_swept.whole;
+      };
       lids_before = tt;
       lids_between = subst (LidsStayAround (fabric_of network) between) (sym sweeps_first) (lids_stay network between sweeping between_lids);
     }

@@ -17,10 +17,11 @@ use Rattle.manager_laws.proofs.PlannedPings.{pings_arrive}
 use Rattle.manager_laws.specs.Complete.{IsWhole, facts_of}
 use Rattle.manager_laws.proofs.Done.{done_sweeps_are_complete, seat_end}
 use Rattle.manager_laws.specs.Managing.{Managing, ManagerEvent, Begin, after_manager_event, after_manager_events}
+use Rattle.manager_laws.specs.WritingPings.{PlannedPingsArrive}
 use Rattle.manager_laws.specs.Written.{at_end, at_writing, plan_at}
 use Rattle.manager_laws.proofs.Follows.{holds_all}
 use Rattle.fact_store.specs.View.{Facts}
-use Rattle.manager_laws.proofs.Arrive.{pings_arrive_once_written}
+use Rattle.manager_laws.proofs.Arrive.{arrives}
 use Rattle.manager_laws.proofs.OneSweep.{FollowsOne, StaysSo, first_begins, first_of, one_sweep}
 use Rattle.manager_laws.specs.OnePlan.{ClaimsAreTrue}
 use Rattle.manager_laws.specs.Claims.{HasLidsOf}
@@ -39,7 +40,8 @@ module _ (w : Managing) (before between after : List ManagerEvent) (s : SweepsAl
   -- the sweep that is followed
   one : FollowsOne (HasLidsOf (fabric_of w.scene.fabric)) w.scene w.seat (at_writing w before between)
   one =
-      one_sweep w before between after s.run s.knew_nothing s.alone (HasLidsOf (fabric_of w.scene.fabric)) (λ p. refl)
+      one_sweep w before between after s.planned.writes.run s.planned.writes.knew_nothing s.planned.writes.alone
+      (HasLidsOf (fabric_of w.scene.fabric)) (λ p. refl)
       (lids_so (fabric_of w.scene.fabric) before w s.lids_before)
       (lids_so (fabric_of w.scene.fabric) between (after_manager_event (after_manager_events before w) Begin) s.lids_between)
 
@@ -47,13 +49,13 @@ module _ (w : Managing) (before between after : List ManagerEvent) (s : SweepsAl
   first = first_of w.scene w.seat one.at one.keeps
 
   begins : Begins first one.at 1
-  begins = first_begins w s.run.starts one.at one.few one.keeps
+  begins = first_begins w s.planned.writes.run.starts one.at one.few one.keeps
 
   abbrev there : Sweeping
   there = after_sweep_events one.events first
 
   whole : IsWhole there.sweep
-  whole = subst IsWhole (same_Some _ _ (sym s.is_last ∙ one.follows.sweep)) s.whole
+  whole = subst IsWhole (same_Some _ _ (sym s.planned.is_last ∙ one.follows.sweep)) s.planned.whole
 
   -- what the manager knows is what the sweep was told
   found : cells_of (at_writing w before between).manager.store ≡ cells_of (facts_of there.reports)
@@ -85,19 +87,8 @@ module _ (w : Managing) (before between after : List ManagerEvent) (s : SweepsAl
 
   -- pings arrive once it has written
   pub arrives_once_written : is_written (at_end w before between after).manager ≡ true
-      → EachPingArrives (planning_at w before between).rule (cells_of (at_writing w before between).manager.store) (plan_at (at_writing w before between))
-      (at_end w before between after).scene.fabric w.seat
-  arrives_once_written written =
-      pings_arrive_once_written w before between after
-      (record {
-        run = s.run;
-        knew_nothing = s.knew_nothing;
-        alone = s.alone;
-        sweep = s.sweep;
-        is_last = s.is_last;
-        whole = s.whole;
-        written = written;
-      })
+      → PlannedPingsArrive (at_writing w before between) (at_end w before between after).scene.fabric w.seat
+  arrives_once_written = arrives w before between after s.planned
 
 pub takeover_changes_nothing : TakeoverChangesNothing
 takeover_changes_nothing facts w before between after t =
@@ -105,7 +96,7 @@ takeover_changes_nothing facts w before between after t =
     let plan_is = same w before between after t.sweeps facts t.has_room t.agrees t.holds in
     record {
       same_plan = plan_is;
-      arrived = pings_arrive planning.rule planning.lmc facts w.scene.fabric w.seat t.has_room t.sweeps.run.starts.quiet.fabric
+      arrived = pings_arrive planning.rule planning.lmc facts w.scene.fabric w.seat t.has_room t.sweeps.planned.writes.run.starts.quiet.fabric
           (seat_is_end w before between after t.sweeps) t.agrees t.holds;
       arrives = λ written. subst
           (λ p. EachPingArrives planning.rule (cells_of (at_writing w before between).manager.store) p (at_end w before between after).scene.fabric w.seat)
