@@ -140,16 +140,18 @@ brings_up =
 pub some_manager_brings_up : SomeManagerBringsUp
 some_manager_brings_up =
     record {
-      managing = beginning;
-      port_guid = 17;
-      port = 1;
-      priority = 0;
-      conduct = Plain;
-      planning = in_pairs;
-      new = refl;
-      before = [];
-      between = between;
-      after = after;
+      run = record {
+        managing = beginning;
+        port_guid = 17;
+        port = 1;
+        priority = 0;
+        conduct = Plain;
+        planning = in_pairs;
+        new = refl;
+        before = [];
+        between = between;
+        after = after;
+      };
       brings_up = brings_up;
     }
 

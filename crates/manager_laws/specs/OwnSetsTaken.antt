@@ -88,4 +88,4 @@ PingsArriveOnceAnswered =
 -- an example: a new manager that brings a subnet up, and whose Sets that count are answered
 pub record SomeSetsAreAnswered : Type 0 where
   pub some : SomeManagerBringsUp
-  pub answered : IsAnswered some.managing some.before some.between some.after
+  pub answered : IsAnswered some.run.managing some.run.before some.run.between some.run.after

@@ -1,6 +1,6 @@
 -- A manager takes over a subnet that holds a plan: if the manager sweeps while no LID changes, its plan is the plan
 -- that the subnet holds.
-use Rattle.std.specs.Prelude.{◌≡◌, ◌≤◌, ℕ, true, List, [], ◌∷◌}
+use Rattle.std.specs.Prelude.{◌≡◌, ◌≤◌, true, List, [], ◌∷◌}
 use Rattle.fabric_model.specs.Fabric.{Fabric}
 use Rattle.fabric_model.specs.FabricWalks.{IsJoinedTo}
 use Rattle.fact_store.specs.View.{Facts, cells_of}
@@ -9,9 +9,7 @@ use Rattle.subnet_view.specs.FabricAgreement.{AgreesOn}
 use Rattle.lid_assign.specs.Lids.{IsNoRoom}
 use Rattle.lft_blocks.specs.Plan.{PlanValue, plan_of}
 use Rattle.lft_blocks.specs.InForce.{HoldsPlan}
-use Rattle.sm_manager.specs.Manager.{new_manager}
 use Rattle.lft_blocks.specs.Planning.{Planning}
-use Rattle.sm_state.specs.declared.conduct.Conduct.{Conduct}
 use Rattle.sm_manager.specs.Writing.{is_written}
 use Rattle.manager_laws.specs.Pings.{EachPingArrives}
 use Rattle.fabric_model.specs.declared.cable.NodePort.{NodePort}
@@ -19,7 +17,7 @@ use Rattle.fabric_sim.specs.Simulation.{Simulation}
 use Rattle.lft_blocks.specs.Rule.{RuleValue}
 use Rattle.manager_laws.specs.Sets.{KeepsPlan, OwnSets}
 use Rattle.manager_laws.specs.Managing.{Managing, ManagerEvent, Around, Begin, after_manager_event, after_manager_events}
-use Rattle.manager_laws.specs.WritingPings.{WritesWholeSweep}
+use Rattle.manager_laws.specs.WritingPings.{NewManagersRun, WritesWholeSweep}
 use Rattle.manager_laws.specs.Written.{at_writing, at_first_steps, at_end, plan_at}
 use Rattle.manager_laws.specs.Claims.{HasLidsOf}
 
@@ -131,16 +129,7 @@ PingsArriveThroughout =
 -- an example: a new manager takes over a subnet. Each Set until its writing carries the values of the held plan, and
 -- another manager is there that does not answer
 pub record SomeManagerTakesOver : Type 0 where
-  pub managing : Managing
-  pub port_guid : ℕ
-  pub port : ℕ
-  pub priority : ℕ
-  pub conduct : Conduct
-  pub planning : Planning
-  pub new : managing.manager ≡ new_manager port_guid port priority conduct planning
+  pub run : NewManagersRun
   pub held : Facts
-  pub before : List ManagerEvent
-  pub between : List ManagerEvent
-  pub after : List ManagerEvent
-  pub takes : TakesOverQuietly held managing before between after
+  pub takes : TakesOverQuietly held run.managing run.before run.between run.after
   pub silent : 1 ≤ takes.takes.sweeps.planned.sweep.silent_managers

@@ -59,8 +59,8 @@ PingsArriveOnceWritten =
     (w : Managing) (before between after : List ManagerEvent) → BringsUp w before between after
     → PlannedPingsArrive (at_writing w before between) (at_end w before between after).scene.fabric w.seat
 
--- an example: a new manager that brings a subnet up, with the fabric and what happens there
-pub record SomeManagerBringsUp : Type 0 where
+-- a new manager on its fabric, and what happens there: before it sweeps, until it writes, and after the writing began
+pub record NewManagersRun : Type 0 where
   pub managing : Managing
   pub port_guid : ℕ
   pub port : ℕ
@@ -71,4 +71,8 @@ pub record SomeManagerBringsUp : Type 0 where
   pub before : List ManagerEvent
   pub between : List ManagerEvent
   pub after : List ManagerEvent
-  pub brings_up : BringsUp managing before between after
+
+-- an example: a new manager that brings a subnet up
+pub record SomeManagerBringsUp : Type 0 where
+  pub run : NewManagersRun
+  pub brings_up : BringsUp run.managing run.before run.between run.after
