@@ -1,7 +1,7 @@
 -- The agents take a manager's own Sets of LIDs, tops and blocks. So once each of these was answered, the plan is
 -- written, and pings arrive. InfiniBand Architecture Specification, Volume 1: subnet management, PortInfo, SwitchInfo
 -- and LinearForwardingTable; initialization.
-use Rattle.std.specs.Prelude.{◌≡◌, ℕ, true, false, List, [], ◌∷◌, filter, Contains, Some}
+use Rattle.std.specs.Prelude.{◌≡◌, ℕ, true, false, List, filter, Contains, Some}
 use Rattle.std.specs.List.{list_any}
 use Rattle.fabric_model.specs.declared.cable.NodePort.{NodePort}
 use Rattle.smp_bytes.specs.Header.{set, done}
@@ -15,7 +15,7 @@ use Rattle.sm_manager.specs.declared.pending.Pending.{Pending}
 use Rattle.sm_manager.specs.Manager.{Manager, Writing}
 use Rattle.sm_manager.specs.ManagerRequests.{counts, none_counts}
 use Rattle.sm_manager.specs.Writing.{is_written, phases_by}
-use Rattle.manager_laws.specs.Managing.{Managing, ManagerEvent, TimeOut, after_manager_event}
+use Rattle.manager_laws.specs.Managing.{Managing, ManagerEvent, AllAlong, TimeOut}
 use Rattle.manager_laws.specs.Sets.{IsOwnSet, OwnSets}
 use Rattle.manager_laws.specs.WritingPings.{PlannedPingsArrive, SomeManagerBringsUp, WritesItsSweep, WritesWholeSweep}
 use Rattle.manager_laws.specs.Written.{at_end, at_first_steps, at_writing}
@@ -51,8 +51,7 @@ GivesUpNone w event = Unit {0}
 
 -- none of the events is a timeout of a step that counts
 abbrev pub GiveUpNone : List ManagerEvent → Managing → Type 0
-GiveUpNone [] w = Unit {0}
-GiveUpNone (event ∷ events) w = GivesUpNone w event × GiveUpNone events (after_manager_event w event)
+GiveUpNone = AllAlong GivesUpNone
 
 -- no step that counts is outstanding, and none is still to be sent
 pub record AreCountedOver (m : Manager) : Type 0 where

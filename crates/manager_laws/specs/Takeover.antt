@@ -16,16 +16,14 @@ use Rattle.fabric_model.specs.declared.cable.NodePort.{NodePort}
 use Rattle.fabric_sim.specs.Simulation.{Simulation}
 use Rattle.lft_blocks.specs.Rule.{RuleValue}
 use Rattle.manager_laws.specs.Sets.{KeepsPlan, OwnSets}
-use Rattle.manager_laws.specs.Managing.{Managing, ManagerEvent, Around, Begin, after_manager_event, after_manager_events}
+use Rattle.manager_laws.specs.Managing.{Managing, ManagerEvent, AllAlong, Around, Begin, after_manager_event, after_manager_events}
 use Rattle.manager_laws.specs.WritingPings.{NewManagersRun, WritesWholeSweep}
 use Rattle.manager_laws.specs.Written.{at_writing, at_first_steps, at_end, plan_at}
 use Rattle.manager_laws.specs.Claims.{HasLidsOf}
 
 -- after each of `events`, each port has the LID that it has in the fabric `f`
 abbrev pub LidsStayAround : Fabric → List ManagerEvent → Managing → Type 0
-LidsStayAround f [] w = Unit {0}
-LidsStayAround f (event ∷ events) w =
-    HasLidsOf f (after_manager_event w event).scene × LidsStayAround f events (after_manager_event w event)
+LidsStayAround f = AllAlong (λ w event. HasLidsOf f (after_manager_event w event).scene)
 
 -- the rule and the LMC by which the manager plans when its writing begins
 abbrev pub planning_at : Managing → List ManagerEvent → List ManagerEvent → Planning
@@ -85,8 +83,7 @@ Carrying plan w event = Unit {0}
 
 -- each Set that an agent takes in the course of `events`, from `w` on, carries the plan's values
 abbrev pub AllCarry : PlanValue → List ManagerEvent → Managing → Type 0
-AllCarry plan [] w = Unit {0}
-AllCarry plan (event ∷ events) w = Carrying plan w event × AllCarry plan events (after_manager_event w event)
+AllCarry plan = AllAlong (Carrying plan)
 
 -- the part that is joined to `seat` holds the plan of `facts`, and each ping there, for each LID of the plan, arrives
 pub record IsInUse (rule : RuleValue) (facts : Facts) (plan : PlanValue) (s : Simulation) (seat : NodePort) : Type 0

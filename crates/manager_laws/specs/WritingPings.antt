@@ -1,5 +1,5 @@
 -- Once the plan of a sweep with every answer is written, pings arrive.
-use Rattle.std.specs.Prelude.{◌≡◌, ◌≢◌, ◌≤◌, ℕ, true, List, [], ◌∷◌, Some, None}
+use Rattle.std.specs.Prelude.{◌≡◌, ◌≢◌, ◌≤◌, ℕ, true, List, [], Some, None}
 use Rattle.fabric_model.specs.declared.cable.NodePort.{NodePort}
 use Rattle.fact_store.specs.View.{cells_of}
 use Rattle.fabric_sim.specs.Simulation.{Simulation}
@@ -10,7 +10,7 @@ use Rattle.sm_manager.specs.Manager.{begin_fault, new_manager}
 use Rattle.sm_manager.specs.Writing.{is_written}
 use Rattle.manager_laws.specs.Pings.{EachPingArrives}
 use Rattle.manager_laws.specs.Complete.{IsWhole}
-use Rattle.manager_laws.specs.Managing.{Managing, ManagerEvent, Begin, Raise, Merge, after_manager_event, after_manager_events}
+use Rattle.manager_laws.specs.Managing.{Managing, ManagerEvent, AllAlong, Begin, Raise, Merge, after_manager_event, after_manager_events}
 use Rattle.manager_laws.specs.Written.{IsWritingRun, at_writing, at_end, plan_at}
 
 -- the event begins no sweep, merges no facts of others, and gives no floor above that of the manager's store
@@ -22,8 +22,7 @@ BeginsNoSweep w event = Unit {0}
 
 -- none of the events begins a sweep, merges facts of others, or gives a floor above that of the manager's store
 abbrev pub AreNoSweeps : List ManagerEvent → Managing → Type 0
-AreNoSweeps [] w = Unit {0}
-AreNoSweeps (event ∷ events) w = BeginsNoSweep w event × AreNoSweeps events (after_manager_event w event)
+AreNoSweeps = AllAlong BeginsNoSweep
 
 -- in a writing run, the manager writes the plan of what one sweep told it
 pub record WritesItsSweep (w : Managing) (before between after : List ManagerEvent) : Type 0 where

@@ -1,5 +1,5 @@
 -- A manager that sweeps a subnet which holds a plan, while no LID changes, comes to this plan.
-use Rattle.std.proofs.Common.{◌≡◌, true, List, [], ◌∷◌, refl, sym, ap, ◌∙◌, subst}
+use Rattle.std.proofs.Common.{◌≡◌, true, List, refl, sym, ap, ◌∙◌, subst}
 use Rattle.std.proofs.lemmas.Option.{same_Some}
 use Rattle.fabric_model.specs.Fabric as fabrics
 use Rattle.fabric_model.specs.Fabric.{Fabric}
@@ -16,22 +16,17 @@ use Rattle.manager_laws.specs.Sweeping.{Sweeping, Begins, after_sweep_events}
 use Rattle.manager_laws.proofs.PlannedPings.{pings_arrive}
 use Rattle.manager_laws.specs.Complete.{IsWhole, facts_of}
 use Rattle.manager_laws.proofs.Done.{done_sweeps_are_complete, seat_end}
-use Rattle.manager_laws.specs.Managing.{Managing, ManagerEvent, Begin, after_manager_event, after_manager_events}
+use Rattle.manager_laws.specs.Managing.{Managing, ManagerEvent}
 use Rattle.manager_laws.specs.WritingPings.{PlannedPingsArrive}
 use Rattle.manager_laws.specs.Written.{at_end, at_writing, plan_at}
 use Rattle.manager_laws.proofs.Follows.{holds_all}
 use Rattle.fact_store.specs.View.{Facts}
 use Rattle.manager_laws.proofs.Arrive.{arrives}
-use Rattle.manager_laws.proofs.OneSweep.{FollowsOne, StaysSo, first_begins, first_of, one_sweep}
+use Rattle.manager_laws.proofs.OneSweep.{FollowsOne, first_begins, first_of, one_sweep}
 use Rattle.manager_laws.specs.OnePlan.{ClaimsAreTrue}
 use Rattle.manager_laws.specs.Claims.{HasLidsOf}
-use Rattle.manager_laws.specs.Takeover.{LidsStayAround, SweepsAlone, TakeoverChangesNothing, planning_at, plan_by_it}
+use Rattle.manager_laws.specs.Takeover.{SweepsAlone, TakeoverChangesNothing, planning_at, plan_by_it}
 use Rattle.manager_laws.proofs.takeover.Claimed.{swept_claims_are_true, takeovers_change_nothing}
-
--- LIDs that stay are so all the while
-lids_so : (f : Fabric) (events : List ManagerEvent) (w : Managing) → LidsStayAround f events w → StaysSo (HasLidsOf f) events w
-lids_so f [] w lids = tt
-lids_so f (event ∷ events) w lids = (lids.0, lids_so f events (after_manager_event w event) lids.1)
 
 module _ (w : Managing) (before between after : List ManagerEvent) (s : SweepsAlone w before between after) where
   abbrev f : Fabric
@@ -41,9 +36,7 @@ module _ (w : Managing) (before between after : List ManagerEvent) (s : SweepsAl
   one : FollowsOne (HasLidsOf (fabric_of w.scene.fabric)) w.scene w.seat (at_writing w before between)
   one =
       one_sweep w before between after s.planned.writes.run s.planned.writes.knew_nothing s.planned.writes.alone
-      (HasLidsOf (fabric_of w.scene.fabric)) (λ p. refl)
-      (lids_so (fabric_of w.scene.fabric) before w s.lids_before)
-      (lids_so (fabric_of w.scene.fabric) between (after_manager_event (after_manager_events before w) Begin) s.lids_between)
+      (HasLidsOf (fabric_of w.scene.fabric)) (λ p. refl) s.lids_before s.lids_between
 
   abbrev first : Sweeping
   first = first_of w.scene w.seat one.at one.keeps
