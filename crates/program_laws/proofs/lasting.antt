@@ -1,6 +1,10 @@
 pub mod Answered
 pub mod Counted
+pub mod GoodLines
 pub mod Healing
+pub mod HealingExample
+pub mod LoneAdapter
+pub mod LoneSweeps
 pub mod Notes
 pub mod Standing
 pub mod StandingPings

@@ -1,7 +1,7 @@
 -- A manager that decides by itself has its plan written before long, whatever it is about at first, if nothing is lost and
 -- no other master is there. InfiniBand Architecture Specification, Volume 1: subnet management, subnet manager (sweeping),
 -- initialization.
-use Rattle.std.specs.Prelude.{◌≡◌, ◌≤◌, ◌<◌, ◌+◌, ◌*◌, ◌^◌, ℕ, Bool, true, false, List, [], ◌∷◌, ◌++◌, Some, None}
+use Rattle.std.specs.Prelude.{◌≡◌, ◌≤◌, ◌<◌, ◌+◌, ◌*◌, ◌^◌, ℕ, true, false, List, [], ◌∷◌, ◌++◌, Some, None}
 use Rattle.lft_blocks.specs.Plan.{PlanValue}
 use Rattle.sm_state.specs.declared.state.SmState.TheVariants.{Master}
 use Rattle.sm_manager.specs.PlanFaults.{writing_fault}
@@ -78,3 +78,13 @@ HealsInTime =
     (n : ℕ) (a : Acting) (lines : List Line) (r : IsUndisturbed n a lines) (late : ℕ) → ArePrompt late lines a
     → a.time + 2 * longest_wait r.decided.timing + (6 * (n + 3)) * longest_turn late a.window.limits < (after_lines lines a).time
     → Heals lines a
+
+-- an example: a manager for which all goes well for so long, with no line late
+pub record SomeManagerHeals : Type 0 where
+  pub bound : ℕ
+  pub acting : Acting
+  pub lines : List Line
+  pub undisturbed : IsUndisturbed bound acting lines
+  pub prompt : ArePrompt 0 lines acting
+  pub long : acting.time + 2 * longest_wait undisturbed.decided.timing + (6 * (bound + 3)) * longest_turn 0 acting.window.limits
+      < (after_lines lines acting).time

@@ -1,5 +1,5 @@
 //! The laws of what a manager that decides by itself writes, at its seat on a fabric.
-ghost use Rattle.program_laws.specs.Healing.{HealsInTime};
+ghost use Rattle.program_laws.specs.Healing.{HealsInTime, SomeManagerHeals};
 ghost use Rattle.program_laws.specs.ManagedPings.{ManagedPingsArrive, SomeManagerDecides};
 ghost use Rattle.program_laws.specs.ManagedWritings.{WritesNothingElse, WritesWhatOneSweepSaw};
 ghost use Rattle.program_laws.specs.StandingPings.{StandingPingsArrive};
@@ -40,6 +40,13 @@ pub fn some_manager_decides()
 /// as many again at most, whatever it is about at first, if what it has to send can be late at most `n` times at any moment.
 pub fn heals_in_time()
     ensures { HealsInTime }
+{}
+
+/// Some manager decides by itself and meets all premises of `heals_in_time`, with no line late: a new manager on an
+/// adapter with one port and no cable. It is told the time whenever it asks for that, and its adapter's answers at
+/// once: it sweeps, writes its plan, and sweeps again and again.
+pub fn some_manager_heals()
+    ensures { SomeManagerHeals }
 {}
 
 /// While the plan of a strict manager that decides by itself stands, and it writes nothing, each ping from an end port that
