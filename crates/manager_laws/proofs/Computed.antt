@@ -49,6 +49,7 @@ use Rattle.manager_laws.specs.Sets.{IsOwnSet, KeepsPlan}
 use Rattle.manager_laws.specs.WritingPings.{AreNoSweeps, BeginsNoSweep}
 use Rattle.manager_laws.specs.Written.{AllKeep, Keeps}
 use Rattle.manager_laws.proofs.Lists.{all_tested}
+use Rattle.manager_laws.proofs.RunParts.{along_tested}
 
 -- each Set that an agent takes is one of its own: by a test -------------------------------------------------------------
 
@@ -222,10 +223,7 @@ no_sweep w (Merge floor sightings) e = absurd (cc)
 no_sweep w event e = tt
 
 pub no_sweeps : (events : List ManagerEvent) (w : Managing) → list_all begins_none events ≡ true → AreNoSweeps events w
-no_sweeps [] w e = tt
-no_sweeps (event ∷ events) w e =
-    let parts = and_parts (begins_none event) (list_all begins_none events) e in
-    (no_sweep w event parts.0, no_sweeps events (after_manager_event w event) parts.1)
+no_sweeps = along_tested BeginsNoSweep begins_none no_sweep
 
 -- what reports tell in turn ----------------------------------------------------------------------------------------------
 

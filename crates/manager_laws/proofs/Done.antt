@@ -80,25 +80,37 @@ module _ (w : Sweeping) (generation first : ℕ) (begins : Begins w generation f
         all_go_on begins.quiet.fabric.cables (few_ports_there w generation first begins)
         (can_sweep w generation first begins) (cabled_there w generation first begins) events w (goes_first w generation first begins) all
 
+    -- what a sweep with every answer was told covers all that is joined to its seat
+    pub covers_all : IsWhole (after_sweep_events events w).sweep
+        → Covered (fabric_of w.scene.fabric) w.seat (after_sweep_events events w).sweep (told_in (after_sweep_events events w).reports)
+    covers_all whole =
+        let f = fabric_of w.scene.fabric in
+        let at_first : Covered f w.seat w.sweep (told_in w.reports) =
+        subst (λ (s : Sweep). Covered f w.seat s (told_in w.reports)) (sym begins.sweep)
+        (subst (λ reports. Covered f w.seat (started w.seat.port generation first begins.keeps) (told_in reports)) (sym begins.reports)
+        (covers_first f w generation first begins.keeps)) in
+        let few : w.sweep.silent_managers ≤ w.sweep.unanswered =
+        subst (λ (s : Sweep). s.silent_managers ≤ s.unanswered) (sym begins.sweep) (omega arith) in
+        (all_covered begins.quiet.fabric.cables (few_ports_there w generation first begins) (can_sweep w generation first begins)
+        (cabled_there w generation first begins) events w (goes_first w generation first begins) all
+        (few, λ answered near. at_first)).1 whole.answered whole.near
+
+    pub reaches_origin : IsWhole (after_sweep_events events w).sweep
+        → Has (IsOrigin (fabric_of w.scene.fabric) w.seat) (after_sweep_events events w).sweep.reached
+    reaches_origin whole =
+        elim (covers_all whole).start [ inl k ↦ absurd (none_pending (after_sweep_events events w).sweep whole.done _ k.0) | inr k ↦ k ]
+
     finds_all : IsWhole (after_sweep_events events w).sweep → HasFoundAll w (after_sweep_events events w)
     finds_all whole =
         let start = w.scene.fabric in
         let f = fabric_of start in
         let can = can_sweep w generation first begins in
         let (node, there, number) = seat_end in
-        let at_first : Covered f w.seat w.sweep (told_in w.reports) =
-        subst (λ (s : Sweep). Covered f w.seat s (told_in w.reports)) (sym begins.sweep)
-        (subst (λ reports. Covered f w.seat (started w.seat.port generation first begins.keeps) (told_in reports)) (sym begins.reports)
-        (covers_first f w generation first begins.keeps)) in
         let ended = after_sweep_events events w in
-        let few : w.sweep.silent_managers ≤ w.sweep.unanswered =
-        subst (λ (s : Sweep). s.silent_managers ≤ s.unanswered) (sym begins.sweep) (omega arith) in
-        let covered = (all_covered begins.quiet.fabric.cables (few_ports_there w generation first begins) can
-        (cabled_there w generation first begins) events w (goes_first w generation first begins) all
-        (few, λ answered near. at_first)).1 whole.answered whole.near in
+        let covered = covers_all whole in
         let none = none_pending ended.sweep whole.done in
         let is_fabric = simulations_are_fabrics start begins.quiet.fabric in
-        let origin : Has (IsOrigin f w.seat) ended.sweep.reached = elim covered.start [ inl k ↦ absurd (none _ k.0) | inr k ↦ k ] in
+        let origin = reaches_origin whole in
         let told = true_told f ended.reports (accepted_facts_are_true w generation first events begins all) in
         let found : AgreeWith ended.reports start w.seat =
         agrees can is_fabric node there ended.sweep (told_in ended.reports) covered none origin told in

@@ -15,7 +15,7 @@ use Rattle.sm_manager.specs.Manager.{after_begin_sweep, newest_held, next_genera
 use Rattle.manager_laws.specs.Scene.{Scene}
 use Rattle.manager_laws.specs.Sweeping as sweeping
 use Rattle.manager_laws.specs.Sweeping.{AlwaysSo, Sweeping, SweepEvent, Begins, after_sweep_events}
-use Rattle.manager_laws.specs.Managing.{Managing, ManagerEvent, Begin, CanBe, Starts, after_manager_event, after_manager_events}
+use Rattle.manager_laws.specs.Managing.{Managing, ManagerEvent, AllAlong, Begin, CanBe, Starts, after_manager_event, after_manager_events}
 use Rattle.manager_laws.specs.WritingPings.{AreNoSweeps, BeginsNoSweep}
 use Rattle.manager_laws.specs.Written.{IsWritingRun, SweepsFirst, at_writing, plan_at}
 use Rattle.manager_laws.proofs.Before.{by_before, event_goes}
@@ -48,8 +48,7 @@ first_begins w starts at few keeps =
 
 -- after each of these events something is so of the scene
 abbrev pub StaysSo : (Scene → Type 0) → List ManagerEvent → Managing → Type 0
-StaysSo is_so [] w = Unit {0}
-StaysSo is_so (event ∷ events) w = is_so (after_manager_event w event).scene × StaysSo is_so events (after_manager_event w event)
+StaysSo is_so = AllAlong (λ w event. is_so (after_manager_event w event).scene)
 
 so_at_last : (is_so : Scene → Type 0) (events : List ManagerEvent) (w : Managing) → is_so w.scene → StaysSo is_so events w
     → is_so (after_manager_events events w).scene

@@ -112,21 +112,25 @@ kept_then =
 brings_up : BringsUp beginning [] between after
 brings_up =
     record {
-      run = record {
-        starts = starts;
-        before_can = All-from_recursion (CanBe (port 0 1)) [] tt;
-        between_can = All-from_recursion (CanBe (port 0 1)) between between_can;
-        after_can = All-from_recursion (CanBe (port 0 1)) after (all_can_be (port 0 1) after refl);
-        sweeps_first = tt;
-        sweep_begins = may_begin 17 Plain in_pairs;
-        writing_begins = subst (λ (x : Managing). writing_fault x.manager ≡ None) (sym at_is) (may_write in_pairs replies swept.manager has_swept);
-        keep = subst (λ (x : Managing). AllKeep (plan_at x) (own_sets beginning x) after (after_manager_event x Write)) (sym at_is) kept_then;
+      planned = record {
+        writes = record {
+          run = record {
+            starts = starts;
+            before_can = All-from_recursion (CanBe (port 0 1)) [] tt;
+            between_can = All-from_recursion (CanBe (port 0 1)) between between_can;
+            after_can = All-from_recursion (CanBe (port 0 1)) after (all_can_be (port 0 1) after refl);
+            sweeps_first = tt;
+            sweep_begins = may_begin 17 Plain in_pairs;
+            writing_begins = subst (λ (x : Managing). writing_fault x.manager ≡ None) (sym at_is) (may_write in_pairs replies swept.manager has_swept);
+            keep = subst (λ (x : Managing). AllKeep (plan_at x) (own_sets beginning x) after (after_manager_event x Write)) (sym at_is) kept_then;
+          };
+          knew_nothing = nothing_found;
+          alone = no_sweeps between (after_manager_event beginning Begin) refl;
+        };
+        sweep = sweep_in swept.manager.sweep;
+        is_last = ap (λ (x : Managing). x.manager.sweep) at_is ∙ sweep_is in_pairs replies swept.manager has_swept;
+        whole = has_swept.whole;
       };
-      knew_nothing = nothing_found;
-      alone = no_sweeps between (after_manager_event beginning Begin) refl;
-      sweep = sweep_in swept.manager.sweep;
-      is_last = ap (λ (x : Managing). x.manager.sweep) at_is ∙ sweep_is in_pairs replies swept.manager has_swept;
-      whole = has_swept.whole;
       written = subst (λ (x : Managing). is_written x.manager ≡ true)
           (sym (ap (λ (x : Managing). after_manager_events after (after_manager_event x Write)) at_is
           ∙ ap (after_manager_events after) (writes in_pairs replies swept has_swept)))
@@ -136,16 +140,18 @@ brings_up =
 pub some_manager_brings_up : SomeManagerBringsUp
 some_manager_brings_up =
     record {
-      managing = beginning;
-      port_guid = 17;
-      port = 1;
-      priority = 0;
-      conduct = Plain;
-      planning = in_pairs;
-      new = refl;
-      before = [];
-      between = between;
-      after = after;
+      run = record {
+        managing = beginning;
+        port_guid = 17;
+        port = 1;
+        priority = 0;
+        conduct = Plain;
+        planning = in_pairs;
+        new = refl;
+        before = [];
+        between = between;
+        after = after;
+      };
       brings_up = brings_up;
     }
 

@@ -13,12 +13,10 @@ use Rattle.subnet_view.specs.EndPort.{end_ports}
 use Rattle.subnet_view.specs.FabricAgreement.{IsEndPortIn, TellsEndPort}
 use Rattle.lid_assign.specs.Lids.{IsNoRoom, lids, lid_of, range_of, top_of}
 use Rattle.lid_assign.specs.Claims.{room}
-use Rattle.sm_manager.specs.Manager.{new_manager, newest_held, next_generation}
-use Rattle.lft_blocks.specs.Planning.{Planning}
-use Rattle.sm_state.specs.declared.conduct.Conduct.{Conduct}
+use Rattle.sm_manager.specs.Manager.{newest_held, next_generation}
 use Rattle.sm_manager.specs.Writing.{is_written}
-use Rattle.manager_laws.specs.Pings.{EachPingArrives}
 use Rattle.manager_laws.specs.Managing.{Managing, ManagerEvent, Raise, after_manager_event}
+use Rattle.manager_laws.specs.WritingPings.{NewManagersRun, PlannedPingsArrive}
 use Rattle.manager_laws.specs.Written.{at_end, at_writing, plan_at}
 use Rattle.manager_laws.specs.Takeover.{SweepsAlone, planning_at, plan_by_it}
 
@@ -77,9 +75,7 @@ pub record IsServed (held : Facts) (w : Managing) (before between after : List M
       → lid_of (plan_at (at_writing w before between)).given e
       ≡ lid_of (plan_by_it (planning_at w before between) held).given e
   pub arrives : is_written (at_end w before between after).manager ≡ true
-      → EachPingArrives (planning_at w before between).rule (cells_of (at_writing w before between).manager.store)
-      (plan_at (at_writing w before between))
-      (at_end w before between after).scene.fabric w.seat
+      → PlannedPingsArrive (at_writing w before between) (at_end w before between after).scene.fabric w.seat
 
 -- if a manager takes the rest of a subnet over, whatever is gone, the rest is served (`IsServed`)
 abbrev pub RestIsServed : Type 0
@@ -89,15 +85,6 @@ RestIsServed =
 
 -- an example: a new manager that takes over the rest of a subnet
 pub record SomeManagerServesTheRest : Type 0 where
-  pub managing : Managing
-  pub port_guid : ℕ
-  pub port : ℕ
-  pub priority : ℕ
-  pub conduct : Conduct
-  pub planning : Planning
-  pub new : managing.manager ≡ new_manager port_guid port priority conduct planning
+  pub run : NewManagersRun
   pub held : Facts
-  pub before : List ManagerEvent
-  pub between : List ManagerEvent
-  pub after : List ManagerEvent
-  pub takes : TakesRest held managing before between after
+  pub takes : TakesRest held run.managing run.before run.between run.after

@@ -4,7 +4,7 @@ use Rattle.fact_store.specs.View.{cells_of}
 use Rattle.sm_manager.specs.Manager.{begin_fault}
 use Rattle.manager_laws.specs.Managing as one
 use Rattle.manager_laws.specs.WritingPings.{BeginsNoSweep}
-use Rattle.manager_laws.specs.Masters.{Seated, Masters, MastersEvent, Around, At, IsAt, seen_by, after_masters_event, after_masters_events}
+use Rattle.manager_laws.specs.Masters.{Seated, Masters, MastersEvent, AllAlong, Around, At, IsAt, seen_by, after_masters_events}
 
 -- the manager at index `which` begins a sweep at some moment of the run
 pub record BeganSweep (t : Masters) (events : List MastersEvent) (which : ℕ) : Type 0 where
@@ -25,9 +25,7 @@ LearnsNothingElse which t (At other event) =
 -- in these events, the manager at index `which` begins no sweep, merges no facts of others, and is given no floor above
 -- its own
 abbrev pub LearnNothingElse : ℕ → List MastersEvent → Masters → Type 0
-LearnNothingElse which [] t = Unit {0}
-LearnNothingElse which (event ∷ events) t =
-    LearnsNothingElse which t event × LearnNothingElse which events (after_masters_event t event)
+LearnNothingElse which = AllAlong (LearnsNothingElse which)
 
 -- in the run, the manager at index `which` began a sweep while it held no facts. After that, it began no other sweep,
 -- merged no facts of others, and was given no floor above its own

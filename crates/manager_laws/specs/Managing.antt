@@ -116,6 +116,11 @@ abbrev pub after_manager_events : List ManagerEvent → Managing → Managing
 after_manager_events [] w = w
 after_manager_events (event ∷ events) w = after_manager_events events (after_manager_event w event)
 
+-- each of `events`, in turn, is as `is_so` requires when it happens
+abbrev pub AllAlong : (Managing → ManagerEvent → Type 0) → List ManagerEvent → Managing → Type 0
+AllAlong is_so [] w = Unit {0}
+AllAlong is_so (event ∷ events) w = is_so w event × AllAlong is_so events (after_manager_event w event)
+
 -- where runs begin -------------------------------------------------------------------------------
 
 -- the manager has nothing to send, and none of its requests is outstanding: it is new, or between its tasks

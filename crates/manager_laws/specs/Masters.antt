@@ -88,6 +88,11 @@ abbrev pub after_masters_events : List MastersEvent → Masters → Masters
 after_masters_events [] t = t
 after_masters_events (event ∷ events) t = after_masters_events events (after_masters_event t event)
 
+-- each of `events`, in turn, is as `is_so` requires when it happens
+abbrev pub AllAlong : (Masters → MastersEvent → Type 0) → List MastersEvent → Masters → Type 0
+AllAlong is_so [] t = Unit {0}
+AllAlong is_so (event ∷ events) t = is_so t event × AllAlong is_so events (after_masters_event t event)
+
 -- which events there may be ----------------------------------------------------------------
 
 -- if another sender sends a Set in the event, by LIDs or along a path, the Set is for SMInfo
@@ -125,8 +130,7 @@ CanBe t (At which event) =
 
 -- each of `events` is possible when it happens
 abbrev pub AllCanBe : List MastersEvent → Masters → Type 0
-AllCanBe [] t = Unit {0}
-AllCanBe (event ∷ events) t = CanBe t event × AllCanBe events (after_masters_event t event)
+AllCanBe = AllAlong CanBe
 
 -- where runs begin -------------------------------------------------------------------------
 

@@ -1,12 +1,12 @@
 -- What one of several managers does on its own: the packets that it gives out, and its own run.
-use Rattle.std.specs.Prelude.{◌≡◌, ℕ, true, List, [], ◌∷◌, All, slice_get, Some, None}
+use Rattle.std.specs.Prelude.{◌≡◌, ℕ, true, List, All, slice_get, Some, None}
 use Rattle.sm_manager.specs.declared.outgoing.Outgoing.{Outgoing}
 use Rattle.sm_manager.specs.PlanFaults.{writing_fault}
 use Rattle.manager_laws.specs.Scene.{Sending, CanSend, sent, sent_from}
 use Rattle.manager_laws.specs.Managing as one
 use Rattle.manager_laws.specs.Managing.{Managing, ManagerEvent, Starts, packet_of, after_manager_events}
 use Rattle.manager_laws.specs.Written.{SweepsFirst}
-use Rattle.manager_laws.specs.Masters.{Seated, Masters, MastersEvent, Around, At, IsAt, seen_by, after_masters_event, after_masters_events}
+use Rattle.manager_laws.specs.Masters.{Seated, Masters, MastersEvent, AllAlong, Around, At, IsAt, seen_by, after_masters_events}
 use Rattle.manager_laws.specs.Masters.{AllCanBe, StartTogether}
 
 -- the packet `o`, which the manager gave out, can be sent from the manager's seat as one of the packets that other
@@ -36,8 +36,7 @@ SweepsBefore t (At which event) = (m : Seated) → IsAt t which m → WritesSwep
 
 -- in these events, no manager begins a writing before a sweep
 abbrev pub AllSweepBefore : List MastersEvent → Masters → Type 0
-AllSweepBefore [] t = Unit {0}
-AllSweepBefore (event ∷ events) t = SweepsBefore t event × AllSweepBefore events (after_masters_event t event)
+AllSweepBefore = AllAlong SweepsBefore
 
 -- the manager `m`, at index `which`, has a run of its own, for which the other managers are what happens around it
 pub record OwnRun (t : Masters) (m : Seated) (after : Masters) (which : ℕ) : Type 0 where

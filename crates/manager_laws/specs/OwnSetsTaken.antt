@@ -1,39 +1,26 @@
 -- The agents take a manager's own Sets of LIDs, tops and blocks. So once each of these was answered, the plan is
 -- written, and pings arrive. InfiniBand Architecture Specification, Volume 1: subnet management, PortInfo, SwitchInfo
 -- and LinearForwardingTable; initialization.
-use Rattle.std.specs.Prelude.{◌≡◌, ℕ, true, false, List, [], ◌∷◌, filter, Contains, Some}
+use Rattle.std.specs.Prelude.{◌≡◌, ℕ, true, false, List, filter, Contains, Some}
 use Rattle.std.specs.List.{list_any}
 use Rattle.fabric_model.specs.declared.cable.NodePort.{NodePort}
 use Rattle.smp_bytes.specs.Header.{set, done}
 use Rattle.smp_bytes.specs.Field.{number_in}
 use Rattle.smp_bytes.specs.Packet.{method, status}
-use Rattle.fact_store.specs.View.{cells_of}
 use Rattle.node_agents.specs.Agent.{Agent}
 use Rattle.node_agents.specs.Answers.{after_answer}
 use Rattle.node_agents.specs.AnswerLaws.{IsPacket}
 use Rattle.fabric_sim.specs.Simulation.{agent_at, fabric_of}
-use Rattle.sweep.specs.Sweep.{Sweep}
 use Rattle.sm_manager.specs.declared.pending.Pending.{Pending}
 use Rattle.sm_manager.specs.Manager.{Manager, Writing}
 use Rattle.sm_manager.specs.ManagerRequests.{counts, none_counts}
 use Rattle.sm_manager.specs.Writing.{is_written, phases_by}
-use Rattle.manager_laws.specs.Pings.{EachPingArrives}
-use Rattle.manager_laws.specs.Complete.{IsWhole}
-use Rattle.manager_laws.specs.Managing.{Managing, ManagerEvent, Begin, TimeOut}
-use Rattle.manager_laws.specs.Managing.{after_manager_event, after_manager_events}
+use Rattle.manager_laws.specs.Managing.{Managing, ManagerEvent, AllAlong, TimeOut}
 use Rattle.manager_laws.specs.Sets.{IsOwnSet, OwnSets}
-use Rattle.manager_laws.specs.WritingPings.{AreNoSweeps, SomeManagerBringsUp}
-use Rattle.manager_laws.specs.Written.{IsWritingRun, at_end, at_first_steps, at_writing, plan_at}
+use Rattle.manager_laws.specs.WritingPings.{PlannedPingsArrive, SomeManagerBringsUp, WritesItsSweep, WritesWholeSweep}
+use Rattle.manager_laws.specs.Written.{at_end, at_first_steps, at_writing}
 
 -- own Sets are taken ------------------------------------------------------------------------------
-
--- in a writing run, the manager writes the plan of what one sweep told it
-pub record WritesItsSweep (w : Managing) (before between after : List ManagerEvent) : Type 0 where
-  pub run : IsWritingRun w before between after
-  -- the manager holds no facts when the sweep begins; its floor may have been raised
-  pub knew_nothing : cells_of (after_manager_events before w).manager.store ≡ []
-  -- until the writing the manager learns only from this sweep
-  pub alone : AreNoSweeps between (after_manager_event (after_manager_events before w) Begin)
 
 -- the Sets of the steps that the manager of `w` writes and that count (LIDs, blocks and tops), from the seat and in the
 -- fabric of `start`
@@ -64,8 +51,7 @@ GivesUpNone w event = Unit {0}
 
 -- none of the events is a timeout of a step that counts
 abbrev pub GiveUpNone : List ManagerEvent → Managing → Type 0
-GiveUpNone [] w = Unit {0}
-GiveUpNone (event ∷ events) w = GivesUpNone w event × GiveUpNone events (after_manager_event w event)
+GiveUpNone = AllAlong GivesUpNone
 
 -- no step that counts is outstanding, and none is still to be sent
 pub record AreCountedOver (m : Manager) : Type 0 where
@@ -85,14 +71,9 @@ AnsweredPlansAreWritten =
     (w : Managing) (before between after : List ManagerEvent) → WritesItsSweep w before between after
     → AreAnswered w before between after → is_written (at_end w before between after).manager ≡ true
 
--- a manager without facts sweeps, and the sweep has every answer. Until the writing the manager learns only from this
--- sweep; then it writes the plan of its facts, and each Set that counts is answered
+-- a manager writes the plan of one sweep with every answer (`WritesWholeSweep`), and each Set that counts is answered
 pub record IsAnswered (w : Managing) (before between after : List ManagerEvent) : Type 0 where
-  pub writes : WritesItsSweep w before between after
-  -- the sweep has every answer, and nothing was out of its reach
-  pub sweep : Sweep
-  pub is_last : (at_writing w before between).manager.sweep ≡ Some sweep
-  pub whole : IsWhole sweep
+  pub planned : WritesWholeSweep w before between after
   -- each Set that counts was answered
   pub answered : AreAnswered w before between after
 
@@ -101,11 +82,9 @@ pub record IsAnswered (w : Managing) (before between after : List ManagerEvent) 
 abbrev pub PingsArriveOnceAnswered : Type 0
 PingsArriveOnceAnswered =
     (w : Managing) (before between after : List ManagerEvent) → IsAnswered w before between after
-    → EachPingArrives (at_writing w before between).manager.planning.rule
-    (cells_of (at_writing w before between).manager.store) (plan_at (at_writing w before between))
-    (at_end w before between after).scene.fabric w.seat
+    → PlannedPingsArrive (at_writing w before between) (at_end w before between after).scene.fabric w.seat
 
 -- an example: a new manager that brings a subnet up, and whose Sets that count are answered
 pub record SomeSetsAreAnswered : Type 0 where
   pub some : SomeManagerBringsUp
-  pub answered : IsAnswered some.managing some.before some.between some.after
+  pub answered : IsAnswered some.run.managing some.run.before some.run.between some.run.after

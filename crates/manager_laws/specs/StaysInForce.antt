@@ -22,7 +22,7 @@ use Rattle.manager_laws.specs.Written.{BeginsNoWriting, plan_at}
 use Rattle.manager_laws.specs.OnePlan.{ClaimsAreTrue}
 use Rattle.manager_laws.specs.Claims.{HasLidsOf}
 use Rattle.manager_laws.specs.Takeover.{IsInUse, plan_by_it}
-use Rattle.manager_laws.specs.Masters.{Seated, Masters, MastersEvent, Around, At, IsAt, seen_by, after_masters_event, after_masters_events}
+use Rattle.manager_laws.specs.Masters.{Seated, Masters, MastersEvent, AllAlong, Around, At, IsAt, seen_by, after_masters_event, after_masters_events}
 use Rattle.manager_laws.specs.Masters.{SetsInfoOnly, WritesWhole, IsWholeSweep, AllCanBe, StartTogether}
 use Rattle.sm_state.specs.declared.conduct.Conduct.{Conduct}
 use Rattle.sm_state.specs.declared.conduct.Conduct.TheVariants.{Plain}
@@ -79,8 +79,7 @@ SweepsWhole t (At which event) = (m : Seated) → IsAt t which m → WritesWhole
 -- in these events, other senders set only SMInfo, and each manager begins a writing only if all that it knows is from
 -- one sweep with every answer
 abbrev pub AllSweepWhole : List MastersEvent → Masters → Type 0
-AllSweepWhole [] t = Unit {0}
-AllSweepWhole (event ∷ events) t = SweepsWhole t event × AllSweepWhole events (after_masters_event t event)
+AllSweepWhole = AllAlong SweepsWhole
 
 -- if managers share LIDs, other senders set only SMInfo, and each manager writes only what it learned from one sweep
 -- with every answer, no port gets another LID
@@ -128,9 +127,7 @@ WritesNothing which t (At other event) =
 
 -- none of the events begins a writing of the manager at index `which`
 abbrev pub WriteNothing : ℕ → List MastersEvent → Masters → Type 0
-WriteNothing which [] t = Unit {0}
-WriteNothing which (event ∷ events) t =
-    WritesNothing which t event × WriteNothing which events (after_masters_event t event)
+WriteNothing which = AllAlong (WritesNothing which)
 
 -- the manager at index `which` begins a writing after the events `before`, and no other one in the events `after`. In
 -- the end its plan counts as written

@@ -1,6 +1,6 @@
 -- A manager takes over a subnet that holds a plan: if the manager sweeps while no LID changes, its plan is the plan
 -- that the subnet holds.
-use Rattle.std.specs.Prelude.{◌≡◌, ◌≤◌, ℕ, true, List, [], ◌∷◌, Some}
+use Rattle.std.specs.Prelude.{◌≡◌, ◌≤◌, true, List, [], ◌∷◌}
 use Rattle.fabric_model.specs.Fabric.{Fabric}
 use Rattle.fabric_model.specs.FabricWalks.{IsJoinedTo}
 use Rattle.fact_store.specs.View.{Facts, cells_of}
@@ -9,27 +9,21 @@ use Rattle.subnet_view.specs.FabricAgreement.{AgreesOn}
 use Rattle.lid_assign.specs.Lids.{IsNoRoom}
 use Rattle.lft_blocks.specs.Plan.{PlanValue, plan_of}
 use Rattle.lft_blocks.specs.InForce.{HoldsPlan}
-use Rattle.sweep.specs.Sweep.{Sweep}
-use Rattle.sm_manager.specs.Manager.{new_manager}
 use Rattle.lft_blocks.specs.Planning.{Planning}
-use Rattle.sm_state.specs.declared.conduct.Conduct.{Conduct}
 use Rattle.sm_manager.specs.Writing.{is_written}
 use Rattle.manager_laws.specs.Pings.{EachPingArrives}
-use Rattle.manager_laws.specs.Complete.{IsWhole}
 use Rattle.fabric_model.specs.declared.cable.NodePort.{NodePort}
 use Rattle.fabric_sim.specs.Simulation.{Simulation}
 use Rattle.lft_blocks.specs.Rule.{RuleValue}
 use Rattle.manager_laws.specs.Sets.{KeepsPlan, OwnSets}
-use Rattle.manager_laws.specs.Managing.{Managing, ManagerEvent, Around, Begin, after_manager_event, after_manager_events}
-use Rattle.manager_laws.specs.WritingPings.{AreNoSweeps}
-use Rattle.manager_laws.specs.Written.{IsWritingRun, at_writing, at_first_steps, at_end, plan_at}
+use Rattle.manager_laws.specs.Managing.{Managing, ManagerEvent, AllAlong, Around, Begin, after_manager_event, after_manager_events}
+use Rattle.manager_laws.specs.WritingPings.{NewManagersRun, WritesWholeSweep}
+use Rattle.manager_laws.specs.Written.{at_writing, at_first_steps, at_end, plan_at}
 use Rattle.manager_laws.specs.Claims.{HasLidsOf}
 
 -- after each of `events`, each port has the LID that it has in the fabric `f`
 abbrev pub LidsStayAround : Fabric → List ManagerEvent → Managing → Type 0
-LidsStayAround f [] w = Unit {0}
-LidsStayAround f (event ∷ events) w =
-    HasLidsOf f (after_manager_event w event).scene × LidsStayAround f events (after_manager_event w event)
+LidsStayAround f = AllAlong (λ w event. HasLidsOf f (after_manager_event w event).scene)
 
 -- the rule and the LMC by which the manager plans when its writing begins
 abbrev pub planning_at : Managing → List ManagerEvent → List ManagerEvent → Planning
@@ -39,18 +33,10 @@ planning_at w before between = (at_writing w before between).manager.planning
 abbrev pub plan_by_it : Planning → Facts → PlanValue
 plan_by_it planning facts = plan_of planning.rule planning.lmc (cells_of facts)
 
--- a manager without facts sweeps, and the sweep has every answer. Until the writing the manager learns only from this
--- sweep; then it begins to write the plan of its facts. Until the writing no port gets another LID
+-- a manager writes the plan of one sweep with every answer (`WritesWholeSweep`). Until the writing no port gets another
+-- LID
 pub record SweepsAlone (w : Managing) (before between after : List ManagerEvent) : Type 0 where
-  -- no packet is on its way at the start; a sweep begins, and later a writing
-  pub run : IsWritingRun w before between after
-  -- the manager holds no facts when the sweep begins, and until the writing it learns only from this sweep
-  pub knew_nothing : cells_of (after_manager_events before w).manager.store ≡ []
-  pub alone : AreNoSweeps between (after_manager_event (after_manager_events before w) Begin)
-  -- the sweep has every answer, and nothing was out of its reach
-  pub sweep : Sweep
-  pub is_last : (at_writing w before between).manager.sweep ≡ Some sweep
-  pub whole : IsWhole sweep
+  pub planned : WritesWholeSweep w before between after
   -- until the writing no port gets another LID
   pub lids_before : LidsStayAround (fabric_of w.scene.fabric) before w
   pub lids_between : LidsStayAround (fabric_of w.scene.fabric) between
@@ -97,8 +83,7 @@ Carrying plan w event = Unit {0}
 
 -- each Set that an agent takes in the course of `events`, from `w` on, carries the plan's values
 abbrev pub AllCarry : PlanValue → List ManagerEvent → Managing → Type 0
-AllCarry plan [] w = Unit {0}
-AllCarry plan (event ∷ events) w = Carrying plan w event × AllCarry plan events (after_manager_event w event)
+AllCarry plan = AllAlong (Carrying plan)
 
 -- the part that is joined to `seat` holds the plan of `facts`, and each ping there, for each LID of the plan, arrives
 pub record IsInUse (rule : RuleValue) (facts : Facts) (plan : PlanValue) (s : Simulation) (seat : NodePort) : Type 0
@@ -141,16 +126,7 @@ PingsArriveThroughout =
 -- an example: a new manager takes over a subnet. Each Set until its writing carries the values of the held plan, and
 -- another manager is there that does not answer
 pub record SomeManagerTakesOver : Type 0 where
-  pub managing : Managing
-  pub port_guid : ℕ
-  pub port : ℕ
-  pub priority : ℕ
-  pub conduct : Conduct
-  pub planning : Planning
-  pub new : managing.manager ≡ new_manager port_guid port priority conduct planning
+  pub run : NewManagersRun
   pub held : Facts
-  pub before : List ManagerEvent
-  pub between : List ManagerEvent
-  pub after : List ManagerEvent
-  pub takes : TakesOverQuietly held managing before between after
-  pub silent : 1 ≤ takes.takes.sweeps.sweep.silent_managers
+  pub takes : TakesOverQuietly held run.managing run.before run.between run.after
+  pub silent : 1 ≤ takes.takes.sweeps.planned.sweep.silent_managers

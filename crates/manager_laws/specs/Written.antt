@@ -17,7 +17,7 @@ use Rattle.sm_manager.specs.Manager.{begin_fault, new_manager}
 use Rattle.sm_manager.specs.PlanFaults.{writing_fault}
 use Rattle.sm_manager.specs.Writing.{is_written, phases_by}
 use Rattle.manager_laws.specs.Truth.{HasNode}
-use Rattle.manager_laws.specs.Managing.{Managing, ManagerEvent, Around, Begin, Write, CanBe, Starts}
+use Rattle.manager_laws.specs.Managing.{Managing, ManagerEvent, AllAlong, Around, Begin, Write, CanBe, Starts}
 use Rattle.manager_laws.specs.Managing.{after_manager_event, after_manager_events}
 use Rattle.manager_laws.specs.Sets.{IsOwnSet, OwnSets, KeepsPlan}
 
@@ -69,8 +69,7 @@ Keeps plan own w event = BeginsNoWriting w event
 -- none of the events begins a writing, and each Set that an agent takes by them is one of the writing's own or carries
 -- the plan's values
 abbrev pub AllKeep : PlanValue → OwnSets → List ManagerEvent → Managing → Type 0
-AllKeep plan own [] w = Unit {0}
-AllKeep plan own (event ∷ events) w = Keeps plan own w event × AllKeep plan own events (after_manager_event w event)
+AllKeep plan own = AllAlong (Keeps plan own)
 
 -- the `Managing` when the writing begins: after the events `before`, the beginning of a sweep, and the events
 -- `between`

@@ -1,8 +1,12 @@
 pub mod Answered
 pub mod Counted
 pub mod FirstPlans
+pub mod GoodLines
 pub mod Healing
 pub mod HealingAtSeat
+pub mod HealingExample
+pub mod LoneAdapter
+pub mod LoneSweeps
 pub mod Notes
 pub mod Running
 pub mod Settling

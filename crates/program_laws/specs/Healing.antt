@@ -84,3 +84,13 @@ HealsInTime =
     (n : ℕ) (a : Acting) (lines : List Line) (r : IsUndisturbed n a lines) (late : ℕ) → ArePrompt late lines a
     → a.time + 2 * longest_wait r.decided.timing + (6 * (n + 3)) * longest_turn late a.window.limits < (after_lines lines a).time
     → Heals lines a
+
+-- an example: a manager for which all goes well for so long, with no line late
+pub record SomeManagerHeals : Type 0 where
+  pub bound : ℕ
+  pub acting : Acting
+  pub lines : List Line
+  pub undisturbed : IsUndisturbed bound acting lines
+  pub prompt : ArePrompt 0 lines acting
+  pub long : acting.time + 2 * longest_wait undisturbed.decided.timing + (6 * (bound + 3)) * longest_turn 0 acting.window.limits
+      < (after_lines lines acting).time

@@ -150,29 +150,33 @@ module _ (nodes : List Node) (w : WorldValue) (s : SeatedValue) (between after :
   brings : BringsUp start [] swept.events wrote.events
   brings =
       record {
-        run = record {
-          starts = record {
-            quiet = record { fabric = b.fabric; flights = b.no_packets; handed = refl };
-            distinct = b.distinct;
-            seat = b.seat;
-            port = refl;
-            lmc = b.few;
-            at_rest = new_managers_rest b.port_guid s.at.port b.priority b.conduct b.planning;
-            out = refl;
+        planned = record {
+          writes = record {
+            run = record {
+              starts = record {
+                quiet = record { fabric = b.fabric; flights = b.no_packets; handed = refl };
+                distinct = b.distinct;
+                seat = b.seat;
+                port = refl;
+                lmc = b.few;
+                at_rest = new_managers_rest b.port_guid s.at.port b.priority b.conduct b.planning;
+                out = refl;
+              };
+              before_can = All-nil (CanBe s.at);
+              between_can = swept.can;
+              after_can = subst (λ seat. All (CanBe seat) wrote.events) swept.seat wrote.can;
+              sweeps_first = tt;
+              sweep_begins = begun;
+              writing_begins = begins;
+              keep = keeps;
+            };
+            knew_nothing = nothing_found;
+            alone = swept.no_sweeps;
           };
-          before_can = All-nil (CanBe s.at);
-          between_can = swept.can;
-          after_can = subst (λ seat. All (CanBe seat) wrote.events) swept.seat wrote.can;
-          sweeps_first = tt;
-          sweep_begins = begun;
-          writing_begins = begins;
-          keep = keeps;
+          sweep = b.sweep;
+          is_last = ap (λ (x : Manager). x.sweep) swept_is ∙ b.is_last;
+          whole = b.whole;
         };
-        knew_nothing = nothing_found;
-        alone = swept.no_sweeps;
-        sweep = b.sweep;
-        is_last = ap (λ (x : Manager). x.sweep) swept_is ∙ b.is_last;
-        whole = b.whole;
         written = ap is_written writer_is ∙ (written_lines_tell (at_end nodes w between after) 0 (record s { manager = b.writer }) seated_then).0 b.written;
       }
 

@@ -7,7 +7,7 @@ use Rattle.fact_store.specs.View.{Facts}
 use Rattle.lft_blocks.specs.Planning.{Planning}
 use Rattle.manager_laws.specs.Scene.{Event, Send as SendFrom}
 use Rattle.manager_laws.specs.Managing as one
-use Rattle.manager_laws.specs.Managing.{Managing, ManagerEvent, after_manager_event, after_manager_events}
+use Rattle.manager_laws.specs.Managing.{Managing, ManagerEvent, AllAlong, after_manager_event, after_manager_events}
 use Rattle.manager_laws.specs.Takeover.{plan_by_it}
 use Rattle.manager_laws.specs.Masters.{AllCanBe, Around, At, CanBe, IsAt, Masters, MastersEvent, Seated, acting, after_masters_event, after_masters_events}
 use Rattle.manager_laws.specs.Masters.{seated_after, seen_by}
@@ -47,11 +47,6 @@ own_step t which m e there =
       is = sym (view_after t.scene m e) ∙ ap (λ (x : Masters). seen_by x.scene (seated_after m e w)) (sym acted);
     }
 
--- along a run of one manager
-abbrev pub Along : (Managing → ManagerEvent → Type 0) → List ManagerEvent → Managing → Type 0
-Along Ok [] w = Unit {0}
-Along Ok (e ∷ events) w = Ok w e × Along Ok events (after_manager_event w e)
-
 pub record Segment (Ok : Managing → ManagerEvent → Type 0) (t after : Masters) (which : ℕ) (m : Seated) : Type 0 where
   pub events : List ManagerEvent
   pub can_be : All (one.CanBe m.seat) events
@@ -59,7 +54,7 @@ pub record Segment (Ok : Managing → ManagerEvent → Type 0) (t after : Master
   pub there : IsAt after which later
   pub seat : later.seat ≡ m.seat
   pub is : after_manager_events events (seen_by t.scene m) ≡ seen_by after.scene later
-  pub along : Along Ok events (seen_by t.scene m)
+  pub along : AllAlong Ok events (seen_by t.scene m)
 
 module _ (facts : Facts) (planning : Planning) (t0 : Masters) (h : ShareLids facts planning t0) where
   pub one_step : (t : Masters) (event : MastersEvent) → AllStand facts planning t0 h t → CanBe t event → (which : ℕ) (m : Seated) → IsAt t which m
@@ -130,7 +125,7 @@ module _ (facts : Facts) (planning : Planning) (t0 : Masters) (h : ShareLids fac
             there = rest.there;
             seat = rest.seat ∙ s.seat;
             is = ap (after_manager_events rest.events) (sym same) ∙ rest.is;
-            along = subst (Along Ok rest.events) same rest.along;
+            along = subst (AllAlong Ok rest.events) same rest.along;
           }
           | inr (e, can_e, is, kind) ↦ record {
             events = e ∷ rest.events;
@@ -139,6 +134,6 @@ module _ (facts : Facts) (planning : Planning) (t0 : Masters) (h : ShareLids fac
             there = rest.there;
             seat = rest.seat ∙ s.seat;
             is = ap (after_manager_events rest.events) is ∙ rest.is;
-            along = (fine t event all both.0 m there e kind, subst (Along Ok rest.events) (sym is) rest.along);
+            along = (fine t event all both.0 m there e kind, subst (AllAlong Ok rest.events) (sym is) rest.along);
           }
         ]

@@ -31,7 +31,7 @@ use Rattle.manager_laws.proofs.Arrive.{holds_it}
 use Rattle.manager_laws.proofs.WritingTaken.{nodes_stay}
 use Rattle.manager_laws.specs.Takeover.{no_sets, plan_by_it}
 use Rattle.manager_laws.proofs.takeover.Seeing.{is_end}
-use Rattle.manager_laws.specs.Masters.{AllCanBe, Around, At, CanBe, IsAt, IsWholeSweep, Masters, MastersEvent, Seated, after_masters_event}
+use Rattle.manager_laws.specs.Masters.{AllAlong, AllCanBe, Around, At, CanBe, IsAt, IsWholeSweep, Masters, MastersEvent, Seated, after_masters_event}
 use Rattle.manager_laws.specs.Masters.{after_masters_events, seen_by}
 use Rattle.manager_laws.specs.StaysInForce.{AllHold, AllSweepWhole, HasWritten, ShareLids, SweepsWhole, WriteNothing, WrittenByOneIsHeld, WritesNothing}
 use Rattle.manager_laws.specs.Known.{LearnNothingElse, LearnsNothingElse, LearntFromOne}
@@ -40,7 +40,7 @@ use Rattle.manager_laws.proofs.masters.Side.{swept_if}
 use Rattle.manager_laws.proofs.masters.Deliveries.{taken_carries}
 use Rattle.manager_laws.proofs.masters.Known.{after_both, knows_one_sweep_means}
 use Rattle.manager_laws.proofs.masters.Runs.{all_run, first_run}
-use Rattle.manager_laws.proofs.masters.Segments.{Along, IsAround, OwnStep, Segment, own_step, segment}
+use Rattle.manager_laws.proofs.masters.Segments.{IsAround, OwnStep, Segment, own_step, segment}
 use Rattle.manager_laws.proofs.masters.Together.{AllStand, IsSeat, after_all, cables, can, counts, ends, first_stand, known, is_seat, next, plans_the_same}
 
 -- of all managers from that of one ------------------------------------------------------------------------------------
@@ -68,10 +68,6 @@ module _ (f : Fabric) (plan : PlanValue) (cells : Cells) (part other : Part) (di
 
 -- runs of one manager --------------------------------------------------------------------------------------------------
 
-no_sweeps_along : (events : List ManagerEvent) (w : Managing) → Along BeginsNoSweep events w → AreNoSweeps events w
-no_sweeps_along [] w along = tt
-no_sweeps_along (e ∷ events) w along = (along.0, no_sweeps_along events (after_manager_event w e) along.1)
-
 -- where each Set carries the plan's values, it does so beside any own ones
 keeps_any : (plan : PlanValue) (own : OwnSets) (w : Managing) (e : ManagerEvent) → Keeps plan no_sets w e → Keeps plan own w e
 keeps_any plan own w (one.Around (Deliver n)) keeps = λ at a packet takes. elim (keeps at a packet takes) [ inl none ↦ absurd none | inr it ↦ inr it ]
@@ -81,7 +77,7 @@ keeps_any plan own w (one.Around (SendFrom seat sending)) keeps = tt
 keeps_any plan own w (one.Around (Emit at sending)) keeps = tt
 keeps_any plan own w event keeps = keeps
 
-all_keep_along : (plan : PlanValue) (own : OwnSets) (events : List ManagerEvent) (w : Managing) → Along (Keeps plan no_sets) events w
+all_keep_along : (plan : PlanValue) (own : OwnSets) (events : List ManagerEvent) (w : Managing) → one.AllAlong (Keeps plan no_sets) events w
     → AllKeep plan own events w
 all_keep_along plan own [] w along = tt
 all_keep_along plan own (e ∷ events) w along =
@@ -95,13 +91,10 @@ keeps_own plan w event quiet around = quiet
 
 -- events of several managers, one after the other ------------------------------------------------------------------------
 
-can_parts : (es fs : List MastersEvent) (t : Masters) → AllCanBe (es ++ fs) t → AllCanBe es t × AllCanBe fs (after_masters_events es t)
-can_parts [] fs t all = (tt, all)
-can_parts (e ∷ es) fs t all = let rest = can_parts es fs (after_masters_event t e) all.1 in ((all.0, rest.0), rest.1)
-
-whole_parts : (es fs : List MastersEvent) (t : Masters) → AllSweepWhole (es ++ fs) t → AllSweepWhole es t × AllSweepWhole fs (after_masters_events es t)
-whole_parts [] fs t all = (tt, all)
-whole_parts (e ∷ es) fs t all = let rest = whole_parts es fs (after_masters_event t e) all.1 in ((all.0, rest.0), rest.1)
+parts : (is_so : Masters → MastersEvent → Type 0) (es fs : List MastersEvent) (t : Masters) → AllAlong is_so (es ++ fs) t
+    → AllAlong is_so es t × AllAlong is_so fs (after_masters_events es t)
+parts is_so [] fs t all = (tt, all)
+parts is_so (e ∷ es) fs t all = let rest = parts is_so es fs (after_masters_event t e) all.1 in ((all.0, rest.0), rest.1)
 
 module _ (facts : Facts) (planning : Planning) (t0 : Masters) (h : ShareLids facts planning t0) where
   -- no writing begins before a sweep
@@ -278,9 +271,18 @@ module _ (facts : Facts) (planning : Planning) (t0 : Masters) (h : ShareLids fac
           subst (λ p. HoldsPlan (IsJoinedTo (fabric_of t5.scene.fabric) m0.seat) p (fabric_of t5.scene.fabric)) plan_is
           (subst (λ (w : Managing). HoldsPlan (IsJoinedTo (fabric_of w.scene.fabric) m0.seat) (plan_at (at_writing w0 s1.events s2.events))
           (fabric_of w.scene.fabric)) e5
-          (holds_it w0 s1.events s2.events s3.events run (subst (λ (w : Managing). cells_of w.manager.store ≡ []) (sym e1) x.nothing)
-          (subst (AreNoSweeps s2.events) (sym e2) (no_sweeps_along s2.events (seen_by t2.scene o2.next) s2.along)) s
-          (ap (λ (w : Managing). w.manager.sweep) e3 ∙ is) whole (subst (λ (w : Managing). is_written w.manager ≡ true) (sym e5) x.written)))
+          (holds_it w0 s1.events s2.events s3.events
+          (record {
+            writes = record {
+              run = run;
+              knew_nothing = subst (λ (w : Managing). cells_of w.manager.store ≡ []) (sym e1) x.nothing;
+              alone = subst (AreNoSweeps s2.events) (sym e2) s2.along;
+            };
+            sweep = s;
+            is_last = ap (λ (w : Managing). w.manager.sweep) e3 ∙ is;
+            whole = whole;
+          })
+          (subst (λ (w : Managing). is_written w.manager ≡ true) (sym e5) x.written)))
 
       pub all_hold : AllHold facts planning t5
       all_hold k n there =
@@ -307,10 +309,10 @@ module _ (facts : Facts) (planning : Planning) (t : Masters) (h : ShareLids fact
   by_sweep some l can_be whole hw =
       let b = l.swept in
       let es = b.before ++ At which one.Begin ∷ b.between in
-      let can_es = can_parts es (At which one.Write ∷ after) t can_be in
-      let whole_es = whole_parts es (At which one.Write ∷ after) t whole in
-      let can_b = can_parts b.before (At which one.Begin ∷ b.between) t can_es.0 in
-      let whole_b = whole_parts b.before (At which one.Begin ∷ b.between) t whole_es.0 in
+      let can_es = parts CanBe es (At which one.Write ∷ after) t can_be in
+      let whole_es = parts SweepsWhole es (At which one.Write ∷ after) t whole in
+      let can_b = parts CanBe b.before (At which one.Begin ∷ b.between) t can_es.0 in
+      let whole_b = parts SweepsWhole b.before (At which one.Begin ∷ b.between) t whole_es.0 in
       let q = after_both b.before (At which one.Begin ∷ b.between) t in
       let end = after_both es (At which one.Write ∷ after) t ∙ ap (λ x. after_masters_events after (after_masters_event x (At which one.Write))) q in
       subst (AllHold facts planning) (sym end)
@@ -345,8 +347,8 @@ module _ (facts : Facts) (planning : Planning) (t : Masters) (h : ShareLids fact
 
 pub written_by_one_is_held : WrittenByOneIsHeld
 written_by_one_is_held facts planning t before after which h can_be whole hw =
-    let can_es = can_parts before (At which one.Write ∷ after) t can_be in
-    let whole_es = whole_parts before (At which one.Write ∷ after) t whole in
+    let can_es = parts CanBe before (At which one.Write ∷ after) t can_be in
+    let whole_es = parts SweepsWhole before (At which one.Write ∷ after) t whole in
     let (m0, at_first, seat) = (ends facts planning t h before can_es.0 whole_es.0).seats.was which hw.writer hw.there in
     let knows = (whole_es.1.0 hw.writer hw.there hw.begins).0 in
     held_by facts planning t h which m0 at_first after before

@@ -21,7 +21,8 @@ use Rattle.sm_manager.specs.Writing.{after_write_steps, is_written, is_written_b
 use Rattle.sm_manager.proofs.Begun.{may_begin}
 use Rattle.manager_laws.specs.Managing.{CanBe, Managing, ManagerEvent, Around, Begin, Write, Take, Send, Hear, TimeOut, Raise, Merge, Poll, HandOver, Yield, Rediscover}
 use Rattle.manager_laws.specs.Managing.{after_manager_event, after_manager_events, hearing, sending}
-use Rattle.manager_laws.specs.OwnSetsTaken.{AnsweredPlansAreWritten, AreAnswered, GivesUpNone, GiveUpNone, PingsArriveOnceAnswered, WritesItsSweep}
+use Rattle.manager_laws.specs.OwnSetsTaken.{AnsweredPlansAreWritten, AreAnswered, GivesUpNone, GiveUpNone, PingsArriveOnceAnswered}
+use Rattle.manager_laws.specs.WritingPings.{WritesItsSweep}
 use Rattle.manager_laws.specs.Scene.{Handed}
 use Rattle.manager_laws.specs.Written.{AllKeep, Keeps, at_end, at_first_steps, at_writing, own_sets, plan_at}
 use Rattle.manager_laws.proofs.After.{Writes, event_writes}
@@ -168,5 +169,4 @@ answered_plans_are_written w before between after writes answered = by_sweep (at
 
 pub pings_arrive_once_answered : PingsArriveOnceAnswered
 pings_arrive_once_answered w before between after b =
-    arrives w before between after b.writes.run b.writes.knew_nothing b.writes.alone b.sweep b.is_last b.whole
-    (written w before between after b.writes b.sweep b.is_last b.answered)
+    arrives w before between after b.planned (answered_plans_are_written w before between after b.planned.writes b.answered)

@@ -1,15 +1,16 @@
 -- If nothing times out, the Sets of a plan that is written were answered.
-use Rattle.std.proofs.Common.{◌≡◌, Bool, true, false, List, [], ◌∷◌, sym, ap, ◌∙◌}
+use Rattle.std.proofs.Common.{◌≡◌, Bool, true, false, List, sym, ap, ◌∙◌}
 use Rattle.std.proofs.lemmas.Bool.{and_parts, not-true}
 use Rattle.std.specs.Prelude.{Option, Some, None, not, ◌&&◌}
 use Rattle.std.specs.List.{list_all, list_any}
 use Rattle.sm_manager.specs.Manager.{Manager, Writing}
 use Rattle.sm_manager.specs.ManagerRequests.{none_counts}
 use Rattle.sm_manager.specs.Writing.{is_written, is_written_by}
-use Rattle.manager_laws.specs.Managing.{Managing, ManagerEvent, TimeOut, after_manager_event}
+use Rattle.manager_laws.specs.Managing.{Managing, ManagerEvent, TimeOut}
 use Rattle.manager_laws.specs.OwnSetsTaken.{AreCountedOver, GivesUpNone, GiveUpNone, IsAnswered}
 use Rattle.manager_laws.specs.WritingPings.{BringsUp}
 use Rattle.manager_laws.specs.Written.{at_end, at_first_steps}
+use Rattle.manager_laws.proofs.RunParts.{along_tested}
 
 abbrev pub is_in_time : ManagerEvent → Bool
 is_in_time (TimeOut transaction) = false
@@ -20,10 +21,7 @@ gives_up_none w (TimeOut transaction) e = absurd (cc)
 gives_up_none w event e = tt
 
 give_up_none : (events : List ManagerEvent) (w : Managing) → list_all is_in_time events ≡ true → GiveUpNone events w
-give_up_none [] w e = tt
-give_up_none (event ∷ events) w e =
-    let parts = and_parts (is_in_time event) (list_all is_in_time events) e in
-    (gives_up_none w event parts.0, give_up_none events (after_manager_event w event) parts.1)
+give_up_none = along_tested GivesUpNone is_in_time gives_up_none
 
 -- once a plan is written, nothing of it that counts is left
 written_over : (m : Manager) → is_written m ≡ true → AreCountedOver m
@@ -46,10 +44,7 @@ pub answered_in_time : (w : Managing) (before between after : List ManagerEvent)
     → IsAnswered w before between after
 answered_in_time w before between after b in_time =
     record {
-      writes = record { run = b.run; knew_nothing = b.knew_nothing; alone = b.alone };
-      sweep = b.sweep;
-      is_last = b.is_last;
-      whole = b.whole;
+      planned = b.planned;
       answered = record {
         none_given_up = give_up_none after (at_first_steps w before between) in_time;
         over = written_over (at_end w before between after).manager b.written;

@@ -34,7 +34,8 @@ use Rattle.plan_steps.specs.LidSteps.{own_lid}
 use Rattle.plan_steps.specs.Phase.{Phase, phases_of}
 use Rattle.sm_manager.specs.Writing.{phases_by}
 use Rattle.manager_laws.specs.Managing.{Managing, ManagerEvent, Begin, after_manager_event, after_manager_events}
-use Rattle.manager_laws.specs.OwnSetsTaken.{OwnSetsAreTaken, WritesItsSweep}
+use Rattle.manager_laws.specs.OwnSetsTaken.{OwnSetsAreTaken}
+use Rattle.manager_laws.specs.WritingPings.{WritesItsSweep}
 use Rattle.manager_laws.specs.Sets.{IsOwnSet}
 use Rattle.manager_laws.specs.Sweeping.{Sweeping, after_sweep_events}
 use Rattle.manager_laws.specs.Truth.{HasNode}

@@ -1,7 +1,7 @@
 -- While no LID changes, a sweep that has every answer knows the LID of each end port that is joined to its seat.
 use Rattle.std.proofs.Common.{◌≡◌, inl, inr, ℕ, ◌≤◌, Bool, true, false, List, [], ◌∷◌, ◌++◌, refl, sym, ap, ◌∙◌, subst, arith}
 use Rattle.std.proofs.lemmas.Bool.{cond_both}
-use Rattle.std.proofs.lemmas.List.Elements.{All-nil, All-cons, All-head, All-tail, recursion_from_All}
+use Rattle.std.proofs.lemmas.List.Elements.{All-nil, All-cons}
 use Rattle.std.specs.Prelude.{Option, Some, None, All, Contains, MatchBool, MatchOption, ◌==◌}
 use Rattle.std.specs.List.{AllByRecursion}
 use Rattle.fabric_model.specs.declared.cable.NodePort.{NodePort}
@@ -34,7 +34,7 @@ use Rattle.fabric_sim.specs.Simulation.{fabric_of}
 use Rattle.fabric_sim.proofs.SeenFabrics.{simulations_are_fabrics}
 use Rattle.subnet_view.specs.FabricAgreement.{IsEndPortIn}
 use Rattle.fact_store.proofs.Entries.{known_by_cells}
-use Rattle.sweep.specs.Sweep.{Sweep, Asking, started}
+use Rattle.sweep.specs.Sweep.{Sweep, Asking}
 use Rattle.manager_laws.specs.Sweeping.{Sweeping, SweepEvent, CanBe, Begins, after_sweep_events}
 use Rattle.manager_laws.specs.Truth.{HasNode, IsTrueOf, IsTrueSighting, AreGuidsDistinct}
 use Rattle.manager_laws.proofs.Answers.{begun, seat_in_port}
@@ -44,10 +44,10 @@ use Rattle.manager_laws.specs.Complete.{IsWhole, facts_of}
 use Rattle.manager_laws.proofs.Asked.{IsPending}
 use Rattle.manager_laws.proofs.Closed.{was_reached, answered_port, none_pending}
 use Rattle.manager_laws.proofs.Covered.{IsOrigin, Covered}
-use Rattle.manager_laws.proofs.Done.{done_sweeps_are_complete, seat_end}
+use Rattle.manager_laws.proofs.Done.{covers_all, done_sweeps_are_complete, reaches_origin, seat_end, true_told}
 use Rattle.manager_laws.proofs.Known.{HasKey, same_node}
-use Rattle.manager_laws.proofs.Lists.{Has, has_left, has_right, has_either, contained_has, all_contained, all_append, all_first, all_last}
-use Rattle.manager_laws.proofs.Sweeps.{told_in, all_covered}
+use Rattle.manager_laws.proofs.Lists.{Has, has_left, has_right, has_either, contained_has, all_contained, all_first, all_last}
+use Rattle.manager_laws.proofs.Sweeps.{told_in}
 use Rattle.manager_laws.specs.OnePlan.{ClaimsAreTrue}
 use Rattle.manager_laws.proofs.Planned.{end_number}
 use Rattle.manager_laws.proofs.Agreeing.{joined_reached}
@@ -177,17 +177,6 @@ module _ {f : Fabric} {seat : NodePort} (can : CanBeSwept f seat) (is_fabric : I
       by_kind true zero_is ports at e = omega (arith, zero_is)
       by_kind false number ports at e = sym e
 
--- at the beginning there is one request
-covers_first : (f : Fabric) (seat : NodePort) (generation first : ℕ) (keeps : Bool) → Covered f seat (started seat.port generation first keeps) []
-covers_first f seat generation first keeps =
-    record {
-      rising = (omega arith, omega arith);
-      rooted = (tt, tt);
-      vertices = tt;
-      joined = tt;
-      start = inl (inl refl, refl);
-    }
-
 -- the laws -----------------------------------------------------------------------------------------
 
 told_all : (P : Key × Cell Value → Type 0) (told : Sightings) → AllByRecursion P told → All P told
@@ -199,13 +188,6 @@ each_report P [] all = All-nil (λ report. All P (sightings_of report))
 each_report P (report ∷ reports) all =
     All-cons (λ x. All P (sightings_of x)) report reports (told_all P (sightings_of report) (all_first P (sightings_of report) (told_in reports) all))
     (each_report P reports (all_last P (sightings_of report) (told_in reports) all))
-
-all_reports : (P : Key × Cell Value → Type 0) (reports : List Report) → All (λ report. All P (sightings_of report)) reports → AllByRecursion P (told_in reports)
-all_reports P [] all = tt
-all_reports P (report ∷ reports) all =
-    all_append P (sightings_of report) (told_in reports)
-    (recursion_from_All P (sightings_of report) (All-head (λ x. All P (sightings_of x)) report reports all))
-    (all_reports P reports (All-tail (λ x. All P (sightings_of x)) report reports all))
 
 module _ (w : Sweeping) (generation first : ℕ) (begins : Begins w generation first) (events : List SweepEvent) (all : All CanBe events)
     (lids : LidsStay (fabric_of w.scene.fabric) events w) where
@@ -234,20 +216,12 @@ module _ (w : Sweeping) (generation first : ℕ) (begins : Begins w generation f
       let f = fabric_of start in
       let can = can_sweep w generation first begins in
       let (node, there, number) = seat_end w generation first begins in
-      let at_first : Covered f w.seat w.sweep (told_in w.reports) =
-      subst (λ (s : Sweep). Covered f w.seat s (told_in w.reports)) (sym begins.sweep)
-      (subst (λ reports. Covered f w.seat (started w.seat.port generation first begins.keeps) (told_in reports)) (sym begins.reports)
-      (covers_first f w.seat generation first begins.keeps)) in
       let ended = after_sweep_events events w in
-      let few : w.sweep.silent_managers ≤ w.sweep.unanswered =
-      subst (λ (s : Sweep). s.silent_managers ≤ s.unanswered) (sym begins.sweep) (omega arith) in
-      let covered = (all_covered begins.quiet.fabric.cables (few_ports_there w generation first begins) can
-      (cabled_there w generation first begins) events w (goes_first w generation first begins) all
-      (few, λ answered near. at_first)).1 whole.answered whole.near in
+      let covered = covers_all w generation first begins events all whole in
       let none = none_pending ended.sweep whole.done in
       let is_fabric = simulations_are_fabrics start begins.quiet.fabric in
-      let origin : Has (IsOrigin f w.seat) ended.sweep.reached = elim covered.start [ inl k ↦ absurd (none _ k.0) | inr k ↦ k ] in
-      let told = all_reports (IsTrueSighting f) ended.reports (accepted_facts_are_true w generation first events begins all) in
+      let origin = reaches_origin w generation first begins events all whole in
+      let told = true_told f ended.reports (accepted_facts_are_true w generation first events begins all) in
       let asked = port_told can is_fabric node there ended.sweep (told_in ended.reports) covered none origin told port end_node is in
       claim_known f can.distinct (told_in ended.reports) told known_at_last end_node.guid port.port port.node end_node
       (record { there = is.node_there; named = refl }) (claim_told end_node.guid port.port ended.reports asked)

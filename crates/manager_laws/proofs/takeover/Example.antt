@@ -45,6 +45,7 @@ use Rattle.manager_laws.proofs.Computed.{sweep_in}
 use Rattle.manager_laws.proofs.Generations.{nothing_found}
 use Rattle.manager_laws.specs.Written.{AllKeep, IsWritingRun, at_writing, own_sets, plan_at}
 use Rattle.manager_laws.specs.Claims.{HasLidsOf}
+use Rattle.manager_laws.specs.WritingPings.{NewManagersRun}
 use Rattle.manager_laws.specs.Takeover.{AllCarry, Carrying, LidsStayAround, SomeManagerTakesOver, SweepsAlone, TakesOver, plan_by_it}
 use Rattle.manager_laws.proofs.takeover.Takeover.{found_agrees}
 use Rattle.manager_laws.specs.Managing.{CanBe, Starts, after_manager_event, after_manager_events}
@@ -271,12 +272,12 @@ run =
 pub sweeps : SweepsAlone beginning [] between after
 sweeps =
     record {
-      run = run;
-      knew_nothing = nothing_found;
-      alone = no_sweeps between (after_manager_event beginning Begin) refl;
-      sweep = sweep_in swept.manager.sweep;
-      is_last = ap (λ (x : Managing). x.manager.sweep) at_is ∙ sweep_is its_planning replies swept.manager has_swept;
-      whole = has_swept.whole;
+      planned = record {
+        writes = record { run = run; knew_nothing = nothing_found; alone = no_sweeps between (after_manager_event beginning Begin) refl };
+        sweep = sweep_in swept.manager.sweep;
+        is_last = ap (λ (x : Managing). x.manager.sweep) at_is ∙ sweep_is its_planning replies swept.manager has_swept;
+        whole = has_swept.whole;
+      };
       lids_before = tt;
       lids_between = subst (LidsStayAround (fabric_of network) between) (sym sweeps_first) (lids_stay network between sweeping between_lids);
     }
@@ -303,9 +304,9 @@ takes_over =
           (holds_in (IsJoinedTo (fabric_of network) (port 0 1)))));
     }
 
-pub some_manager_takes_over : SomeManagerTakesOver
-unfolding takes_over sweeps
-some_manager_takes_over =
+-- a new manager comes there
+abbrev pub new_run : NewManagersRun
+new_run =
     record {
       managing = beginning;
       port_guid = 17;
@@ -314,10 +315,17 @@ some_manager_takes_over =
       conduct = Plain;
       planning = its_planning;
       new = refl;
-      held = swept.manager.store;
       before = [];
       between = between;
       after = after;
+    }
+
+pub some_manager_takes_over : SomeManagerTakesOver
+unfolding takes_over sweeps
+some_manager_takes_over =
+    record {
+      run = new_run;
+      held = swept.manager.store;
       takes = record {
         takes = takes_over;
         carry_before = tt;

@@ -24,10 +24,9 @@ use Rattle.manager_laws.specs.Managing.{Managing}
 use Rattle.manager_laws.specs.AfterCut.{SomeManagerServesTheRest, TakesRest}
 use Rattle.manager_laws.specs.Takeover.{plan_by_it}
 use Rattle.manager_laws.proofs.Computed.{one}
-use Rattle.manager_laws.proofs.takeover.Example.{after, all_told, at_is, beginning, between, has_swept, its_planning, sweeps}
+use Rattle.manager_laws.proofs.takeover.Example.{after, all_told, at_is, beginning, between, has_swept, new_run, sweeps}
 use Rattle.manager_laws.proofs.ExampleFabric.{port}
 use Rattle.manager_laws.proofs.takeover.ExampleFabric.{at_end_ports, first_agent, last_agent, network, switch_agent}
-use Rattle.sm_state.specs.declared.conduct.Conduct.TheVariants.{Plain}
 
 -- of before the cut: an adapter that has LID 9
 abbrev pub before_cut : Sightings
@@ -85,16 +84,7 @@ takes_rest =
 pub some_manager_serves_the_rest : SomeManagerServesTheRest
 some_manager_serves_the_rest =
     record {
-      managing = beginning;
-      port_guid = 17;
-      port = 1;
-      priority = 0;
-      conduct = Plain;
-      planning = its_planning;
-      new = refl;
+      run = new_run;
       held = view before_cut;
-      before = [];
-      between = between;
-      after = after;
       takes = takes_rest;
     }

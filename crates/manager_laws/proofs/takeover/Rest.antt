@@ -218,7 +218,7 @@ rest_is_served given w before between after t =
     let part : Part = IsJoinedTo f w.seat in
     let agrees = found_agrees w before between after s in
     let claims = found_claims w before between after s in
-    let has_room = (held.may w before between after s.run s.sweep s.is_last).has_room in
+    let has_room = (held.may w before between after s.planned.writes.run s.planned.sweep s.planned.is_last).has_room in
     record {
       lids_stay = λ e there. lid_outlasts lmc given found t.has_room has_room
           (is_rest lmc given found f part t.has_room agrees t.tells t.holds claims) e there;

@@ -1,5 +1,5 @@
 -- A manager that sweeps a subnet which holds a plan, while no LID changes, comes to this plan.
-use Rattle.std.proofs.Common.{◌≡◌, true, List, [], ◌∷◌, refl, sym, ap, ◌∙◌, subst}
+use Rattle.std.proofs.Common.{◌≡◌, true, List, refl, sym, ap, ◌∙◌, subst}
 use Rattle.std.proofs.lemmas.Option.{same_Some}
 use Rattle.fabric_model.specs.Fabric as fabrics
 use Rattle.fabric_model.specs.Fabric.{Fabric}
@@ -16,21 +16,17 @@ use Rattle.manager_laws.specs.Sweeping.{Sweeping, Begins, after_sweep_events}
 use Rattle.manager_laws.proofs.PlannedPings.{pings_arrive}
 use Rattle.manager_laws.specs.Complete.{IsWhole, facts_of}
 use Rattle.manager_laws.proofs.Done.{done_sweeps_are_complete, seat_end}
-use Rattle.manager_laws.specs.Managing.{Managing, ManagerEvent, Begin, after_manager_event, after_manager_events}
+use Rattle.manager_laws.specs.Managing.{Managing, ManagerEvent}
+use Rattle.manager_laws.specs.WritingPings.{PlannedPingsArrive}
 use Rattle.manager_laws.specs.Written.{at_end, at_writing, plan_at}
 use Rattle.manager_laws.proofs.Follows.{holds_all}
 use Rattle.fact_store.specs.View.{Facts}
-use Rattle.manager_laws.proofs.Arrive.{pings_arrive_once_written}
-use Rattle.manager_laws.proofs.OneSweep.{FollowsOne, StaysSo, first_begins, first_of, one_sweep}
+use Rattle.manager_laws.proofs.Arrive.{arrives}
+use Rattle.manager_laws.proofs.OneSweep.{FollowsOne, first_begins, first_of, one_sweep}
 use Rattle.manager_laws.specs.OnePlan.{ClaimsAreTrue}
 use Rattle.manager_laws.specs.Claims.{HasLidsOf}
-use Rattle.manager_laws.specs.Takeover.{LidsStayAround, SweepsAlone, TakeoverChangesNothing, planning_at, plan_by_it}
+use Rattle.manager_laws.specs.Takeover.{SweepsAlone, TakeoverChangesNothing, planning_at, plan_by_it}
 use Rattle.manager_laws.proofs.takeover.Claimed.{swept_claims_are_true, takeovers_change_nothing}
-
--- LIDs that stay are so all the while
-lids_so : (f : Fabric) (events : List ManagerEvent) (w : Managing) → LidsStayAround f events w → StaysSo (HasLidsOf f) events w
-lids_so f [] w lids = tt
-lids_so f (event ∷ events) w lids = (lids.0, lids_so f events (after_manager_event w event) lids.1)
 
 module _ (w : Managing) (before between after : List ManagerEvent) (s : SweepsAlone w before between after) where
   abbrev f : Fabric
@@ -39,21 +35,20 @@ module _ (w : Managing) (before between after : List ManagerEvent) (s : SweepsAl
   -- the sweep that is followed
   one : FollowsOne (HasLidsOf (fabric_of w.scene.fabric)) w.scene w.seat (at_writing w before between)
   one =
-      one_sweep w before between after s.run s.knew_nothing s.alone (HasLidsOf (fabric_of w.scene.fabric)) (λ p. refl)
-      (lids_so (fabric_of w.scene.fabric) before w s.lids_before)
-      (lids_so (fabric_of w.scene.fabric) between (after_manager_event (after_manager_events before w) Begin) s.lids_between)
+      one_sweep w before between after s.planned.writes.run s.planned.writes.knew_nothing s.planned.writes.alone
+      (HasLidsOf (fabric_of w.scene.fabric)) (λ p. refl) s.lids_before s.lids_between
 
   abbrev first : Sweeping
   first = first_of w.scene w.seat one.at one.keeps
 
   begins : Begins first one.at 1
-  begins = first_begins w s.run.starts one.at one.few one.keeps
+  begins = first_begins w s.planned.writes.run.starts one.at one.few one.keeps
 
   abbrev there : Sweeping
   there = after_sweep_events one.events first
 
   whole : IsWhole there.sweep
-  whole = subst IsWhole (same_Some _ _ (sym s.is_last ∙ one.follows.sweep)) s.whole
+  whole = subst IsWhole (same_Some _ _ (sym s.planned.is_last ∙ one.follows.sweep)) s.planned.whole
 
   -- what the manager knows is what the sweep was told
   found : cells_of (at_writing w before between).manager.store ≡ cells_of (facts_of there.reports)
@@ -85,19 +80,8 @@ module _ (w : Managing) (before between after : List ManagerEvent) (s : SweepsAl
 
   -- pings arrive once it has written
   pub arrives_once_written : is_written (at_end w before between after).manager ≡ true
-      → EachPingArrives (planning_at w before between).rule (cells_of (at_writing w before between).manager.store) (plan_at (at_writing w before between))
-      (at_end w before between after).scene.fabric w.seat
-  arrives_once_written written =
-      pings_arrive_once_written w before between after
-      (record {
-        run = s.run;
-        knew_nothing = s.knew_nothing;
-        alone = s.alone;
-        sweep = s.sweep;
-        is_last = s.is_last;
-        whole = s.whole;
-        written = written;
-      })
+      → PlannedPingsArrive (at_writing w before between) (at_end w before between after).scene.fabric w.seat
+  arrives_once_written = arrives w before between after s.planned
 
 pub takeover_changes_nothing : TakeoverChangesNothing
 takeover_changes_nothing facts w before between after t =
@@ -105,7 +89,7 @@ takeover_changes_nothing facts w before between after t =
     let plan_is = same w before between after t.sweeps facts t.has_room t.agrees t.holds in
     record {
       same_plan = plan_is;
-      arrived = pings_arrive planning.rule planning.lmc facts w.scene.fabric w.seat t.has_room t.sweeps.run.starts.quiet.fabric
+      arrived = pings_arrive planning.rule planning.lmc facts w.scene.fabric w.seat t.has_room t.sweeps.planned.writes.run.starts.quiet.fabric
           (seat_is_end w before between after t.sweeps) t.agrees t.holds;
       arrives = λ written. subst
           (λ p. EachPingArrives planning.rule (cells_of (at_writing w before between).manager.store) p (at_end w before between after).scene.fabric w.seat)

@@ -28,6 +28,7 @@ use Rattle.manager_laws.proofs.Alike.{agrees_along, end_port_along}
 use Rattle.manager_laws.specs.Managing.{Managing, ManagerEvent, Around, Begin, Write, Take, Send, Hear, TimeOut, Raise, Merge, Poll, HandOver, Yield, Rediscover}
 use Rattle.manager_laws.specs.Managing.{CanBe, hearing, packet_of, sending, after_manager_event, after_manager_events}
 use Rattle.manager_laws.specs.Sets.{Carries, KeepsPlan, TakesSet}
+use Rattle.manager_laws.specs.WritingPings.{WritesWholeSweep}
 use Rattle.manager_laws.specs.Written.{AllKeep, Keeps, at_first_steps, at_writing, own_sets, plan_at}
 use Rattle.manager_laws.proofs.After.{Writes, event_writes}
 use Rattle.manager_laws.proofs.Before.{by_before, by_swept}
@@ -136,11 +137,14 @@ module _ (start : Simulation) (seat : NodePort) (plan : PlanValue) (listed : Are
         }
 
 module _ (given : Facts) (w : Managing) (before between after : List ManagerEvent) (t : TakesOverQuietly given w before between after) where
+  abbrev planned : WritesWholeSweep w before between after
+  planned = t.takes.sweeps.planned
+
   plan_is : plan_at (at_writing w before between) ≡ plan_by_it (planning_at w before between) given
   plan_is = (takeover_changes_nothing given w before between after t.takes).same_plan
 
   ground : Ground w.scene.fabric w.seat
-  ground = held.ground w before between after t.takes.sweeps.run
+  ground = held.ground w before between after planned.writes.run
 
   listed : AreListed w.scene.fabric (plan_by_it (planning_at w before between) given) (IsJoinedTo (fabric_of w.scene.fabric) w.seat)
   listed = are_listed (planning_at w before between).rule (planning_at w before between).lmc given w.scene.fabric (IsJoinedTo (fabric_of w.scene.fabric) w.seat)
@@ -184,7 +188,7 @@ module _ (given : Facts) (w : Managing) (before between after : List ManagerEven
   abbrev Runs : Managing → Type 0
   Runs x =
       Writes w.scene.fabric w.seat (plan_at (at_writing w before between)) (at_writing w before between).manager.counter
-      (held.phases w before between after t.takes.sweeps.run t.takes.sweeps.sweep t.takes.sweeps.is_last) x
+      (held.phases w before between after planned.writes.run planned.sweep planned.is_last) x
 
   own_carry : (x : Managing) (event : Event) → Continues w.scene.fabric x.scene
       → KeepsPlan (plan_at (at_writing w before between)) (own_sets w (at_writing w before between)) x.scene.fabric event
@@ -193,7 +197,7 @@ module _ (given : Facts) (w : Managing) (before between after : List ManagerEven
   own_carry x event c keep serial e at a packet takes =
       subst (λ p. Carries p a at.port packet) plan_is
       (elim (subst (KeepsPlan (plan_at (at_writing w before between)) (own_sets w (at_writing w before between)) x.scene.fabric) e keep at a packet takes) [
-        | inl own ↦ held.owns w before between after t.takes.sweeps.run t.takes.sweeps.sweep t.takes.sweeps.is_last x.scene.fabric c.fabric.along at a packet
+        | inl own ↦ held.owns w before between after planned.writes.run planned.sweep planned.is_last x.scene.fabric c.fabric.along at a packet
             takes.there own
         | inr it ↦ it
       ])
@@ -226,10 +230,10 @@ module _ (given : Facts) (w : Managing) (before between after : List ManagerEven
         now x.scene g.fair.scene h,
         written_along events (after_manager_event x event) keep.1
             (event_writes w.scene.fabric w.seat (plan_at (at_writing w before between)) (at_writing w before between).manager.counter
-            (held.phases w before between after t.takes.sweeps.run t.takes.sweeps.sweep t.takes.sweeps.is_last)
-            (held.good w before between after t.takes.sweeps.run t.takes.sweeps.sweep t.takes.sweeps.is_last)
-            (held.ground w before between after t.takes.sweeps.run) (own_sets w (at_writing w before between))
-            (held.owns w before between after t.takes.sweeps.run t.takes.sweeps.sweep t.takes.sweeps.is_last) x event keep.0 g can)
+            (held.phases w before between after planned.writes.run planned.sweep planned.is_last)
+            (held.good w before between after planned.writes.run planned.sweep planned.is_last)
+            (held.ground w before between after planned.writes.run) (own_sets w (at_writing w before between))
+            (held.owns w before between after planned.writes.run planned.sweep planned.is_last) x event keep.0 g can)
             (All-tail (CanBe w.seat) event events all) (written_next x event g.fair.scene keep.0 h),
       )
 
@@ -238,17 +242,16 @@ module _ (given : Facts) (w : Managing) (before between after : List ManagerEven
 
   throughout : IsInUseThroughout given w before between after
   throughout =
-      let s = t.takes.sweeps in
       let plan = plan_at (at_writing w before between) in
-      let one = by_before w.scene.fabric w.seat plan ground Along none_along one_along before w s.run.sweeps_first
-      (held.starting w s.run.starts plan) s.run.before_can t.carry_before at_first in
+      let one = by_before w.scene.fabric w.seat plan ground Along none_along one_along before w planned.writes.run.sweeps_first
+      (held.starting w planned.writes.run.starts plan) planned.writes.run.before_can t.carry_before at_first in
       let two = by_swept w.scene.fabric w.seat plan ground Along none_along one_along between (after_manager_event (after_manager_events before w) Begin)
-      (held.swept_first w before between after s.run) s.run.between_can t.carry_between one.1 in
+      (held.swept_first w before between after planned.writes.run) planned.writes.run.between_can t.carry_between one.1 in
       record {
         until_sweep = one.0;
         until_writing = two.0;
-        while_writing = written_along after (at_first_steps w before between) t.takes.sweeps.run.keep
-            (held.begins w before between after t.takes.sweeps.run t.takes.sweeps.sweep t.takes.sweeps.is_last) t.takes.sweeps.run.after_can two.1;
+        while_writing = written_along after (at_first_steps w before between) planned.writes.run.keep
+            (held.begins w before between after planned.writes.run planned.sweep planned.is_last) planned.writes.run.after_can two.1;
       }
 
 pub pings_arrive_throughout : PingsArriveThroughout

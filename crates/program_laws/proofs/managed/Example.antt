@@ -159,7 +159,7 @@ module _ (d : Deciding) where
   heard_so (Some h) e = ap (λ b. if b then printing (worked (told_with (Some h))) else d) e
 
 -- as it is when its policy has decided what is done after its sweep
-abbrev after_sweep : Acting → Acting
+abbrev pub after_sweep : Acting → Acting
 after_sweep a =
     record (noted (Swept (is_whole a.manager)) a) {
       policy = (sweeps.swept a.time (is_whole a.manager) (rival_seen a.manager) a.policy).policy;
@@ -168,11 +168,11 @@ after_sweep a =
 -- its sweep is over, and it judges its plan
 pub record Judges (a : Acting) : Type 0 where
   pub idle : is_idle a.window ≡ true
-  stays : a.is_leaving ≡ false
-  is_sweep : a.policy.activity ≡ Sweeps
-  judges : (sweeps.swept a.time (is_whole a.manager) (rival_seen a.manager) a.policy).act ≡ Judge
+  pub stays : a.is_leaving ≡ false
+  pub is_sweep : a.policy.activity ≡ Sweeps
+  pub judges : (sweeps.swept a.time (is_whole a.manager) (rival_seen a.manager) a.policy).act ≡ Judge
 
-acted_so : (a : Acting) → Judges a → acted_if_idle a ≡ caught_up (judging_of (planned (after_sweep a).manager) (after_sweep a))
+pub acted_so : (a : Acting) → Judges a → acted_if_idle a ≡ caught_up (judging_of (planned (after_sweep a).manager) (after_sweep a))
 acted_so a h =
     ap (λ b. if b then caught_up (acted a) else a) h.idle
     ∙ ap (λ b. caught_up (if b then left_in a.policy.activity a else acted_in a.policy.activity a)) h.stays

@@ -92,22 +92,26 @@ module _ (d : Deciding) (before : List DecidingEvent) (begins : DecidingEvent) (
   brings_up : BringsUp w x.before x.between third
   brings_up =
       record {
-        run = record {
-          starts = b.starts;
-          before_can = All-from_recursion (CanBe w.seat) x.before x.before_can;
-          between_can = All-from_recursion (CanBe w.seat) x.between x.between_can;
-          after_can = All-from_recursion (CanBe w.seat) third third_can;
-          sweeps_first = new_managers_sweep_first b.new.port_guid b.new.port b.new.priority b.new.conduct b.new.planning w x.before
-              (ap (λ (a : Acting). a.manager) b.new.acting);
-          sweep_begins = x.sweep_begins;
-          writing_begins = x.writing_begins;
-          keep = keeps;
+        planned = record {
+          writes = record {
+            run = record {
+              starts = b.starts;
+              before_can = All-from_recursion (CanBe w.seat) x.before x.before_can;
+              between_can = All-from_recursion (CanBe w.seat) x.between x.between_can;
+              after_can = All-from_recursion (CanBe w.seat) third third_can;
+              sweeps_first = new_managers_sweep_first b.new.port_guid b.new.port b.new.priority b.new.conduct b.new.planning w x.before
+                  (ap (λ (a : Acting). a.manager) b.new.acting);
+              sweep_begins = x.sweep_begins;
+              writing_begins = x.writing_begins;
+              keep = keeps;
+            };
+            knew_nothing = x.knew_nothing;
+            alone = x.alone;
+          };
+          sweep = b.sweep;
+          is_last = sym (ap (λ (y : Manager). y.sweep) given) ∙ b.is_last;
+          whole = b.whole;
         };
-        knew_nothing = x.knew_nothing;
-        alone = x.alone;
-        sweep = b.sweep;
-        is_last = sym (ap (λ (y : Manager). y.sweep) given) ∙ b.is_last;
-        whole = b.whole;
         written = ap is_written ends.manager ∙ b.written;
       }
 

@@ -147,29 +147,33 @@ module _ (who : Who) (w : Managing) (before between after : List LiveEvent) (b :
     brings_up : BringsUp w first second third
     brings_up =
         record {
-          run = record {
-            starts = b.starts;
-            before_can = all_can w.seat w before b.before_can;
-            between_can = All-append (CanBe w.seat) (takes_of (given_by at_sweep.manager (Ask ask.Sweep)))
-                (events_of between swept)
-                (takes_can w.seat (given_by at_sweep.manager (Ask ask.Sweep))) (all_can w.seat swept between b.between_can);
-            after_can = All-append (CanBe w.seat) (takes_of (given_by writes.manager (Ask ask.Write)))
-                (events_of after began)
-                (takes_can w.seat (given_by writes.manager (Ask ask.Write))) (all_can w.seat began after b.after_can);
-            sweeps_first = new_managers_sweep_first who.port_guid who.port who.priority who.conduct who.planning w first b.new;
-            sweep_begins = b.sweep_begins;
-            writing_begins = subst (λ (x : Managing). writing_fault x.manager ≡ None) (sym at_writing_so) b.writing_begins;
-            keep = subst (λ (x : Managing). AllKeep (plan_at x) (own_sets w x) third (after_manager_event x managing.Write))
-                (sym at_writing_so) keeps;
+          planned = record {
+            writes = record {
+              run = record {
+                starts = b.starts;
+                before_can = all_can w.seat w before b.before_can;
+                between_can = All-append (CanBe w.seat) (takes_of (given_by at_sweep.manager (Ask ask.Sweep)))
+                    (events_of between swept)
+                    (takes_can w.seat (given_by at_sweep.manager (Ask ask.Sweep))) (all_can w.seat swept between b.between_can);
+                after_can = All-append (CanBe w.seat) (takes_of (given_by writes.manager (Ask ask.Write)))
+                    (events_of after began)
+                    (takes_can w.seat (given_by writes.manager (Ask ask.Write))) (all_can w.seat began after b.after_can);
+                sweeps_first = new_managers_sweep_first who.port_guid who.port who.priority who.conduct who.planning w first b.new;
+                sweep_begins = b.sweep_begins;
+                writing_begins = subst (λ (x : Managing). writing_fault x.manager ≡ None) (sym at_writing_so) b.writing_begins;
+                keep = subst (λ (x : Managing). AllKeep (plan_at x) (own_sets w x) third (after_manager_event x managing.Write))
+                    (sym at_writing_so) keeps;
+              };
+              knew_nothing = b.knew_nothing;
+              alone = alone_behind (takes_of (given_by at_sweep.manager (Ask ask.Sweep))) (events_of between swept)
+                  (after_manager_event at_sweep managing.Begin)
+                  (takes_alone (given_by at_sweep.manager (Ask ask.Sweep)) (after_manager_event at_sweep managing.Begin))
+                  (all_alone swept between b.alone);
+            };
+            sweep = b.sweep;
+            is_last = subst (λ (x : Managing). x.manager.sweep ≡ Some b.sweep) (sym at_writing_so) b.is_last;
+            whole = b.whole;
           };
-          knew_nothing = b.knew_nothing;
-          alone = alone_behind (takes_of (given_by at_sweep.manager (Ask ask.Sweep))) (events_of between swept)
-              (after_manager_event at_sweep managing.Begin)
-              (takes_alone (given_by at_sweep.manager (Ask ask.Sweep)) (after_manager_event at_sweep managing.Begin))
-              (all_alone swept between b.alone);
-          sweep = b.sweep;
-          is_last = subst (λ (x : Managing). x.manager.sweep ≡ Some b.sweep) (sym at_writing_so) b.is_last;
-          whole = b.whole;
           written = subst (λ (x : Managing). is_written x.manager ≡ true) (sym at_end_so) b.written;
         }
 

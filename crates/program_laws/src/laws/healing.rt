@@ -1,6 +1,6 @@
 //! The laws of how soon a manager that decides by itself has its plan written, and of what that means.
 ghost use Rattle.program_laws.specs.FreshWork.{WorksAgainInTime};
-ghost use Rattle.program_laws.specs.Healing.{HealsInTime};
+ghost use Rattle.program_laws.specs.Healing.{HealsInTime, SomeManagerHeals};
 ghost use Rattle.program_laws.specs.HealingAtSeat.{HealsAtSeat};
 ghost use Rattle.program_laws.specs.InTurn.{WorksInTurn};
 ghost use Rattle.program_laws.specs.NextSweep.{SweepsAgainInTime};
@@ -49,6 +49,13 @@ pub fn heals_in_time()
     ensures { HealsInTime }
 {}
 
+/// Some manager decides by itself and meets all premises of `heals_in_time`, with no line late: a new manager on an
+/// adapter with one port and no cable. It is told the time whenever it asks for that, and its adapter's answers at
+/// once: it sweeps, writes its plan, and sweeps again and again.
+pub fn some_manager_heals()
+    ensures { SomeManagerHeals }
+{}
+
 /// While the plan of a strict manager that decides by itself stands, and it writes nothing, each ping from an end port
 /// that its seat is joined to, for each LID of the plan, reaches the end port that owns the LID, if six conditions
 /// hold: at first no packet is on its way, and GUIDs differ; the manager is new then; its shell is faithful; no cable
@@ -59,11 +66,11 @@ pub fn standing_pings_arrive()
 {}
 
 /// A manager that decides by itself, at its seat on a fabric, serves its subnet after at most as long as in
-/// `heals_in_time`, whatever it is about at first: at some moment until then, each ping from an end port that its seat is
-/// joined to, for each LID of the plan of its last writing, reaches the end port that owns the LID, if five conditions
-/// hold: at the very first no packet is on its way, GUIDs differ, and the manager is new; its shell is faithful, and no
-/// cable moves; all goes well for it, as in `heals_in_time`; it was strict when its last writing began; since then each
-/// Set that an agent took is one of the writing's own or carries the plan's values.
+/// `heals_in_time`, whatever it is about at first: at some moment until then, each ping from an end port that its seat
+/// is joined to, for each LID of the plan of its last writing, reaches the end port that owns the LID, if five
+/// conditions hold: at the very first no packet is on its way, GUIDs differ, and the manager is new; its shell is
+/// faithful, and no cable moves; all goes well for it, as in `heals_in_time`; it was strict when its last writing
+/// began; since then each Set that an agent took is one of the writing's own or carries the plan's values.
 pub fn heals_at_seat()
     ensures { HealsAtSeat }
 {}
