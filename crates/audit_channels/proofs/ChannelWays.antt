@@ -17,10 +17,10 @@ use Rattle.audit_channels.proofs.Passing.{IsFound, found}
 -- each follows the one before, and another the last
 abbrev Leads : List (List ℕ) → List ℕ → ℕ → Type 0
 Leads waits [] at = Unit {0}
-Leads waits (c ∷ way) at = GoesOn waits c way at
+Leads waits (c ∷ way) at = GoesOn (Follows waits) c way at
 
-goes_further : (waits : List (List ℕ)) (c at next : ℕ) (way : List ℕ) → GoesOn waits c way at → Follows waits at next
-    → GoesOn waits c (way ++ at ∷ []) next
+goes_further : (waits : List (List ℕ)) (c at next : ℕ) (way : List ℕ) → GoesOn (Follows waits) c way at → Follows waits at next
+    → GoesOn (Follows waits) c (way ++ at ∷ []) next
 goes_further waits c at next [] h f = (h, f)
 goes_further waits c at next (d ∷ way) h f = (h.0, goes_further waits d at next way h.1 f)
 
@@ -33,9 +33,9 @@ leads_later waits at c [] h = tt
 leads_later waits at c (d ∷ way) h = h.1
 
 -- from the index of a channel that comes again on, a cycle
-cycle_at : (waits : List (List ℕ)) (at : ℕ) (way : List ℕ) (k d : ℕ) → Leads waits way at → k < length way → get_or way k d ≡ at → IsCycle waits (drop k way)
+cycle_at : (waits : List (List ℕ)) (at : ℕ) (way : List ℕ) (k d : ℕ) → Leads waits way at → k < length way → get_or way k d ≡ at → IsCycle (Follows waits) (drop k way)
 cycle_at waits at [] k d h less e = absurd (omega arith)
-cycle_at waits at (c ∷ way) zero d h less e = subst (λ (last : ℕ). GoesOn waits c way last) (sym e) h
+cycle_at waits at (c ∷ way) zero d h less e = subst (λ (last : ℕ). GoesOn (Follows waits) c way last) (sym e) h
 cycle_at waits at (c ∷ way) (suc k) d h less e = cycle_at waits at way k d (leads_later waits at c way h) (omega arith) e
 
 -- what is left of a list, from an index on
@@ -66,10 +66,10 @@ at_first waits numbers way first e h =
 
 module _ (waits : List (List ℕ)) (numbers way : List ℕ) (at : ℕ) (given : AreGiven waits numbers) (h : OnWay waits numbers way at) where
   pub cycle_there : (index : ℕ) → list_any (λ c. at == c) way ≡ true → index ≡ unwrap_or (position (λ c. at == c) way) 0
-      → (index ≤ length way) × IsCycle waits (drop index way)
+      → (index ≤ length way) × IsCycle (Follows waits) (drop index way)
   cycle_there index e is =
       elim (position (λ c. at == c) way) as (λ o. position (λ c. at == c) way ≡ o → index ≡ unwrap_or o 0
-      → (index ≤ length way) × IsCycle waits (drop index way)) [
+      → (index ≤ length way) × IsCycle (Follows waits) (drop index way)) [
         | None ↦ λ q k.
             let past : length way ≤ position_or_len (λ c. at == c) way = ltb-false _ _ (no_index _ _ q) in
             let f = found (λ c. at == c) way e in
@@ -82,7 +82,7 @@ module _ (waits : List (List ℕ)) (numbers way : List ℕ) (at : ℕ) (given : 
             let p = position-Some (λ c. at == c) way n at q in
             let less = p.0 in
             let there : at ≡ get_or way n at = eqb-true at (get_or way n at) p.1 in
-            (omega arith, subst (λ (m : ℕ). IsCycle waits (drop m way)) (sym k) (cycle_at waits at way n at h.leads p.0 (sym there)))
+            (omega arith, subst (λ (m : ℕ). IsCycle (Follows waits) (drop m way)) (sym k) (cycle_at waits at way n at h.leads p.0 (sym there)))
       ] refl is
 
   module _ (new : List ℕ) (next : ℕ) (absent : list_any (λ c. at == c) way ≡ false) (new_is : new ≡ way ++ at ∷ [])

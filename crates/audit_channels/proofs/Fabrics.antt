@@ -29,7 +29,8 @@ use Rattle.packet_walks.proofs.FabricParts.{indexed, listed, wire_told, switch_e
 use Rattle.packet_walks.proofs.FarRows.{has, row_at}
 use Rattle.packet_walks.proofs.Told.{IsClosed, switch_goes, joined_closed}
 use Rattle.audit_channels.specs.Fabrics.{IsChannel, ChannelsRise}
-use Rattle.audit_channels.specs.Waiting.{RiseOnWays}
+use Rattle.audit_channels.specs.ChannelOrders.{CanRise}
+use Rattle.audit_channels.specs.Waiting.{WaitsFor}
 
 same_out : (p q : NodePort) → LeavesBy p ≡ LeavesBy q → p ≡ q
 same_out p q e = cc
@@ -174,9 +175,9 @@ module _ (part : Part) (facts : Facts) (held : HeldPlan) (f : Fabric) (seen : Is
             })
       ] refl
 
-  module _ (numbers : List ℕ) (rise : RiseOnWays cells held numbers) (channel next : ℕ) where
+  module _ (rise : CanRise (WaitsFor cells held)) (channel next : ℕ) where
     abbrev Rises : Type 0
-    Rises = slice_index_or numbers channel 0 < slice_index_or numbers next 0
+    Rises = rise.number channel < rise.number next
 
     -- two wires in turn
     in_turn : (st : Standing) (hop later : Hop) → Within st → course f lid st ≡ LeavesBy hop.out → f.across hop.out ≡ Some hop.into
@@ -220,10 +221,10 @@ own_vertex f v is =
     ] refl
 
 pub channels_rise : ChannelsRise
-channels_rise facts held f origin numbers is_end seen rise hops t channel next turn =
+channels_rise facts held f origin is_end seen rise hops t channel next turn =
     let part : Part = IsJoinedTo f origin in
     let within : part (vertex_of f t.source) = subst part (sym (own_vertex f t.source t.is_source.end_port)) t.is_source.in_part in
     let after : turn.nth + 1 ≡ suc turn.nth = omega arith in
     let next_there : slice_get hops (suc turn.nth) ≡ Some turn.later = subst (λ (n : ℕ). slice_get hops n ≡ Some turn.later) after turn.later_is in
-    along part facts held f seen (joined_closed f seen.is_fabric origin) t.lid t.is_lid numbers rise channel next turn.nth hops (sent_from t.source) t.end
+    along part facts held f seen (joined_closed f seen.is_fabric origin) t.lid t.is_lid rise channel next turn.nth hops (sent_from t.source) t.end
     turn.hop turn.later within t.goes turn.hop_is next_there turn.channel_is turn.next_is

@@ -275,7 +275,7 @@ follows_channel (x ∷ waits) zero next h = omega arith
 follows_channel (x ∷ waits) (suc c) next h = let less = follows_channel waits c next h in omega arith
 
 -- if each channel has a number, the numbers rise
-pub all_rise : (waits : List (List ℕ)) (numbers : List ℕ) → AreGiven waits numbers → position (λ n. n == 0) numbers ≡ None → Rise waits numbers
+pub all_rise : (waits : List (List ℕ)) (numbers : List ℕ) → AreGiven waits numbers → position (λ n. n == 0) numbers ≡ None → Rise (Follows waits) (length waits) numbers
 all_rise waits numbers h e = record {
   as_many = h.as_many;
   rises = λ c next f.

@@ -6,7 +6,6 @@ pub mod Given
 pub mod Made
 pub mod Orders
 pub mod Passing
-pub mod Rising
 pub mod Searches
 pub mod Waiting
 pub mod Written

@@ -10,19 +10,19 @@ use Rattle.audit_channels.proofs.Given.{there, none_there, has_none_at, follows_
 
 -- numbers rise along a way from a channel with one
 rise_along : (waits : List (List ℕ)) (numbers : List ℕ) → AreGiven waits numbers → (c last : ℕ) (later : List ℕ) → slice_index_or numbers c 0 ≢ 0
-    → GoesOn waits c later last → slice_index_or numbers c 0 < slice_index_or numbers last 0
+    → GoesOn (Follows waits) c later last → slice_index_or numbers c 0 < slice_index_or numbers last 0
 rise_along waits numbers given c last [] some h = given.rises c last some h
 rise_along waits numbers given c last (next ∷ later) some h =
     let one = given.rises c next some h.0 in
     let more = rise_along waits numbers given next last later (λ z. omega arith) h.1 in omega arith
 
-is_channel : (waits : List (List ℕ)) (c last : ℕ) (later : List ℕ) → GoesOn waits c later last → c < length waits
+is_channel : (waits : List (List ℕ)) (c last : ℕ) (later : List ℕ) → GoesOn (Follows waits) c later last → c < length waits
 is_channel waits c last [] h = follows_channel waits c last h
 is_channel waits c last (next ∷ later) h = follows_channel waits c next h.0
 
 -- on a way to a channel without a number each has none
 none_before : (waits : List (List ℕ)) (numbers : List ℕ) → AreGiven waits numbers → (c last : ℕ) (later : List ℕ) → slice_index_or numbers last 0 ≡ 0
-    → GoesOn waits c later last → has_none numbers c ≡ true
+    → GoesOn (Follows waits) c later last → has_none numbers c ≡ true
 none_before waits numbers given c last later none h =
     let within = is_channel waits c last later h in
     let as_many = given.as_many in
@@ -32,7 +32,7 @@ none_before waits numbers given c last later none h =
     ]
 
 -- each channel of a cycle has none
-pub none_on_cycle : (waits : List (List ℕ)) (numbers : List ℕ) → AreGiven waits numbers → (c : ℕ) (later : List ℕ) → GoesOn waits c later c
+pub none_on_cycle : (waits : List (List ℕ)) (numbers : List ℕ) → AreGiven waits numbers → (c : ℕ) (later : List ℕ) → GoesOn (Follows waits) c later c
     → (c < length waits) × (has_none numbers c ≡ true)
 none_on_cycle waits numbers given c later h =
     let within = is_channel waits c c later h in
@@ -69,7 +69,7 @@ module _ (waits : List (List ℕ)) (numbers : List ℕ) (first least index bound
   before : (i : ℕ) → i < length reached → (at_index reached i).count < bound → i < index
   before i there less = elim (cases_lt i index) [ inl l ↦ l | inr m ↦ let b = past i m there in absurd (omega arith) ]
 
-  no_way : (later : List ℕ) (c n : ℕ) → HasReached reached c n → GoesOn waits c later first → n + length later < bound → ⊥
+  no_way : (later : List ℕ) (c n : ℕ) → HasReached reached c n → GoesOn (Follows waits) c later first → n + length later < bound → ⊥
   no_way [] c n r goes less =
       let within = r.within in
       let done = h.done r.index (before r.index r.there (omega arith)) r.there in
@@ -93,7 +93,7 @@ module _ (waits : List (List ℕ)) (numbers : List ℕ) (first least index bound
       ]
 
 -- the cycle that was found is such
-pub least_is : (waits : List (List ℕ)) (first least : ℕ) (cycle : List ℕ) → IsCycle waits cycle → length cycle ≤ least → NoneBelow waits first (length cycle)
+pub least_is : (waits : List (List ℕ)) (first least : ℕ) (cycle : List ℕ) → IsCycle (Follows waits) cycle → length cycle ≤ least → NoneBelow waits first (length cycle)
     → IsLeast waits first least cycle
 least_is waits first least [] is less none = absurd is
 least_is waits first least (c ∷ later) is less none = (is, omega arith, λ way goes. (let m = none way goes in omega arith))
@@ -304,7 +304,7 @@ past_count waits first count index bound reached marks h least i from less = let
 
 -- from each channel without a number none is shorter, and so none is
 pub none_shorter : (waits : List (List ℕ)) (numbers : List ℕ) (cycle : List ℕ) → AreGiven waits numbers
-    → ((c : ℕ) → c < length waits → has_none numbers c ≡ true → NoneBelow waits c (length cycle)) → NoneShorter waits cycle
+    → ((c : ℕ) → c < length waits → has_none numbers c ≡ true → NoneBelow waits c (length cycle)) → NoneShorter (Follows waits) cycle
 none_shorter waits numbers cycle given all [] is = absurd is
 none_shorter waits numbers cycle given all (c ∷ later) is =
     let on = none_on_cycle waits numbers given c later is in let m = all c on.0 on.1 later is in omega arith

@@ -7,14 +7,14 @@ use Rattle.std.proofs.lemmas.List.{length-replicate}
 use Rattle.std.proofs.lemmas.Option.{same_Some}
 use Rattle.smp_bytes.proofs.Members.{contains_none}
 use Rattle.port_graph.specs.declared.edge.Edge.{Edge}
-use Rattle.audit_channels.specs.ChannelOrders.{Follows}
+use Rattle.audit_channels.specs.ChannelOrders.{AreWaits, Follows}
 use Rattle.audit_channels.specs.Column.{TakesInTurn, IsWithColumn}
 use Rattle.audit_channels.proofs.Columns.{within}
 use Rattle.subnet_view.specs.Reading.{Cells, switches}
 use Rattle.packet_walks.specs.Held.{HeldPlan}
 use Rattle.packet_walks.specs.Edges.{edges_of, greatest_top}
 use Rattle.packet_walks.proofs.Tops.{none_above}
-use Rattle.audit_channels.specs.Waiting.{WaitsFor, AreWaits, IsAdded}
+use Rattle.audit_channels.specs.Waiting.{WaitsFor, IsAdded, channel_count}
 
 -- a product that fits
 pub some_is : (P : Type 0) (o : Option ℕ) (n v : ℕ) → SomeIff o P v → o ≡ Some n → n ≡ v
@@ -118,7 +118,7 @@ same_columns (x ∷ column) (y ∷ other) e h =
 
 -- above the greatest top nothing follows
 pub all : (cells : Cells) (held : HeldPlan) (count : ℕ) (waits : List (List ℕ)) → SoFar count cells held waits
-    → greatest_top cells held ≤ count → AreWaits cells held waits
+    → greatest_top cells held ≤ count → AreWaits (WaitsFor cells held) (channel_count cells) waits
 all cells held count waits h past = record {
   as_many = h.as_many;
   follows = λ a b. ((λ f. there a b ((h.follows a b).0 f)), (λ w. (h.follows a b).1 (back a b w)));

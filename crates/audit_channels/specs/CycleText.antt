@@ -1,5 +1,5 @@
 -- The line of a credit loop.
-use Rattle.std.specs.Prelude.{ℕ, ◌/◌, ◌%◌, List, [], ◌∷◌, ◌++◌, codes, decimal, slice_index}
+use Rattle.std.specs.Prelude.{ℕ, ◌/◌, ◌%◌, List, [], ◌∷◌, ◌++◌, codes, decimal, slice_index_or}
 use Rattle.std.specs.List.{flat_map}
 use Rattle.smp_bytes.specs.Text.{port_text}
 use Rattle.subnet_view.specs.Reading.{Cells, switches}
@@ -8,7 +8,7 @@ use Rattle.audit_channels.specs.declared.cycle_text.ChannelKind.TheVariants.{OnO
 
 -- a space, and the switch and the outgoing port of a channel that has the number `channel` on one lane
 abbrev pub exit_text : Cells → ℕ → List ℕ
-exit_text cells channel = codes " " ++ port_text (slice_index (switches cells) (channel / 256)) (channel % 256)
+exit_text cells channel = codes " " ++ port_text (slice_index_or (switches cells) (channel / 256) 0) (channel % 256)
 
 -- a space, the switch and the outgoing port of `channel` and, by lane, its lane
 abbrev pub channel_text : Cells → ChannelKind → ℕ → List ℕ

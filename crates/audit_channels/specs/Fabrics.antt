@@ -12,7 +12,8 @@ use Rattle.subnet_view.specs.FabricAgreement.{Part, IsEndPortIn}
 use Rattle.packet_walks.specs.Held.{HeldPlan}
 use Rattle.packet_walks.specs.Fabrics.{IsSeenIn}
 use Rattle.packet_walks.specs.Switches.{index_in}
-use Rattle.audit_channels.specs.Waiting.{RiseOnWays}
+use Rattle.audit_channels.specs.ChannelOrders.{CanRise}
+use Rattle.audit_channels.specs.Waiting.{WaitsFor}
 
 -- `hop` goes from one switch to another, and `channel` is 256 times the index of the first switch among the usable
 -- switches, plus the port by which the packet leaves it
@@ -49,12 +50,13 @@ pub record Travels (part : Part) (f : Fabric) (hops : List Hop) : Type 0 where
   pub goes : Goes f lid (sent_from source) hops end
 
 -- suppose the facts describe all that is joined to the end port `origin`, the end ports and switches there hold the
--- tables, and `numbers` rise along the ways of packets according to facts and tables (`RiseOnWays`). Then of two
+-- tables, and numbers rise along the ways of packets according to facts and tables (`CanRise`). Then of two
 -- channels that a packet from an end port there takes in turn, the second has the greater number
 abbrev pub ChannelsRise : Type 0
 ChannelsRise =
-    (facts : Facts) (held : HeldPlan) (f : Fabric) (origin : NodePort) (numbers : List ℕ) → IsEndPort f origin
-    → IsSeenIn (IsJoinedTo f origin) (cells_of facts) held f → RiseOnWays (cells_of facts) held numbers
+    (facts : Facts) (held : HeldPlan) (f : Fabric) (origin : NodePort) → IsEndPort f origin
+    → IsSeenIn (IsJoinedTo f origin) (cells_of facts) held f
+    → (r : CanRise (WaitsFor (cells_of facts) held))
     → (hops : List Hop) → Travels (IsJoinedTo f origin) f hops → (channel next : ℕ)
     → TakeInTurn (cells_of facts) f hops channel next
-    → slice_index_or numbers channel 0 < slice_index_or numbers next 0
+    → r.number channel < r.number next

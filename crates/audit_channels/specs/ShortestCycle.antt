@@ -46,11 +46,11 @@ pub record Grows (old new : List Visited) : Type 0 where
 
 -- no cycle through `first` has fewer than `count` channels
 abbrev pub NoneBelow : List (List ℕ) → ℕ → ℕ → Type 0
-NoneBelow waits first count = (later : List ℕ) → GoesOn waits first later first → count ≤ length later + 1
+NoneBelow waits first count = (later : List ℕ) → GoesOn (Follows waits) first later first → count ≤ length later + 1
 
 -- the given list is a cycle of at most `least` channels, and no cycle through `first` has fewer channels than this
 -- list; or the list is empty, and no cycle through `first` has fewer than `least` channels
 abbrev pub IsLeast : List (List ℕ) → ℕ → ℕ → List ℕ → Type 0
 IsLeast waits first least [] = NoneBelow waits first least
 IsLeast waits first least (c ∷ later) =
-    IsCycle waits (c ∷ later) × (length later + 1 ≤ least) × NoneBelow waits first (length later + 1)
+    IsCycle (Follows waits) (c ∷ later) × (length later + 1 ≤ least) × NoneBelow waits first (length later + 1)

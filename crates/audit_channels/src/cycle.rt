@@ -18,7 +18,7 @@ pub(crate) fn cycle_from(
 ) -> Result<Vec<usize>, AllocError>
     requires given { AreGiven waits.now numbers.now }
     requires first { has_none numbers.now first ≡ true }
-    ensures { IfOk result (λ cycle. IsCycle waits.now cycle.items) }
+    ensures { IfOk result (λ cycle. IsCycle (Follows waits.now) cycle.items) }
 {
     let mut way = Vec::new(alloc);
     let mut at = first;

@@ -1,15 +1,13 @@
 //! The line of a credit loop.
-ghost use Rattle.std.specs.Prelude.{◌≡◌, ◌/◌, slice_index};
 ghost use Rattle.std.specs.List.{flat_map};
 ghost use Rattle.fact_store.specs.View.{cells_of};
-ghost use Rattle.subnet_view.specs.Reading.{switches};
 ghost use Rattle.byte_io.specs.Writes.{Writes};
 ghost use Rattle.byte_io.specs.WritesPart.{WritesPart};
 ghost use Rattle.audit_channels.specs.CycleText.{channel_text, channels_text, cycle_line, exit_text, words_of};
 
 use byte_io::{Sink, WriteFault, write_number, write_port};
 use packet_walks::Network;
-use smp_bytes::{Guid, PortNum};
+use smp_bytes::PortNum;
 
 /// How the channels of a credit loop are numbered.
 #[derive(Clone, Copy, Debug, PartialEq, Eq)]
@@ -106,16 +104,5 @@ fn write_exit<W: Sink>(sink: &mut W, network: &Network, channel: usize) -> Resul
 {
     sink.write(b" ")?;
     let port = PortNum::new((channel % 256) as u8);
-    write_port(sink, switch_of(network, channel), port)
-}
-
-/// Returns the switch of a channel that has the number `channel` on one lane, or GUID 0 if no usable switch has the
-/// index that the number gives.
-fn switch_of(network: &Network, channel: usize) -> Guid
-    ensures { result ≡ slice_index (switches (cells_of network.now.facts)) (channel / 256) }
-{
-    match network.switch(channel / 256) {
-        Some(guid) => guid,
-        None => Guid::new(0),
-    }
+    write_port(sink, network.guid(channel / 256), port)
 }

@@ -3,12 +3,12 @@ ghost use Rattle.audit_channels.specs.Fabrics.{ChannelsRise};
 ghost use Rattle.audit_channels.specs.ChannelOrders.{NoCycleWhereNumbersRise};
 ghost use Rattle.audit_channels.specs.Waiting.{NeverBoth};
 
-/// If channels have numbers that rise from each channel to those that follow it, there is no cycle of channels.
+/// If channels can have numbers that rise from each channel to those that follow it, there is no cycle of channels.
 pub fn no_cycle_where_numbers_rise()
     ensures law { NoCycleWhereNumbersRise }
 {}
 
-/// If the channels have numbers that rise along the routes of packets for all LIDs, according to facts and held
+/// If the channels can have numbers that rise along the routes of packets for all LIDs, according to facts and held
 /// tables, no channels wait for each other in a cycle.
 pub fn never_both()
     ensures law { NeverBoth }

@@ -19,5 +19,5 @@ pub use column::{add_across, add_column, edge_of, is_same_column};
 pub use cycle_text::{ChannelKind, write_channel, write_cycle};
 pub use network_order::channel_order;
 pub use network_waits::channel_waits;
-pub use order::{ChannelOrder, order_channels};
+pub use order::{ChannelOrder, cycle_in, order_channels};
 pub use waits::Waits;

@@ -1,7 +1,8 @@
 ghost use Rattle.std.specs.Prelude.{◌≡◌, ◌<◌, ◌*◌, ◌^◌, IfOk, OnOk, length};
 ghost use Rattle.fact_store.specs.View.{cells_of};
 ghost use Rattle.audit_channels.specs.Column.{IsWithColumn};
-ghost use Rattle.audit_channels.specs.Waiting.{AreWaits, IsAdded};
+ghost use Rattle.audit_channels.specs.ChannelOrders.{AreWaits};
+ghost use Rattle.audit_channels.specs.Waiting.{IsAdded, WaitsFor, channel_count};
 
 use crate::{Waits, add_column, is_same_column};
 use packet_walks::{LidCursor, Network};
@@ -12,7 +13,8 @@ use std::alloc::{AllocError, Global};
 /// Returns, for each channel, the channels that packets take next under the tables of `network`, whether or not an
 /// end port holds their LIDs. Channels are numbered as in `channel_order`.
 pub fn channel_waits(alloc: Global, network: &Network) -> Result<Waits, AllocError>
-    ensures { IfOk result (λ waits. AreWaits (cells_of network.now.facts) network.now.held waits) }
+    ensures { IfOk result (λ waits. AreWaits (WaitsFor (cells_of network.now.facts) network.now.held)
+        (channel_count (cells_of network.now.facts)) waits) }
 {
     let count = network.switch_count().checked_mul(256).ok_or(AllocError)?;
     let mut waits = Waits::new(alloc, count)?;

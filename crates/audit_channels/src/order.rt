@@ -1,5 +1,5 @@
-ghost use Rattle.std.specs.Prelude.{IfOk};
-ghost use Rattle.audit_channels.specs.ChannelOrders.{IsOrder, IsShortest};
+ghost use Rattle.std.specs.Prelude.{◌≡◌, IfOk, length};
+ghost use Rattle.audit_channels.specs.ChannelOrders.{Follows, IsOrder, IsShortest, cycle_in};
 
 use crate::cycle::cycle_from;
 use crate::numbers::{first_without, numbers};
@@ -20,8 +20,8 @@ pub enum ChannelOrder {
 /// Returns numbers of the channels that rise from each channel to those that follow it, or a shortest cycle of
 /// channels if there are no such numbers.
 pub fn order_channels(alloc: Global, waits: &Waits) -> Result<ChannelOrder, AllocError>
-    ensures order { IfOk result (λ found. IsOrder waits.now found) }
-    ensures shortest { IfOk result (λ found. IsShortest waits.now found) }
+    ensures order { IfOk result (λ found. IsOrder (Follows waits.now) (length waits.now) found) }
+    ensures shortest { IfOk result (λ found. IsShortest (Follows waits.now) found) }
 {
     let numbers = numbers(alloc, waits)?;
     match first_without(&numbers) {
@@ -31,5 +31,15 @@ pub fn order_channels(alloc: Global, waits: &Waits) -> Result<ChannelOrder, Allo
             let shortest = shortest_cycle(alloc, waits, &numbers, known)?;
             Ok(ChannelOrder::Cycle(shortest))
         }
+    }
+}
+
+/// Returns the channels of `order` if it is a cycle, otherwise none.
+pub fn cycle_in(alloc: Global, order: ChannelOrder) -> Vec<usize>
+    ensures { result.items ≡ cycle_in order }
+{
+    match order {
+        ChannelOrder::Rises(_) => Vec::new(alloc),
+        ChannelOrder::Cycle(channels) => channels,
     }
 }

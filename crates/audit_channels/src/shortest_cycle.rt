@@ -20,9 +20,9 @@ pub(crate) fn shortest_cycle(
     known: Vec<usize>,
 ) -> Result<Vec<usize>, AllocError>
     requires given { AreGiven waits.now numbers.now }
-    requires known { IsCycle waits.now known.items }
-    ensures cycle { IfOk result (λ cycle. IsCycle waits.now cycle.items) }
-    ensures none_shorter { IfOk result (λ cycle. NoneShorter waits.now cycle.items) }
+    requires known { IsCycle (Follows waits.now) known.items }
+    ensures cycle { IfOk result (λ cycle. IsCycle (Follows waits.now) cycle.items) }
+    ensures none_shorter { IfOk result (λ cycle. NoneShorter (Follows waits.now) cycle.items) }
 {
     let mut shortest = known;
     let mut marks = vec![in alloc; 0; waits.len()]?;
@@ -47,10 +47,10 @@ fn shorter_from(
     requires first { first + 1 < 2 ^ 64 }
     requires many { length marks.old ≡ length waits.now }
     requires marks { (c : ℕ) → slice_index_or marks.old c 0 ≤ first }
-    requires known { IsCycle waits.now known.items }
+    requires known { IsCycle (Follows waits.now) known.items }
     ensures many { OnOk result (length marks.new ≡ length waits.now) }
     ensures marks { OnOk result ((c : ℕ) → slice_index_or marks.new c 0 ≤ first + 1) }
-    ensures cycle { IfOk result (λ cycle. IsCycle waits.now cycle.items) }
+    ensures cycle { IfOk result (λ cycle. IsCycle (Follows waits.now) cycle.items) }
     ensures no_longer { IfOk result (λ cycle. length cycle.items ≤ length known.items) }
     ensures none { IfOk result (λ cycle. has_none numbers.now first ≡ true
         → NoneBelow waits.now first (length cycle.items)) }
@@ -214,7 +214,7 @@ fn way_back(
     requires ways { AreWays waits.now first reached.now }
     requires index { index < length reached.now }
     requires back { Follows waits.now (at_index reached.now index).channel first }
-    ensures cycle { IfOk result (λ way. IsCycle waits.now way.items) }
+    ensures cycle { IfOk result (λ way. IsCycle (Follows waits.now) way.items) }
     ensures count { IfOk result (λ way. length way.items ≡ (at_index reached.now index).count) }
 {
     let mut way = Vec::new(alloc);

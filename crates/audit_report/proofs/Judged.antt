@@ -2,6 +2,7 @@
 use Rattle.std.proofs.Common.{◌≡◌, ◌+◌, ℕ, List, [], ◌∷◌, refl, sym, ap, ◌∙◌, subst, arith, inl, inr, Bool, true, false, cond, length}
 use Rattle.std.specs.Prelude.{Contains, Some, IsTrue, ◌↔◌, ◌==◌, count_by, filter}
 use Rattle.std.proofs.lemmas.Bool.{eqb-true, eq-eqb}
+use Rattle.std.proofs.lemmas.List.{nil_from_length}
 use Rattle.std.proofs.lemmas.List.Sums.{sum_by-cons, count_by-le-length}
 use Rattle.fact_store.specs.View.{cells_of}
 use Rattle.subnet_view.specs.declared.end_port.EndPort.{EndPort}
@@ -20,15 +21,15 @@ use Rattle.held_tables.specs.Tables.{is_owner, is_same_end, lines_of}
 use Rattle.held_tables.proofs.Once.{once_from, once_has}
 use Rattle.packet_walks.proofs.InTime.{end_found, end_is}
 use Rattle.packet_walks.proofs.Judged.{same_ends, same_itself, at_is}
-use Rattle.audit_channels.specs.Waiting.{NoneShorter}
-use Rattle.audit_channels.proofs.Orders.{never_both}
+use Rattle.audit_channels.specs.ChannelOrders.{CanRise, IsCycleIfAny}
+use Rattle.audit_channels.proofs.Orders.{no_cycle_at_all, rise_if_none}
 use Rattle.audit_counts.specs.WayFigures.{WayFigures}
 use Rattle.packet_walks.specs.HopsByTables.{IsBrought}
 use Rattle.audit_counts.specs.declared.sent_packet.SentPacket.{SentPacket}
 use Rattle.audit_counts.specs.declared.packet_tally.PacketTally.{PacketTally}
 use Rattle.audit_counts.specs.declared.unmatched.Unmatched.{Unmatched}
 use Rattle.audit_counts.specs.Packets.{arrives, packet_of, packets_for, packets_of, sent_to}
-use Rattle.audit_report.specs.Passing.{EachArrives, CanRise, IsCycle, IsFound}
+use Rattle.audit_report.specs.Passing.{EachArrives, IsFound}
 use Rattle.audit_counts.specs.Site.{in_one_component}
 
 -- counting all ------------------------------------------------------------------------
@@ -119,20 +120,11 @@ module _ (cells : Cells) (held : HeldPlan) where
       sym (end_found cells held i.line.lid i.source (Some (Taken i.line.port)) (h i.line i.is_held i.source i.there i.is_end i.joined)) in
       ap arrives i.is ∙ ap (is_at i.line.port) end ∙ same_itself i.line.port)
 
-  -- there is no cycle exactly if channels can be numbered
-  no_cycle : (cycle : List ℕ) → IsCycle cells held cycle → CanRise cells held → length cycle ≡ 0
-  no_cycle [] h k = refl
-  no_cycle (channel ∷ later) h k = absurd (never_both cells held k.0 (channel ∷ later) k.1 h)
-
-  can_rise : (cycle : List ℕ) → IsCycle cells held cycle → length cycle ≡ 0 → CanRise cells held
-  can_rise [] h e = h
-  can_rise (channel ∷ later) h e = absurd (omega arith)
-
-pub rise_is : (cells : Cells) (held : HeldPlan) (cycle : List ℕ) (b : Bool) → IsCycle cells held cycle → b ≡ (length cycle == 0)
-    → IsTrue b ↔ CanRise cells held
-rise_is cells held cycle b waits is = (
-  λ t. can_rise cells held cycle waits (eqb-true (length cycle) 0 (sym is ∙ t)),
-  λ rise. is ∙ eq-eqb (length cycle) 0 (no_cycle cells held cycle waits rise),
+-- there is no cycle exactly if channels can be numbered
+pub rise_is : (F : ℕ → ℕ → Type 0) (cycle : List ℕ) (b : Bool) → IsCycleIfAny F cycle → b ≡ (length cycle == 0) → IsTrue b ↔ CanRise F
+rise_is F cycle b waits is = (
+  λ t. rise_if_none F cycle waits (nil_from_length cycle (eqb-true (length cycle) 0 (sym is ∙ t))),
+  λ rise. is ∙ eq-eqb (length cycle) 0 (ap length (no_cycle_at_all F rise cycle waits)),
 )
 
 pub arrive_is : (most : ℕ) (seen : Seen) (tally : PacketTally) (unmatched : Unmatched) (count : ℕ) (ways : WayFigures) (cycle : List ℕ) (b : Bool)
@@ -147,7 +139,3 @@ arrive_is most seen tally unmatched count ways cycle b found is =
           arrive_all cells held (sym counted.arrived ∙ same ∙ counted.sent),
       λ p. is ∙ eq-eqb tally.all.arrived tally.all.sent (counted.arrived ∙ count_all cells held p ∙ sym counted.sent),
     )
-
--- no channels are the fewest
-pub none_is_shorter : (cells : Cells) (held : HeldPlan) (channels : List ℕ) → channels ≡ [] → NoneShorter cells held channels
-none_is_shorter cells held channels e = λ other waiting. omega (arith, ap length e)

@@ -17,7 +17,8 @@ use Rattle.held_tables.specs.Held.{HeldPlan}
 use Rattle.packet_walks.specs.declared.packet_end.End.TheVariants.{Taken}
 use Rattle.packet_walks.specs.Network.{Seen}
 use Rattle.packet_walks.specs.HopsByTables.{IsBrought}
-use Rattle.audit_channels.specs.Waiting.{RiseOnWays, WaitInCycle}
+use Rattle.audit_channels.specs.ChannelOrders.{CanRise, IsCycleIfAny}
+use Rattle.audit_channels.specs.Waiting.{WaitsFor}
 use Rattle.audit_counts.specs.WayFigures.{WayFigures}
 use Rattle.audit_counts.specs.Figures.{figures_of}
 use Rattle.audit_counts.specs.FiguresType.{Figures}
@@ -41,10 +42,6 @@ ArriveAt cells held line = (e : EndPort) → Contains (end_ports cells) line.por
 -- the latter end port
 abbrev pub EachArrives : Cells → HeldPlan → Type 0
 EachArrives cells held = (line : HeldLid) → Contains held.lids line → ArriveAt cells held line
-
--- channels can be numbered so that the numbers rise on ways: along the route of every packet for any LID
-abbrev pub CanRise : Cells → HeldPlan → Type 0
-CanRise cells held = (numbers : List ℕ) × RiseOnWays cells held numbers
 
 -- a line of the held tables gives `e` a LID
 pub record HoldsLid (held : HeldPlan) (e : EndPort) : Type 0 where
@@ -81,7 +78,7 @@ pub record IsWholeFor (cells : Cells) (held : HeldPlan) : Type 0 where
 -- never wait in a credit loop
 pub record IsSound (cells : Cells) (held : HeldPlan) : Type 0 where
   pub arrive : EachArrives cells held
-  pub rise : CanRise cells held
+  pub rise : CanRise (WaitsFor cells held)
 
 -- the tables are whole and sound
 pub record Passes (cells : Cells) (held : HeldPlan) : Type 0 where
@@ -108,12 +105,6 @@ pub record DeliversWithin (bound : Option ℕ) (cells : Cells) (held : HeldPlan)
   pub arrive : EachArrives cells held
   pub within : is_within bound (figures_of (loads_of cells held)) ≡ true
 
--- the channels of a list wait for each other in a credit loop; for an empty list, channels can be numbered so that the
--- numbers rise along the route of every packet
-abbrev pub IsCycle : Cells → HeldPlan → List ℕ → Type 0
-IsCycle cells held [] = CanRise cells held
-IsCycle cells held (channel ∷ later) = WaitInCycle cells held (channel ∷ later)
-
 -- the subject of an audit: the maximum number of lines of each kind, facts and tables, and the credit loop that was
 -- found
 pub record Audited : Type 0 where
@@ -138,4 +129,4 @@ pub record IsFound (most : ℕ) (seen : Seen) (tally : PacketTally) (unmatched :
   pub differ : IsUnmatched most (cells_of seen.facts) seen.held unmatched
   pub count_is : count ≡ disputed (cells_of seen.facts)
   pub told : AreWayFigures (cells_of seen.facts) seen.held ways
-  pub waits : IsCycle (cells_of seen.facts) seen.held cycle
+  pub waits : IsCycleIfAny (WaitsFor (cells_of seen.facts) seen.held) cycle

@@ -1,15 +1,16 @@
 ghost use Rattle.std.specs.Prelude.{◌≡◌, ◌↔◌, IfOk, IsTrue};
 ghost use Rattle.fact_store.specs.View.{cells_of};
-ghost use Rattle.audit_channels.specs.Waiting.{NoneShorter};
+ghost use Rattle.audit_channels.specs.ChannelOrders.{CanRise, IsCycleIfAny, NoneShorter};
+ghost use Rattle.audit_channels.specs.Waiting.{WaitsFor};
 ghost use Rattle.audit_counts.specs.Figures.{figures_of};
 ghost use Rattle.audit_counts.specs.Ways.{AreKnownToArrive, AreWayFigures, loads_of};
 ghost use Rattle.audit_counts.specs.Packets.{packets_of};
 ghost use Rattle.audit_counts.specs.PacketTally.{IsTally};
 ghost use Rattle.audit_counts.specs.Unmatched.{IsUnmatched};
-ghost use Rattle.audit_report.specs.Passing.{CanRise, EachArrives, EachHasTables, EachHoldsLid, EachNodeIsKnown};
-ghost use Rattle.audit_report.specs.Passing.{IsCycle, IsFound, is_within};
+ghost use Rattle.audit_report.specs.Passing.{EachArrives, EachHasTables, EachHoldsLid, EachNodeIsKnown};
+ghost use Rattle.audit_report.specs.Passing.{IsFound, is_within};
 
-use audit_channels::{ChannelOrder, channel_order};
+use audit_channels::{channel_order, cycle_in};
 use audit_counts::{
     Figures, PacketSurvey, PacketTally, Unmatched, WayFigures, disputed, figures_of_ways_known,
     sites, survey,
@@ -77,8 +78,10 @@ impl<'a> Audit<'a> {
         ensures most { IfOk result (λ audit. audit.most ≡ most) }
         ensures facts { IfOk result (λ audit. audit.facts ≡ subnet.now) }
         ensures held { IfOk result (λ audit. audit.held ≡ held.now) }
-        ensures cycle { IfOk result (λ audit. IsCycle (cells_of subnet.now) held.now audit.cycle) }
-        ensures shortest { IfOk result (λ audit. NoneShorter (cells_of subnet.now) held.now audit.cycle) }
+        ensures cycle { IfOk result (λ audit.
+            IsCycleIfAny (WaitsFor (cells_of subnet.now) held.now) audit.cycle) }
+        ensures shortest { IfOk result (λ audit.
+            NoneShorter (WaitsFor (cells_of subnet.now) held.now) audit.cycle) }
     {
         let network = Network::of(alloc, subnet, held)?;
         let findings = findings_of(alloc, most, &network)?;
@@ -123,7 +126,7 @@ impl<'a> Audit<'a> {
     /// Returns whether channels can be numbered so that the numbers rise along the route of every packet. If so, there
     /// is no credit loop. Takes constant time.
     pub fn can_rise(&self) -> bool
-        ensures { IsTrue result ↔ CanRise (cells_of self.now.facts) self.now.held }
+        ensures { IsTrue result ↔ CanRise (WaitsFor (cells_of self.now.facts) self.now.held) }
     {
         self.findings.cycle.is_empty()
     }
@@ -158,7 +161,8 @@ fn is_within(bound: Option<u64>, load: &Option<Figures>) -> bool
 /// Collects what an audit finds in `network`. Keeps the first `most` lines of each kind.
 fn findings_of(alloc: Global, most: usize, network: &Network) -> Result<Findings, Refused>
     ensures found { IfOk result (λ f. IsFound most network.now f.tally f.unmatched f.disputed f.ways f.cycle.items) }
-    ensures shortest { IfOk result (λ f. NoneShorter (cells_of network.now.facts) network.now.held f.cycle.items) }
+    ensures shortest { IfOk result (λ f.
+        NoneShorter (WaitsFor (cells_of network.now.facts) network.now.held) f.cycle.items) }
 {
     let (tally, ways) = packets_and_ways(alloc, most, network)?;
     let (unmatched, cycle) = unmatched_and_cycle(alloc, most, network)?;
@@ -205,8 +209,10 @@ fn unmatched_and_cycle(
     network: &Network,
 ) -> Result<(Unmatched, Vec<usize>), Refused>
     ensures unmatched { IfOk result (λ both. IsUnmatched most (cells_of network.now.facts) network.now.held both.0) }
-    ensures cycle { IfOk result (λ both. IsCycle (cells_of network.now.facts) network.now.held both.1.items) }
-    ensures shortest { IfOk result (λ both. NoneShorter (cells_of network.now.facts) network.now.held both.1.items) }
+    ensures cycle { IfOk result (λ both.
+        IsCycleIfAny (WaitsFor (cells_of network.now.facts) network.now.held) both.1.items) }
+    ensures shortest { IfOk result (λ both.
+        NoneShorter (WaitsFor (cells_of network.now.facts) network.now.held) both.1.items) }
 {
     let unmatched = Unmatched::of(alloc, most, network)?;
     let cycle = cycle_of(alloc, network)?;
@@ -214,13 +220,12 @@ fn unmatched_and_cycle(
 }
 
 /// Returns the channels of a shortest credit loop, or an empty list if there is no credit loop.
-#[tactic(auto, using(crate::proofs::Judged::none_is_shorter))]
 fn cycle_of(alloc: Global, network: &Network) -> Result<Vec<usize>, AllocError>
-    ensures cycle { IfOk result (λ cycle. IsCycle (cells_of network.now.facts) network.now.held cycle.items) }
-    ensures shortest { IfOk result (λ cycle. NoneShorter (cells_of network.now.facts) network.now.held cycle.items) }
+    ensures cycle { IfOk result (λ cycle.
+        IsCycleIfAny (WaitsFor (cells_of network.now.facts) network.now.held) cycle.items) }
+    ensures shortest { IfOk result (λ cycle.
+        NoneShorter (WaitsFor (cells_of network.now.facts) network.now.held) cycle.items) }
 {
-    match channel_order(alloc, network)? {
-        ChannelOrder::Rises(_) => Ok(Vec::new(alloc)),
-        ChannelOrder::Cycle(channels) => Ok(channels),
-    }
+    let order = channel_order(alloc, network)?;
+    Ok(cycle_in(alloc, order))
 }

@@ -4,14 +4,16 @@ use Rattle.std.specs.Prelude.{◌↔◌, IsTrue}
 use Rattle.fact_store.specs.View.{Facts, cells_of}
 use Rattle.held_tables.specs.Held.{HeldPlan}
 use Rattle.audit_counts.specs.FirstFew.{Listed}
-use Rattle.audit_report.specs.Passing.{CanRise}
+use Rattle.audit_channels.specs.ChannelOrders.{CanRise, IsCycleIfAny}
+use Rattle.audit_channels.specs.Waiting.{WaitsFor}
+use Rattle.audit_channels.proofs.Orders.{no_cycle_at_all, rise_if_none}
 use Rattle.lanes_file.specs.Carried.{CarriesAll}
 use Rattle.lanes_file.specs.Lanes.{LanesSaid}
 use Rattle.lane_channels.specs.declared.dropped.Dropped.{Dropped}
 use Rattle.lane_channels.specs.declared.loops_by_lane.LaneOrder.{LaneOrder}
 use Rattle.lane_channels.specs.LaneNetwork.{SeenByLane}
-use Rattle.lane_channels.specs.Waiting.{IsDroppedByLane, IsLaneCycle, IsSomeDrop, RiseByLane}
-use Rattle.lane_channels.proofs.LaneLaws.{all_carried, never_both_by_lane, one_lane_suffices}
+use Rattle.lane_channels.specs.Waiting.{IsDroppedByLane, IsSomeDrop, WaitsByLane}
+use Rattle.lane_channels.proofs.LaneLaws.{all_carried, one_lane_suffices}
 use Rattle.audit_run.specs.declared.lane_findings.LaneFindings.{LaneFindings}
 use Rattle.audit_run.specs.declared.levels_missing.PacketPair.{PacketPair}
 use Rattle.audit_run.specs.declared.flaw.Flaw.{Flaw}
@@ -36,20 +38,12 @@ module _ (s : SeenByLane) (answers : Bool) where
   none_found None h never = refl
   none_found (Some d) h never = absurd (never d h)
 
-  can_rise : (cycle : List ℕ) → IsLaneCycle s answers cycle → cycle ≡ [] → RiseByLane s answers
-  can_rise [] h e = h
-  can_rise (channel ∷ later) h e = absurd (cc)
-
-  no_cycle : (cycle : List ℕ) → IsLaneCycle s answers cycle → RiseByLane s answers → cycle ≡ []
-  no_cycle [] h r = refl
-  no_cycle (channel ∷ later) h r = absurd (never_both_by_lane s answers (channel ∷ later) r h)
-
 -- nothing is found by lane if numbers rise on one lane, and each packet with a level has a lane below 15
-pub nothing_by_lane : (s : SeenByLane) (answers : Bool) (order : LaneOrder) → CanRise (cells_of s.seen.facts) s.seen.held → CarriesAll s.said
+pub nothing_by_lane : (s : SeenByLane) (answers : Bool) (order : LaneOrder) → CanRise (WaitsFor (cells_of s.seen.facts) s.seen.held) → CarriesAll s.said
     → order.cycle.items ≡ [] → order.dropped ≡ None → IsLaneOrder s answers order
 nothing_by_lane s answers order rise carried no_cycle no_drop = record {
   drop = subst (IsSomeDrop s answers) (sym no_drop) (all_carried s [] answers carried);
-  waits = subst (IsLaneCycle s answers) (sym no_cycle) (one_lane_suffices s answers rise.0 rise.1);
+  waits = subst (IsCycleIfAny (WaitsByLane s answers)) (sym no_cycle) (one_lane_suffices s answers rise);
   shortest = λ other waiting. omega (arith, ap length no_cycle);
 }
 
@@ -88,7 +82,9 @@ module _ (most : ℕ) (facts : Facts) (held : HeldPlan) where
   rise_is (Some said) None are = absurd are
   rise_is (Some said) (Some f) are =
       let s = seen_of facts held said in
-      (can_rise s false f.order.cycle.items are.order.waits, no_cycle s false f.order.cycle.items are.order.waits)
+      let F = WaitsByLane s false in
+      let cycle = f.order.cycle.items in
+      (rise_if_none F cycle are.order.waits, λ rise. no_cycle_at_all F rise cycle are.order.waits)
 
   free_is : (bound : Option ℕ) (lanes : Option LanesSaid) (found : Option LaneFindings) → AreFoundByLane most facts held lanes found → (flaw : Flaw)
       → IsFoundFree bound facts held found flaw ↔ IsFree bound facts held lanes flaw

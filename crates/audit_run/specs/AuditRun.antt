@@ -8,21 +8,21 @@ use Rattle.subnet_view.specs.Reading.{Cells}
 use Rattle.held_tables.specs.Held.{HeldPlan}
 use Rattle.audit_channels.specs.declared.cycle_text.ChannelKind.TheVariants.{OnOneLane}
 use Rattle.audit_channels.specs.CycleText.{cycle_line}
-use Rattle.audit_channels.specs.Waiting.{NoneShorter}
+use Rattle.audit_channels.specs.ChannelOrders.{CanRise, IsCycleIfAny, NoneShorter}
+use Rattle.audit_channels.specs.Waiting.{WaitsFor}
 use Rattle.audit_counts.specs.Figures.{figures_of}
 use Rattle.audit_counts.specs.FirstFew.{all_listed}
 use Rattle.audit_counts.specs.Ways.{loads_of}
 use Rattle.audit_report.specs.Appendix.{appendix_text}
 use Rattle.audit_report.specs.AuditText.{findings_text}
 use Rattle.audit_report.specs.LineLimit.{most_lines}
-use Rattle.audit_report.specs.Passing.{CanRise, DeliversWithin, EachArrives, EachHasTables, EachHoldsLid}
-use Rattle.audit_report.specs.Passing.{EachNodeIsKnown, IsCycle, PassesWithin, is_within}
+use Rattle.audit_report.specs.Passing.{DeliversWithin, EachArrives, EachHasTables, EachHoldsLid}
+use Rattle.audit_report.specs.Passing.{EachNodeIsKnown, PassesWithin, is_within}
 use Rattle.lanes_file.specs.Lanes.{LanesSaid}
 use Rattle.lane_channels.specs.declared.dropped.Dropped.{Dropped}
 use Rattle.lane_channels.specs.declared.loops_by_lane.LaneOrder.{LaneOrder}
 use Rattle.lane_channels.specs.LaneNetwork.{SeenByLane}
-use Rattle.lane_channels.specs.Waiting.{IsDroppedByLane, IsLaneCycle, IsSomeDrop, RiseByLane}
-use Rattle.lane_channels.specs.Waiting.{NoneShorter as NoneShorterByLane}
+use Rattle.lane_channels.specs.Waiting.{IsDroppedByLane, IsSomeDrop, WaitsByLane}
 use Rattle.audit_run.specs.declared.flaw.Flaw.{Flaw}
 use Rattle.audit_run.specs.declared.flaw.Flaw.TheVariants.{Missed, Tableless, Unusable, Lidless, Overloaded, Unleveled}
 use Rattle.audit_run.specs.declared.flaw.Flaw.TheVariants.{LaneDrop, CreditLoop}
@@ -47,8 +47,8 @@ seen_of facts held said = record { seen = record { facts = facts; held = held };
 -- is true, packets that answer other packets also have the levels of those packets
 pub record IsLaneOrder (s : SeenByLane) (answers : Bool) (order : LaneOrder) : Type 0 where
   pub drop : IsSomeDrop s answers order.dropped
-  pub waits : IsLaneCycle s answers order.cycle.items
-  pub shortest : NoneShorterByLane s answers order.cycle.items
+  pub waits : IsCycleIfAny (WaitsByLane s answers) order.cycle.items
+  pub shortest : NoneShorter (WaitsByLane s answers) order.cycle.items
 
 -- the findings by lane are right: packets without a service level, at most `most` of them listed; and drops and credit
 -- loops without answers and with them
@@ -77,7 +77,7 @@ pub record PassesByLane (bound : Option ℕ) (s : SeenByLane) : Type 0 where
   pub delivers : DeliversWithin bound (cells_of s.seen.facts) s.seen.held
   pub leveled : missing_levels s.said (cells_of s.seen.facts) s.seen.held ≡ []
   pub carried : (dropped : Dropped) → IsDroppedByLane s false dropped → ⊥
-  pub rise : RiseByLane s false
+  pub rise : CanRise (WaitsByLane s false)
 
 -- the tables pass: on one lane if there is no text of lanes, otherwise by lane
 abbrev pub PassesAudit : Option ℕ → Facts → HeldPlan → Option LanesSaid → Type 0
@@ -99,8 +99,8 @@ AreCarried facts held (Some said) = (dropped : Dropped) → IsDroppedByLane (see
 -- channels can be numbered so that numbers rise: on one lane if there is no text of lanes, otherwise by lane, without
 -- answers
 abbrev pub NumbersRise : Facts → HeldPlan → Option LanesSaid → Type 0
-NumbersRise facts held None = CanRise (cells_of facts) held
-NumbersRise facts held (Some said) = RiseByLane (seen_of facts held said) false
+NumbersRise facts held None = CanRise (WaitsFor (cells_of facts) held)
+NumbersRise facts held (Some said) = CanRise (WaitsByLane (seen_of facts held said) false)
 
 -- the tables do not have the flaw
 abbrev pub IsFree : Option ℕ → Facts → HeldPlan → Option LanesSaid → Flaw → Type 0
@@ -137,7 +137,7 @@ IsFoundCarried (Some found) = found.order.dropped ≡ None
 -- numbers of channels rise on one lane if there are no findings by lane; otherwise these have no credit loop without
 -- answers
 abbrev pub IsFoundToRise : Facts → HeldPlan → Option LaneFindings → Type 0
-IsFoundToRise facts held None = CanRise (cells_of facts) held
+IsFoundToRise facts held None = CanRise (WaitsFor (cells_of facts) held)
 IsFoundToRise facts held (Some found) = found.order.cycle.items ≡ []
 
 -- what was found says that the tables do not have the flaw
@@ -168,8 +168,8 @@ pub record TellsFlaws (bound : Option ℕ) (facts : Facts) (held : HeldPlan) (fo
 pub record IsAudited (asked : AuditAsked) (facts : Facts) (held : HeldPlan) (lanes : Option LanesSaid)
     (prints : List ℕ → Type 0) (passed : Bool) : Type 0 where
   pub cycle : List ℕ
-  pub waits : IsCycle (cells_of facts) held cycle
-  pub shortest : NoneShorter (cells_of facts) held cycle
+  pub waits : IsCycleIfAny (WaitsFor (cells_of facts) held) cycle
+  pub shortest : NoneShorter (WaitsFor (cells_of facts) held) cycle
   pub found : Option LaneFindings
   pub by_lane : AreFoundByLane (most_lines asked.all) facts held lanes found
   pub flaws : List Flaw

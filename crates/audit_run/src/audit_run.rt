@@ -7,7 +7,8 @@ ghost use Rattle.byte_io.specs.Writes.{Writes};
 ghost use Rattle.byte_io.specs.WritesPart.{WritesPart};
 ghost use Rattle.audit_report.specs.Appendix.{appendix_text, shown};
 ghost use Rattle.audit_report.specs.AuditText.{findings_text};
-ghost use Rattle.audit_report.specs.Passing.{CanRise};
+ghost use Rattle.audit_channels.specs.ChannelOrders.{CanRise};
+ghost use Rattle.audit_channels.specs.Waiting.{WaitsFor};
 ghost use Rattle.lanes_file.specs.Carried.{CarriesAll};
 ghost use Rattle.audit_run.specs.AuditRun.{AreFoundByLane, HasAudited, IsAuditFault, IsAudited, IsFoundByLane};
 ghost use Rattle.audit_run.specs.AuditRun.{IsLaneOrder, TellsFlaws, loops_text, seen_of};
@@ -137,7 +138,7 @@ fn orders(alloc: Global, audit: &Audit, lanes: &Lanes) -> Result<(LaneOrder, Lan
 /// Returns whether there is nothing to find by lane: channels on one lane have numbers that rise, and each packet with
 /// a service level has a lane below 15.
 fn has_nothing_to_find(audit: &Audit, lanes: &Lanes) -> bool
-    ensures { IsTrue result → CanRise (cells_of audit.now.facts) audit.now.held × CarriesAll lanes.now }
+    ensures { IsTrue result → CanRise (WaitsFor (cells_of audit.now.facts) audit.now.held) × CarriesAll lanes.now }
 {
     audit.can_rise() && lanes.carries_all()
 }

@@ -1,10 +1,8 @@
 //! What an audit finds by lane, as text.
-ghost use Rattle.std.specs.Prelude.{◌≡◌};
 ghost use Rattle.std.specs.List.{flat_map};
 ghost use Rattle.fact_store.specs.View.{cells_of};
 ghost use Rattle.byte_io.specs.Writes.{Writes};
 ghost use Rattle.byte_io.specs.WritesPart.{WritesPart};
-ghost use Rattle.lane_channels.specs.Stops.{guid_at};
 ghost use Rattle.audit_run.specs.LaneText.{drop_line, dropped_text, missing_text, order_text, pair_line};
 
 use crate::levels_missing::PacketPair;
@@ -14,7 +12,6 @@ use audit_report::write_more;
 use byte_io::{Sink, WriteFault, write_guid, write_number, write_port};
 use lane_channels::{Dropped, LaneOrder};
 use packet_walks::Network;
-use smp_bytes::Guid;
 
 /// Writes the first packets without a service level, and how many more there are.
 pub(crate) fn write_missing<W: Sink>(
@@ -96,7 +93,7 @@ fn write_drop<W: Sink>(
     sink.write(b"dropped ")?;
     write_number(sink, u64::from(dropped.lid.number()))?;
     sink.write(b" at ")?;
-    write_guid(sink, switch_at(network, dropped.stop / 256))?;
+    write_guid(sink, network.guid(dropped.stop / 256))?;
     sink.write(b" ")?;
     write_number(sink, (dropped.stop % 256) as u64)?;
     sink.write(b" ")?;
@@ -104,11 +101,4 @@ fn write_drop<W: Sink>(
     sink.write(b" level ")?;
     write_number(sink, u64::from(dropped.level))?;
     sink.write(b"\n")
-}
-
-/// Returns the GUID of the usable switch at `index`, or GUID 0 if no usable switch has this index.
-fn switch_at(network: &Network, index: usize) -> Guid
-    ensures { result ≡ guid_at (cells_of network.now.facts) index }
-{
-    network.switch(index).unwrap_or(Guid::new(0))
 }

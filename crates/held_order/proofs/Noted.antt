@@ -16,8 +16,8 @@ use Rattle.held_tables.specs.Switches.{far_by, row_of}
 use Rattle.held_tables.specs.Tables.{entry_for}
 use Rattle.packet_walks.specs.Edges.{edges_of}
 use Rattle.audit_channels.specs.Column.{number_of}
-use Rattle.audit_channels.specs.ChannelOrders.{Follows}
-use Rattle.audit_channels.specs.Waiting.{AreWaits, WaitsFor}
+use Rattle.audit_channels.specs.ChannelOrders.{AreWaits, Follows}
+use Rattle.audit_channels.specs.Waiting.{WaitsFor, channel_count}
 use Rattle.next_tables.proofs.Hops.{channel_leads, column_at, edge_is}
 use Rattle.next_tables.specs.SwitchPositions.{Leads, switch_at}
 use Rattle.held_order.specs.declared.turns.SwitchTurn.{SwitchTurn}
@@ -186,7 +186,7 @@ more_so_far cells waits count old new so one = record {
   );
 }
 
-module _ (cells : Cells) (tables : HeldPlan) (waits : List (List ℕ)) (are : AreWaits cells tables waits) where
+module _ (cells : Cells) (tables : HeldPlan) (waits : List (List ℕ)) (are : AreWaits (WaitsFor cells tables) (channel_count cells) waits) where
   -- a turn that is noted is one
   to_turn : (a b i j k : ℕ) → Follows waits a b → IsOver cells a b i j k → IsTurn cells tables i j k
   to_turn a b i j k follows over =

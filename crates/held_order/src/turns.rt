@@ -2,7 +2,8 @@
 ghost use Rattle.std.specs.Prelude.{◌≡◌, [], IfOk, OnOk, length, replicate};
 ghost use Rattle.fact_store.specs.View.{cells_of};
 ghost use Rattle.subnet_view.specs.Reading.{switches};
-ghost use Rattle.audit_channels.specs.Waiting.{AreWaits};
+ghost use Rattle.audit_channels.specs.ChannelOrders.{AreWaits};
+ghost use Rattle.audit_channels.specs.Waiting.{WaitsFor, channel_count};
 ghost use Rattle.held_order.specs.Turns.{AreTurns, IsWithTurns, IsWithTurn, lists_of};
 
 use audit_channels::{Waits, channel_waits};
@@ -39,7 +40,8 @@ fn turns_over(
     network: &Network,
     waits: &Waits,
 ) -> Result<Vec<Vec<SwitchTurn>>, AllocError>
-    requires { AreWaits (cells_of network.now.facts) network.now.held waits.now }
+    requires { AreWaits (WaitsFor (cells_of network.now.facts) network.now.held)
+        (channel_count (cells_of network.now.facts)) waits.now }
     ensures { IfOk result (λ turns.
         AreTurns (cells_of network.now.facts) network.now.held (lists_of turns.items)) }
 {

@@ -3,13 +3,12 @@ use Rattle.std.proofs.Common.{◌≡◌, ◌<◌, ◌+◌, ◌*◌, ◌/◌, ◌
 use Rattle.std.specs.Prelude.{Option, None, Some, slice_index_or}
 use Rattle.port_graph.specs.declared.edge.Edge.{Edge}
 use Rattle.fact_store.specs.View.{cells_of}
-use Rattle.held_tables.specs.Held.{HeldPlan}
 use Rattle.packet_walks.specs.Edges.{edges_of}
 use Rattle.audit_channels.specs.Column.{TakesAcross, number_of}
+use Rattle.audit_channels.proofs.Orders.{no_cycle}
 use Rattle.lane_channels.specs.LaneNetwork.{SeenByLane}
 use Rattle.lane_channels.specs.LaneLaws.{AllCarried, NeverBothByLane, OneLaneSuffices}
 use Rattle.lane_channels.specs.Stops.{HasEdge, guid_at, lane_between, lane_by, port_across}
-use Rattle.lane_channels.specs.AnyTables.{RiseByAny, WaitInCycleByAny, WaitOnByAny}
 use Rattle.lane_channels.specs.Waiting.{WaitsByLane}
 use Rattle.lane_channels.proofs.Visits.{no_column}
 
@@ -23,9 +22,9 @@ sole column index edge (zero, is) = is
 sole column index edge (suc nth, is) = absurd (no_column index edge is)
 
 pub one_lane_suffices : OneLaneSuffices
-one_lane_suffices s answers numbers rise = record { number = λ c. slice_index_or numbers (c / 16) 0; rises = rises }
+one_lane_suffices s answers rise = record { number = λ c. rise.number (c / 16); rises = rises }
   where
-    rises : (a b : ℕ) → WaitsByLane s answers a b → slice_index_or numbers (a / 16) 0 < slice_index_or numbers (b / 16) 0
+    rises : (a b : ℕ) → WaitsByLane s answers a b → rise.number (a / 16) < rise.number (b / 16)
     rises a b w =
         let one = w.takes in
         let t = one.takes in
@@ -47,19 +46,8 @@ one_lane_suffices s answers numbers rise = record { number = λ c. slice_index_o
         } in
         rise.rises (a / 16) (b / 16) (record { lid = w.lid; is_lid = w.is_lid; switch = (one.stop / 256); takes = takes })
 
-rise_along : (s : SeenByLane) (others : List HeldPlan) (answers : Bool) (r : RiseByAny s others answers) (channel last : ℕ) (later : List ℕ)
-    → WaitOnByAny s others answers channel later last → r.number channel < r.number last
-rise_along s others answers r channel last [] h = r.rises channel last h
-rise_along s others answers r channel last (next ∷ later) h =
-    let one = r.rises channel next h.0 in let more = rise_along s others answers r next last later h.1 in omega arith
-
-pub never_both_by_any : (s : SeenByLane) (others : List HeldPlan) (answers : Bool) (cycle : List ℕ) → RiseByAny s others answers
-    → ¬ (WaitInCycleByAny s others answers cycle)
-never_both_by_any s others answers [] r h = h
-never_both_by_any s others answers (channel ∷ later) r h = let more = rise_along s others answers r channel channel later h in omega arith
-
 pub never_both_by_lane : NeverBothByLane
-never_both_by_lane s answers cycle r h = never_both_by_any s [] answers cycle r h
+never_both_by_lane s answers cycle rise = no_cycle (WaitsByLane s answers) rise cycle
 
 -- a packet has a level of its own, or that of a packet that it answers; by either it has a lane where it is dropped
 pub all_carried : AllCarried

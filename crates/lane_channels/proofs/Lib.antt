@@ -2,7 +2,6 @@ pub mod Fabrics
 pub mod FarPorts
 pub mod LaneLaws
 pub mod LidWaits
-pub mod Orders
 pub mod Senders
 pub mod Visits
 pub mod Walks

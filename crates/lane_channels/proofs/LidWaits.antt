@@ -11,10 +11,10 @@ use Rattle.held_tables.specs.Held.{HeldPlan}
 use Rattle.packet_walks.specs.Edges.{edges_of, greatest_top}
 use Rattle.packet_walks.proofs.Tops.{none_above}
 use Rattle.smp_bytes.proofs.Members.{contains_none}
-use Rattle.audit_channels.specs.ChannelOrders.{Follows}
+use Rattle.audit_channels.specs.ChannelOrders.{AreWaits, Follows}
 use Rattle.audit_channels.proofs.Waiting.{blank, column_long}
 use Rattle.lanes_file.specs.Lanes.{LanesSaid}
-use Rattle.lane_channels.specs.AnyTables.{AreWaitsByAny, IsDroppedByAny, IsSomeDropByAny, WaitsByAny, columns_for}
+use Rattle.lane_channels.specs.AnyTables.{IsDroppedByAny, IsSomeDropByAny, WaitsByAny, columns_for, lane_channel_count}
 use Rattle.lane_channels.specs.declared.dropped.Dropped.{Dropped}
 use Rattle.lane_channels.specs.LaneNetwork.{SeenByLane}
 use Rattle.lane_channels.specs.Senders.{IsNothing, SentFor}
@@ -208,7 +208,7 @@ module _ (s : SeenByLane) (others : List HeldPlan) (answers : Bool) where
           | inr most ↦ record { lid = t.lid; low = t.is_lid; most = most; takes = t.takes }
         ]
 
-    pub all_waits : AreWaitsByAny s others answers w.waits
+    pub all_waits : AreWaits (WaitsByAny s others answers) (lane_channel_count s) w.waits
     all_waits = record {
       as_many = h.as_many;
       follows = λ a b. (

@@ -1,12 +1,11 @@
 -- What packets do by lane while each switch may hold any of several tables: the first, or one of `others`. A switch
 -- forwards a packet by the table that it holds when the packet comes. LIDs and service levels are those of the first
 -- table. InfiniBand Architecture Specification, Volume 1: link layer, virtual lanes, flow control by credits.
-use Rattle.std.specs.Prelude.{◌≡◌, ◌↔◌, ◌<◌, ◌≤◌, ◌*◌, ℕ, Bool, List, [], ◌∷◌, Option, None, Some, length, map}
+use Rattle.std.specs.Prelude.{◌≤◌, ◌*◌, ℕ, Bool, List, ◌∷◌, Option, None, Some, length, map}
 use Rattle.fact_store.specs.View.{cells_of}
 use Rattle.subnet_view.specs.Reading.{switches}
 use Rattle.held_tables.specs.Held.{HeldPlan}
 use Rattle.packet_walks.specs.Edges.{edges_of}
-use Rattle.audit_channels.specs.ChannelOrders.{Follows}
 use Rattle.lane_channels.specs.declared.dropped.Dropped.{Dropped}
 use Rattle.lane_channels.specs.LaneNetwork.{SeenByLane}
 use Rattle.lane_channels.specs.Senders.{SentFor}
@@ -24,12 +23,9 @@ pub record WaitsByAny (s : SeenByLane) (others : List HeldPlan) (answers : Bool)
   pub is_lid : 1 ≤ lid
   pub takes : OneTakes s.said (cells_of s.seen.facts) (columns_for s others lid) (SentFor s answers lid) channel next
 
--- `waits` has, for each channel by lane, the channels that packets take next, under the tables of `s` or one of
--- `others`
-pub record AreWaitsByAny (s : SeenByLane) (others : List HeldPlan) (answers : Bool) (waits : List (List ℕ)) : Type 0
-  where
-    pub as_many : length waits ≡ 4096 * length (switches (cells_of s.seen.facts))
-    pub follows : (a b : ℕ) → Follows waits a b ↔ WaitsByAny s others answers a b
+-- the number of channels by lane: each usable switch has 16 for each of the 256 numbers of a port
+abbrev pub lane_channel_count : SeenByLane → ℕ
+lane_channel_count s = 4096 * length (switches (cells_of s.seen.facts))
 
 -- `dropped` is a packet that an end port sends for some LID and that is dropped for want of a lane, under the tables
 -- of `s` or one of `others`
@@ -42,33 +38,3 @@ pub record IsDroppedByAny (s : SeenByLane) (others : List HeldPlan) (answers : B
 abbrev pub IsSomeDropByAny : SeenByLane → List HeldPlan → Bool → Option Dropped → Type 0
 IsSomeDropByAny s others answers None = (dropped : Dropped) → IsDroppedByAny s others answers dropped → ⊥
 IsSomeDropByAny s others answers (Some dropped) = IsDroppedByAny s others answers dropped
-
--- channels by lane have numbers, each less than the numbers of the channels that packets take next under any of the
--- tables
-pub record RiseByAny (s : SeenByLane) (others : List HeldPlan) (answers : Bool) : Type 0 where
-  pub number : ℕ → ℕ
-  pub rises : (a b : ℕ) → WaitsByAny s others answers a b → number a < number b
-
--- in the list that has `channel`, then the given channels, then `last`, each channel by lane waits for the next one,
--- under any of the tables
-abbrev pub WaitOnByAny : SeenByLane → List HeldPlan → Bool → ℕ → List ℕ → ℕ → Type 0
-WaitOnByAny s others answers channel [] last = WaitsByAny s others answers channel last
-WaitOnByAny s others answers channel (next ∷ later) last =
-    WaitsByAny s others answers channel next × WaitOnByAny s others answers next later last
-
--- a list is not empty, and its channels by lane wait in a credit loop under any of the tables: each for the next one,
--- and the last for the first
-abbrev pub WaitInCycleByAny : SeenByLane → List HeldPlan → Bool → List ℕ → Type 0
-WaitInCycleByAny s others answers [] = ⊥
-WaitInCycleByAny s others answers (channel ∷ later) = WaitOnByAny s others answers channel later channel
-
--- the channels by lane of a list wait in a credit loop under any of the tables; for an empty list, there are numbers
--- of channels that rise
-abbrev pub IsCycleByAny : SeenByLane → List HeldPlan → Bool → List ℕ → Type 0
-IsCycleByAny s others answers [] = RiseByAny s others answers
-IsCycleByAny s others answers (channel ∷ later) = WaitInCycleByAny s others answers (channel ∷ later)
-
--- no credit loop by lane, under any of the tables, has fewer channels than `channels`
-abbrev pub NoneShorterByAny : SeenByLane → List HeldPlan → Bool → List ℕ → Type 0
-NoneShorterByAny s others answers channels =
-    (cycle : List ℕ) → WaitInCycleByAny s others answers cycle → length channels ≤ length cycle

@@ -1,13 +1,14 @@
 -- Numbers of channels by lane rule out credit loops, and lanes below 15 rule out drops.
 use Rattle.std.specs.Prelude.{ℕ, Bool, List, ◌<◌, ◌+◌}
 use Rattle.fact_store.specs.View.{cells_of}
-use Rattle.audit_channels.specs.Waiting.{RiseOnWays}
+use Rattle.audit_channels.specs.ChannelOrders.{CanRise, IsCycle}
+use Rattle.audit_channels.specs.Waiting.{WaitsFor}
 use Rattle.held_tables.specs.Held.{HeldPlan}
 use Rattle.lanes_file.specs.Carried.{CarriesAll}
 use Rattle.lane_channels.specs.declared.dropped.Dropped.{Dropped}
 use Rattle.lane_channels.specs.LaneNetwork.{SeenByLane}
 use Rattle.lane_channels.specs.AnyTables.{IsDroppedByAny}
-use Rattle.lane_channels.specs.Waiting.{RiseByLane, WaitInCycle}
+use Rattle.lane_channels.specs.Waiting.{WaitsByLane}
 use Rattle.fabric_model.specs.declared.cable.NodePort.{NodePort}
 use Rattle.fabric_model.specs.Fabric.{Fabric, IsEndPort}
 use Rattle.fabric_model.specs.FabricWalks.{IsJoinedTo}
@@ -15,16 +16,18 @@ use Rattle.fabric_model.specs.Forwarding.{Hop}
 use Rattle.packet_walks.specs.Fabrics.{IsSeenIn}
 use Rattle.lane_channels.specs.Fabrics.{LaneMaps, HoldLanes, IsLaneChannel, IsCarried, TravelsAt}
 
--- if numbers of channels on one lane rise under the held tables, channels by lane also have numbers that rise,
--- whatever the lanes and the service levels are
+-- if numbers of channels on one lane can rise under the held tables, numbers of channels by lane can rise too, whatever
+-- the lanes and the service levels are
 abbrev pub OneLaneSuffices : Type 0
 OneLaneSuffices =
-    (s : SeenByLane) (answers : Bool) (numbers : List ℕ) → RiseOnWays (cells_of s.seen.facts) s.seen.held numbers
-    → RiseByLane s answers
+    (s : SeenByLane) (answers : Bool) → CanRise (WaitsFor (cells_of s.seen.facts) s.seen.held)
+    → CanRise (WaitsByLane s answers)
 
--- if numbers of channels by lane rise under the held tables, no channels by lane wait in a credit loop
+-- if numbers of channels by lane can rise under the held tables, no channels by lane wait in a credit loop
 abbrev pub NeverBothByLane : Type 0
-NeverBothByLane = (s : SeenByLane) (answers : Bool) (cycle : List ℕ) → RiseByLane s answers → ¬ (WaitInCycle s answers cycle)
+NeverBothByLane =
+    (s : SeenByLane) (answers : Bool) (cycle : List ℕ) → CanRise (WaitsByLane s answers)
+    → ¬ (IsCycle (WaitsByLane s answers) cycle)
 
 -- if all packets that have a service level have a lane below 15 according to the text, no packet is dropped for want
 -- of a lane, under any of several tables
@@ -41,7 +44,7 @@ abbrev pub LaneChannelsRise : Type 0
 LaneChannelsRise =
     (s : SeenByLane) (answers : Bool) (f : Fabric) (origin : NodePort) (vl : LaneMaps) → IsEndPort f origin
     → IsSeenIn (IsJoinedTo f origin) (cells_of s.seen.facts) s.seen.held f
-    → HoldLanes (IsJoinedTo f origin) s.said f vl → (r : RiseByLane s answers) (level : ℕ) (hops : List Hop)
+    → HoldLanes (IsJoinedTo f origin) s.said f vl → (r : CanRise (WaitsByLane s answers)) (level : ℕ) (hops : List Hop)
     → TravelsAt s answers (IsJoinedTo f origin) f level hops → (nth channel next : ℕ)
     → IsCarried (cells_of s.seen.facts) f vl level hops (nth + 2)
     → IsLaneChannel (cells_of s.seen.facts) f vl level hops nth channel

@@ -84,7 +84,7 @@ impl<'a> LaneNetwork<'a> {
         ensures { result
             ≡ lane_if_carried (lane_between self.now.said (cells_of self.now.seen.facts) level index into out) }
     {
-        let guid = switch_at(self.network, index);
+        let guid = self.network.guid(index);
         let lane = self.lanes.lane(guid, into, out, level);
         if lane < DROPPED { Some(lane) } else { None }
     }
@@ -102,13 +102,6 @@ impl<'a> LaneNetwork<'a> {
 
 /// The least lane on which packets are dropped.
 const DROPPED: u8 = 15;
-
-/// Returns the GUID of the usable switch at `index`, or 0 if there is no such switch.
-fn switch_at(network: &Network, index: usize) -> Guid
-    ensures { result ≡ guid_at (cells_of network.now.facts) index }
-{
-    network.switch(index).unwrap_or(Guid::new(0))
-}
 
 /// Returns the item of `far_ports` at `number`, or 0 if there is none.
 fn far_port_at(far_ports: &[PortNum], number: usize) -> PortNum

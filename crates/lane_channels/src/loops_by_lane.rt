@@ -1,10 +1,11 @@
-ghost use Rattle.std.specs.Prelude.{◌≡◌, IfOk};
-ghost use Rattle.lane_channels.specs.Waiting.{IsLaneCycle, IsSomeDrop, NoneShorter, cycle_in};
+ghost use Rattle.std.specs.Prelude.{IfOk};
+ghost use Rattle.lane_channels.specs.Waiting.{IsSomeDrop, WaitsByLane};
+ghost use Rattle.audit_channels.specs.ChannelOrders.{IsCycleIfAny, NoneShorter};
 
 use crate::dropped::Dropped;
 use crate::lane_network::LaneNetwork;
 use crate::waits_by_lane::lane_waits;
-use audit_channels::{ChannelOrder, order_channels};
+use audit_channels::{cycle_in, order_channels};
 use std::alloc::{AllocError, Global};
 
 /// A credit loop by lane, if there is one, and a packet that is dropped for want of a lane, if there is one.
@@ -25,8 +26,8 @@ pub fn lane_order(
     by_lane: &LaneNetwork,
     answers: bool,
 ) -> Result<LaneOrder, AllocError>
-    ensures cycle { IfOk result (λ found. IsLaneCycle by_lane.now answers found.cycle.items) }
-    ensures shortest { IfOk result (λ found. NoneShorter by_lane.now answers found.cycle.items) }
+    ensures cycle { IfOk result (λ found. IsCycleIfAny (WaitsByLane by_lane.now answers) found.cycle.items) }
+    ensures shortest { IfOk result (λ found. NoneShorter (WaitsByLane by_lane.now answers) found.cycle.items) }
     ensures dropped { IfOk result (λ found. IsSomeDrop by_lane.now answers found.dropped) }
 {
     let found = lane_waits(alloc, by_lane, answers)?;
@@ -34,14 +35,4 @@ pub fn lane_order(
     let cycle = cycle_in(alloc, order);
     let dropped = found.dropped;
     Ok(LaneOrder { cycle, dropped })
-}
-
-/// Returns the channels of `order` if it is a cycle, otherwise none.
-pub(crate) fn cycle_in(alloc: Global, order: ChannelOrder) -> Vec<usize>
-    ensures { result.items ≡ cycle_in order }
-{
-    match order {
-        ChannelOrder::Rises(_) => Vec::new(alloc),
-        ChannelOrder::Cycle(channels) => channels,
-    }
 }

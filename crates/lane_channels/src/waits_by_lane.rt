@@ -6,7 +6,9 @@ ghost use Rattle.held_tables.specs.Tables.{owners_of};
 ghost use Rattle.lane_channels.specs.LaneNetwork.{lists_of};
 ghost use Rattle.lane_channels.specs.Senders.{AnswersOf, AnswersTo, HasAsked, IsNothing, SentFor, SentFrom};
 ghost use Rattle.lane_channels.specs.Visit.{AreWithin, columns_in, walked};
-ghost use Rattle.lane_channels.specs.Waiting.{AreLaneWaits, IsSomeDrop};
+ghost use Rattle.lane_channels.specs.Waiting.{IsSomeDrop, WaitsByLane};
+ghost use Rattle.audit_channels.specs.ChannelOrders.{AreWaits};
+ghost use Rattle.lane_channels.specs.AnyTables.{lane_channel_count};
 ghost use Rattle.lane_channels.specs.Walk.{AreFollowed, BeginsIf};
 ghost use Rattle.lanes_file.specs.Lanes.{level_of};
 ghost use Rattle.subnet_view.specs.EndPort.{end_ports};
@@ -42,7 +44,8 @@ pub fn lane_waits(
     by_lane: &LaneNetwork,
     answers: bool,
 ) -> Result<LaneWaits, AllocError>
-    ensures waits { IfOk result (λ found. AreLaneWaits by_lane.now answers found.waits) }
+    ensures waits { IfOk result (λ found.
+        AreWaits (WaitsByLane by_lane.now answers) (lane_channel_count by_lane.now) found.waits) }
     ensures dropped { IfOk result (λ found. IsSomeDrop by_lane.now answers found.dropped) }
 {
     let network = by_lane.network();

@@ -1,7 +1,7 @@
 -- In the detour a packet from the first switch for the second adapter changes its lane at the second switch, since it
 -- comes from the first one.
 use Rattle.std.proofs.Common.{◌≡◌, ◌<◌, ◌≤◌, ℕ, zero, suc, false, true, List, [], ◌∷◌, ◌++◌, replicate, refl, sym, ap, subst, arith, inl}
-use Rattle.std.specs.Prelude.{Some, slice_get}
+use Rattle.std.specs.Prelude.{Some, slice_get, slice_index_or}
 use Rattle.std.specs.List.Sorted.{IsStrictlySortedBy}
 use Rattle.std.specs.Option.{option_map_or}
 use Rattle.std.proofs.lemmas.Option.{same_Some}
@@ -15,7 +15,8 @@ use Rattle.lanes_file.specs.declared.lanes.LaneMap.{LaneMap}
 use Rattle.lanes_file.specs.declared.lanes.LevelBlock.{LevelBlock}
 use Rattle.lanes_file.specs.Lanes.{LanesSaid, lane_of}
 use Rattle.lanes_file.specs.WellFormed.{AreLanes, IsWellFormed}
-use Rattle.audit_channels.specs.Waiting.{RiseOnWays}
+use Rattle.audit_channels.specs.ChannelOrders.{CanRise}
+use Rattle.audit_channels.specs.Waiting.{WaitsFor}
 use Rattle.next_tables.specs.OrderRule.{numbers_by}
 use Rattle.next_tables.specs.SwitchPositions.{AreRight}
 use Rattle.next_tables.specs.OrderedStepLaws.{IsStep}
@@ -54,16 +55,16 @@ stays = record {
 abbrev numbers : List ℕ
 numbers = numbers_by cells as_listed
 
-rise_there : RiseOnWays cells (held_by longer) numbers
+rise_there : CanRise (WaitsFor cells (held_by longer))
 rise_there = record {
-  as_many = refl;
+  number = λ c. slice_index_or numbers c 0;
   rises = λ a b w.
       numbers_rise_by_order cells as_listed (held_by longer) (held_by longer) (held_by longer) stays w.lid a b w.is_lid
       (inl (w.switch, w.takes));
 }
 
-rise : RiseOnWays (cells_of facts) (held_by longer) numbers
-rise = subst (λ (c : Cells). RiseOnWays c (held_by longer) numbers) (sym facts_have) rise_there
+rise : CanRise (WaitsFor (cells_of facts) (held_by longer))
+rise = subst (λ (c : Cells). CanRise (WaitsFor c (held_by longer))) (sym facts_have) rise_there
 
 -- lanes and levels ---------------------------------------------------------------------------------------
 
@@ -155,7 +156,7 @@ some_packet_changes_lane = (
     well_formed = well_formed;
     lanes = lanes;
     hold = hold;
-    rise = one_lane_suffices seen_by_lane false numbers rise;
+    rise = one_lane_suffices seen_by_lane false rise;
     level = 1;
     hops = hops;
     travels = travels;

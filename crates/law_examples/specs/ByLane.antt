@@ -7,7 +7,8 @@ use Rattle.lanes_file.specs.Lanes.{LanesSaid}
 use Rattle.lanes_file.specs.WellFormed.{IsWellFormed}
 use Rattle.lane_channels.specs.Fabrics.{HoldLanes, IsCarried, IsLaneChannel, LaneMaps, TravelsAt, lane_at}
 use Rattle.lane_channels.specs.LaneNetwork.{SeenByLane}
-use Rattle.lane_channels.specs.Waiting.{RiseByLane}
+use Rattle.audit_channels.specs.ChannelOrders.{CanRise}
+use Rattle.lane_channels.specs.Waiting.{WaitsByLane}
 use Rattle.law_examples.specs.Examples.{PartSeen}
 
 -- the facts and tables of the part, with what a text says about lanes
@@ -22,7 +23,7 @@ pub record ChangesLane (part : PartSeen) : Type 0 where
   pub well_formed : IsWellFormed said
   pub lanes : LaneMaps
   pub hold : HoldLanes (IsJoinedTo part.fabric part.origin) said part.fabric lanes
-  pub rise : RiseByLane (with_lanes part said) false
+  pub rise : CanRise (WaitsByLane (with_lanes part said) false)
   pub level : ℕ
   pub hops : List Hop
   pub travels : TravelsAt (with_lanes part said) false (IsJoinedTo part.fabric part.origin) part.fabric level hops

@@ -20,20 +20,13 @@ use Rattle.sm_cli.specs.declared.fault.Fault.TheVariants.{Write}
 use Rattle.next_tables.specs.declared.step_fault.StepFault.{StepFault}
 use Rattle.next_tables.specs.declared.step_fault.StepFault.TheVariants as steps
 use Rattle.sm_cli.proofs.Plans.{has_room}
-use Rattle.step_loops.specs.StepOrder.{NoneShorter, WaitInCycle}
 use Rattle.next_run.specs.LoopText.{loop_text}
 use Rattle.next_run.specs.NextRun.{IsMade, IsSaid, IsStep, StopsBy, StopsStep, fault_of_step}
-use Rattle.next_run.specs.StepLoops.{IsCycleInStep, IsLoopInStep}
+use Rattle.next_run.specs.StepLoops.{IsLoopInStep}
 use Rattle.next_run.specs.StepOrderText.{step_order_text}
 
 pub is_empty : (xs : List ℕ) → IsTrue (length xs == 0) ↔ (xs ≡ [])
 is_empty xs = (λ t. nil_from_length xs (eqb-true _ _ t), λ e. ap (λ ys. length ys == 0) e)
-
--- channels that wait for each other are some
-pub some_cycle : (cells : Cells) (held next : HeldPlan) (channels : List ℕ) → WaitInCycle cells held next channels → NoneShorter cells held next channels
-    → IsCycleInStep cells held next channels
-some_cycle cells held next [] waits none = absurd waits
-some_cycle cells held next (channel ∷ later) waits none = (waits, none)
 
 -- a text was written, or that has failed
 pub was_said : {W : Type 0} (written : W → Option (List ℕ)) (has_failed : W → Bool) (result : Result (Unit {0}) WriteFault) (old new : W) (text : List ℕ)

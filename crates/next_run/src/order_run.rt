@@ -106,13 +106,6 @@ fn switches_at(alloc: Global, network: &Network, taken: &[usize]) -> Result<Vec<
     taken
         .iter()
         .rev()
-        .map(|index| switch_at(network, *index))
+        .map(|index| network.guid(*index))
         .collect(alloc)
-}
-
-/// Returns the GUID of the usable switch at `index`, or GUID 0 if no usable switch has this index.
-fn switch_at(network: &Network, index: usize) -> Guid
-    ensures { result ≡ switch_at (cells_of network.now.facts) index }
-{
-    network.switch(index).unwrap_or(Guid::new(0))
 }

@@ -2,7 +2,6 @@
 ghost use Rattle.std.specs.Prelude.{◌≡◌, IfOk};
 ghost use Rattle.fact_store.specs.View.{cells_of};
 ghost use Rattle.byte_io.specs.WritesPart.{WritesPart};
-ghost use Rattle.next_tables.specs.SwitchPositions.{switch_at};
 ghost use Rattle.next_run.specs.StepOrderText.{items_of, step_order_text, switches_by};
 
 use byte_io::{Sink, WriteFault};
@@ -24,15 +23,8 @@ pub(crate) fn switches_by(
     let indices = positions_in(alloc, positions, positions.len())?;
     indices
         .iter()
-        .map(|index| switch_at(network, *index))
+        .map(|index| network.guid(*index))
         .collect(alloc)
-}
-
-/// Returns the GUID of the usable switch at `index`, or GUID 0 if no usable switch has this index.
-fn switch_at(network: &Network, index: usize) -> Guid
-    ensures { result ≡ switch_at (cells_of network.now.facts) index }
-{
-    network.switch(index).unwrap_or(Guid::new(0))
 }
 
 /// Writes a line for each switch of `order`, the order that a step goes by, in the form of a text of an order. Writes

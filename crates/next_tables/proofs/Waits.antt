@@ -8,7 +8,8 @@ use Rattle.held_tables.specs.Held.{HeldPlan}
 use Rattle.packet_walks.specs.Edges.{edge_by, edges_of}
 use Rattle.held_tables.specs.Switches.{row_of}
 use Rattle.held_tables.specs.Tables.{entry_for}
-use Rattle.next_tables.specs.Mixtures.{IsMixed, WaitsAcross, MixturesWaitSo, RiseInStep, WaitsMixed, WaitOnMixed, NoCycleInStep}
+use Rattle.audit_channels.proofs.Orders.{no_cycle}
+use Rattle.next_tables.specs.Mixtures.{IsMixed, WaitsAcross, MixturesWaitSo, WaitsMixed, NoCycleInStep}
 use Rattle.next_tables.proofs.Entries.{at_mapped, past_mapped, member}
 
 -- an edge by a mixture is one by either
@@ -47,15 +48,9 @@ mixtures_wait_so cells held next before now lid b_is n_is a b w =
       ]
     ]
 
-module _ (cells : Cells) (held next : HeldPlan) (numbers : List ℕ) (rise : RiseInStep cells held next numbers) where
-  one_more : (a b : ℕ) → WaitsMixed cells held next a b → slice_index_or numbers a 0 < slice_index_or numbers b 0
-  one_more a b w = rise w.lid a b w.is_lid (mixtures_wait_so cells held next w.before w.now w.lid w.before_is w.now_is a b w.waits)
-
-  rise_along : (channel last : ℕ) (later : List ℕ) → WaitOnMixed cells held next channel later last → slice_index_or numbers channel 0
-      < slice_index_or numbers last 0
-  rise_along channel last [] h = one_more channel last h
-  rise_along channel last (c ∷ later) h =
-      let one = one_more channel c h.0 in let more = rise_along c last later h.1 in omega arith
-
 pub no_cycle_in_step : NoCycleInStep
-no_cycle_in_step cells held next numbers rise channel later h = let more = rise_along cells held next numbers rise channel channel later h in omega arith
+no_cycle_in_step cells held next numbers rise = no_cycle (WaitsMixed cells held next) (record {
+  number = λ c. slice_index_or numbers c 0;
+  rises = λ a b w.
+      rise w.lid a b w.is_lid (mixtures_wait_so cells held next w.before w.now w.lid w.before_is w.now_is a b w.waits);
+})

@@ -1,6 +1,7 @@
 -- What becomes of packets while switches change from the held tables to the next tables, each block at its own time.
-use Rattle.std.specs.Prelude.{◌≡◌, ◌≤◌, ◌<◌, ◌⊎◌, ℕ, zero, suc, List, [], ◌∷◌, Contains, Option, Some, slice_get, slice_index_or}
+use Rattle.std.specs.Prelude.{◌≡◌, ◌≤◌, ◌<◌, ◌⊎◌, ℕ, zero, suc, List, Contains, Option, Some, slice_get, slice_index_or}
 use Rattle.port_graph.specs.declared.edge.Edge.{Edge}
+use Rattle.audit_channels.specs.ChannelOrders.{IsCycle}
 use Rattle.audit_channels.specs.Column.{TakesAcross}
 use Rattle.subnet_view.specs.declared.end_port.EndPort.{EndPort}
 use Rattle.subnet_view.specs.Reading.{Cells, switches}
@@ -155,15 +156,8 @@ pub record WaitsMixed (cells : Cells) (held next : HeldPlan) (a b : ℕ) : Type 
   pub now_is : IsMixed cells held next lid now
   pub waits : WaitsAcross cells before now lid a b
 
--- in the list that has `channel`, then the given channels, then `last`, each channel waits for the next one under
--- some mixtures of the held and the next tables
-abbrev pub WaitOnMixed : Cells → HeldPlan → HeldPlan → ℕ → List ℕ → ℕ → Type 0
-WaitOnMixed cells held next channel [] last = WaitsMixed cells held next channel last
-WaitOnMixed cells held next channel (c ∷ later) last =
-    WaitsMixed cells held next channel c × WaitOnMixed cells held next c later last
-
 -- if numbers of channels rise in a step, channels never wait in a credit loop, whatever the mixtures
 abbrev pub NoCycleInStep : Type 0
 NoCycleInStep =
     (cells : Cells) (held next : HeldPlan) (numbers : List ℕ) → RiseInStep cells held next numbers
-    → (channel : ℕ) (later : List ℕ) → ¬ (WaitOnMixed cells held next channel later channel)
+    → (cycle : List ℕ) → ¬ (IsCycle (WaitsMixed cells held next) cycle)

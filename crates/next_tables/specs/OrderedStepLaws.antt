@@ -11,13 +11,14 @@ use Rattle.subnet_view.specs.declared.end_port.EndPort.{EndPort}
 use Rattle.subnet_view.specs.Reading.{Cells, switches}
 use Rattle.held_tables.specs.declared.held.HeldLid.{HeldLid}
 use Rattle.held_tables.specs.Held.{HeldPlan}
+use Rattle.audit_channels.specs.ChannelOrders.{IsCycle}
 use Rattle.packet_walks.specs.declared.packet_end.End.{End}
 use Rattle.packet_walks.specs.declared.packet_end.End.TheVariants.{Taken}
 use Rattle.packet_walks.specs.declared.next_hop.NextHop.TheVariants.{To, Ends}
 use Rattle.held_tables.specs.Tables.{owners_of, entry_for}
 use Rattle.packet_walks.specs.EndsBySwitch.{IsEndOf}
 use Rattle.packet_walks.specs.HopsByTables.{IsBrought, next_hops_of}
-use Rattle.next_tables.specs.Mixtures.{IsBroughtBy, IsLoose, IsMixed, RiseInStep, WaitOnMixed}
+use Rattle.next_tables.specs.Mixtures.{IsBroughtBy, IsLoose, IsMixed, RiseInStep, WaitsMixed}
 use Rattle.next_tables.specs.SettledRule.{step_at}
 use Rattle.next_tables.specs.NextTables.{IsKept, by_order, next_tables, ordered_for}
 use Rattle.next_tables.specs.OrderRule.{IsChoice, IsNextByOrder, IsTriedByOrder, numbers_by}
@@ -58,7 +59,7 @@ NumbersRiseByOrder =
 abbrev pub NoCycleByOrder : Type 0
 NoCycleByOrder =
     (cells : Cells) (q : ℕ → ℕ) (held goal next : HeldPlan) → IsStep cells q held goal next
-    → (channel : ℕ) (later : List ℕ) → ¬ (WaitOnMixed cells held next channel later channel)
+    → (cycle : List ℕ) → ¬ (IsCycle (WaitsMixed cells held next) cycle)
 
 -- the next entries by the order are a choice between the held tables and the goal (`IsChoice`)
 abbrev pub RuleIsChoice : Type 0

@@ -1,4 +1,5 @@
-ghost use Rattle.std.specs.Prelude.{◌≡◌, ◌<◌, ◌/◌, IfOk, length, map, slice_get, true};
+ghost use Rattle.std.specs.Prelude.{◌≡◌, ◌<◌, ◌/◌, IfOk, length, map, slice_get, slice_index_or};
+ghost use Rattle.std.specs.Prelude.{true};
 ghost use Rattle.std.specs.Option.{option_map_or};
 ghost use Rattle.fact_store.specs.View.{cells_of};
 ghost use Rattle.subnet_view.specs.EndPort.{end_ports};
@@ -280,6 +281,14 @@ impl<'a> Network<'a> {
     {
         let node = self.nodes.get(index)?;
         Some(node.guid)
+    }
+
+    /// Returns the GUID of the usable switch at `index`, counted in ascending order of GUID, or GUID 0 if there is no
+    /// such switch. Takes constant time.
+    pub fn guid(&self, index: usize) -> Guid
+        ensures { result ≡ slice_index_or (switches (cells_of self.now.facts)) index 0 }
+    {
+        self.switch(index).unwrap_or(Guid::new(0))
     }
 
     /// Returns the far end of the wire in port `number` % 256 of the usable switch at index `number` / 256, where

@@ -10,11 +10,10 @@ use Rattle.held_tables.specs.Held.{HeldPlan}
 use Rattle.packet_walks.specs.Edges.{edges_of, greatest_top}
 use Rattle.packet_walks.proofs.Tops.{none_above}
 use Rattle.audit_channels.proofs.Waiting.{blank}
-use Rattle.audit_channels.specs.ChannelOrders.{Follows, GoesOn, IsCycle, IsOrder, IsShortest}
-use Rattle.audit_channels.specs.declared.order.ChannelOrder.{ChannelOrder}
-use Rattle.audit_channels.specs.declared.order.ChannelOrder.TheVariants.{Rises, Cycle}
+use Rattle.audit_channels.specs.ChannelOrders.{AreWaits, Follows}
+use Rattle.audit_channels.specs.Waiting.{channel_count}
 use Rattle.next_tables.specs.Mixtures.{TakesBy, TakesInStep, WaitsInStep}
-use Rattle.step_loops.specs.StepOrder.{AreWaits, IsShortestInStep, IsStepOrder, IsWithStep, WaitInCycle, WaitOn, WaitsFor}
+use Rattle.step_loops.specs.StepOrder.{IsWithStep, WaitsFor}
 
 -- by one of the LIDs from 1 to a count
 pub record WaitsUpTo (count : ℕ) (cells : Cells) (held next : HeldPlan) (a b : ℕ) : Type 0 where
@@ -95,7 +94,7 @@ module _ (cells : Cells) (held next : HeldPlan) where
       nothing {x} {y} (inr (inr (inr t))) h k = no_turn y y k t
 
   pub all : (count : ℕ) (waits : List (List ℕ)) → SoFar count cells held next waits
-      → max (greatest_top cells held) (greatest_top cells next) ≤ count → AreWaits cells held next waits
+      → max (greatest_top cells held) (greatest_top cells next) ≤ count → AreWaits (WaitsFor cells held next) (channel_count cells) waits
   all count waits h past = record {
     as_many = h.as_many;
     follows = λ a b. ((λ f. there a b ((h.follows a b).0 f)), (λ w. (h.follows a b).1 (back a b w)));
@@ -110,31 +109,3 @@ module _ (cells : Cells) (held next : HeldPlan) where
             | inr within ↦ record { lid = w.lid; low = w.is_lid; most = omega arith; waits = w.waits }
             | inl over ↦ absurd (above_both w.lid a b over w.waits)
           ]
-
-module _ (cells : Cells) (held next : HeldPlan) (waits : List (List ℕ)) (are : AreWaits cells held next waits) where
-  on : (channel last : ℕ) (later : List ℕ) → GoesOn waits channel later last → WaitOn cells held next channel later last
-  on channel last [] h = (are.follows channel last).0 h
-  on channel last (c ∷ later) h = ((are.follows channel c).0 h.0, on c last later h.1)
-
-  cycle : (channels : List ℕ) → IsCycle waits channels → WaitInCycle cells held next channels
-  cycle [] h = h
-  cycle (channel ∷ later) h = on channel channel later h
-
-  pub order_is : (found : ChannelOrder) → IsOrder waits found → IsStepOrder cells held next found
-  order_is (Rises numbers) h = record {
-    as_many = h.as_many ∙ are.as_many;
-    rise = λ lid a b low w. h.rises a b ((are.follows a b).1 (record { lid = lid; is_lid = low; waits = w }));
-  }
-  order_is (Cycle channels) h = cycle channels.items h
-
-  goes_on : (channel last : ℕ) (later : List ℕ) → WaitOn cells held next channel later last → GoesOn waits channel later last
-  goes_on channel last [] h = (are.follows channel last).1 h
-  goes_on channel last (c ∷ later) h = ((are.follows channel c).1 h.0, goes_on c last later h.1)
-
-  is_cycle : (channels : List ℕ) → WaitInCycle cells held next channels → IsCycle waits channels
-  is_cycle [] h = h
-  is_cycle (channel ∷ later) h = goes_on channel channel later h
-
-  pub shortest_is : (found : ChannelOrder) → IsShortest waits found → IsShortestInStep cells held next found
-  shortest_is (Rises numbers) h = tt
-  shortest_is (Cycle channels) h = λ other waiting. h other (is_cycle other waiting)

@@ -17,7 +17,8 @@ use Rattle.audit_channels.specs.Column.{number_of, TakesAcross}
 use Rattle.audit_channels.proofs.Columns.{same_edge}
 use Rattle.step_loops.specs.LidsInLoop.{AreLoopLids, AreNoted, IsLeastLid, IsNoted, TakesFrom, TakesHere, are_known, turned}
 use Rattle.next_tables.specs.Mixtures.{TakesBy, TakesInStep, WaitsInStep}
-use Rattle.step_loops.specs.StepOrder.{WaitInCycle, WaitOn, WaitsFor}
+use Rattle.audit_channels.specs.ChannelOrders.{GoesOn, IsCycle}
+use Rattle.step_loops.specs.StepOrder.{WaitsFor}
 use Rattle.step_loops.proofs.InStep.{above_both}
 
 -- edges leave by a port from 1 to 254 --------------------------------------------------------------
@@ -211,14 +212,14 @@ module _ (cells : Cells) (held next : HeldPlan) where
     }
 
   -- each channel of a cycle waits for the one after it
-  on_waits : (channel last : ℕ) (later : List ℕ) → WaitOn cells held next channel later last → (i : ℕ) → i < suc (length later)
+  on_waits : (channel last : ℕ) (later : List ℕ) → GoesOn (WaitsFor cells held next) channel later last → (i : ℕ) → i < suc (length later)
       → WaitsFor cells held next (slice_index_or (channel ∷ later) i 0) (slice_index_or (later ++ last ∷ []) i 0)
   on_waits channel last [] h zero less = h
   on_waits channel last [] h (suc i) less = absurd (omega arith)
   on_waits channel last (c ∷ later) h zero less = h.0
   on_waits channel last (c ∷ later) h (suc i) less = on_waits c last later h.1 i (omega arith)
 
-  each_waits : (cycle : List ℕ) → WaitInCycle cells held next cycle → (i : ℕ) → i < length cycle
+  each_waits : (cycle : List ℕ) → IsCycle (WaitsFor cells held next) cycle → (i : ℕ) → i < length cycle
       → WaitsFor cells held next (slice_index_or cycle i 0) (slice_index_or (turned cycle) i 0)
   each_waits [] h i less = absurd h
   each_waits (channel ∷ later) h i less = on_waits channel channel later h i less
@@ -233,7 +234,7 @@ module _ (cells : Cells) (held next : HeldPlan) where
   found count a b lid past w (inr least) = least
 
   pub all_lids : (count : ℕ) (cycle after lids : List ℕ) → LidsUpTo count cycle after lids → after ≡ turned cycle
-      → max (greatest_top cells held) (greatest_top cells next) ≤ count → WaitInCycle cells held next cycle
+      → max (greatest_top cells held) (greatest_top cells next) ≤ count → IsCycle (WaitsFor cells held next) cycle
       → AreLoopLids cells held next cycle lids
   all_lids count cycle after lids so is past waiting = record {
     as_many = so.as_many;

@@ -3,7 +3,8 @@ ghost use Rattle.std.specs.Prelude.{◌≡◌, ◌↔◌, IfOk, IsTrue, length, 
 ghost use Rattle.fact_store.specs.View.{cells_of};
 ghost use Rattle.audit_channels.specs.Column.{number_of};
 ghost use Rattle.step_loops.specs.LidsInLoop.{AreLoopLids, AreNoted, IsNoted, TakesFrom, TakesHere, are_known, turned};
-ghost use Rattle.step_loops.specs.StepOrder.{WaitInCycle};
+ghost use Rattle.audit_channels.specs.ChannelOrders.{IsCycle};
+ghost use Rattle.step_loops.specs.StepOrder.{WaitsFor};
 
 use crate::across::columns_of;
 use audit_channels::edge_of;
@@ -25,7 +26,7 @@ pub fn loop_lids(
     cycle: &[usize],
 ) -> Result<Vec<Lid>, AllocError>
     requires facts { next.now.facts ≡ held.now.facts }
-    requires cycle { WaitInCycle (cells_of held.now.facts) held.now.held next.now.held cycle.now }
+    requires cycle { IsCycle (WaitsFor (cells_of held.now.facts) held.now.held next.now.held) cycle.now }
     ensures { IfOk result (λ lids.
         AreLoopLids (cells_of held.now.facts) held.now.held next.now.held cycle.now lids.items) }
 {

@@ -1,7 +1,9 @@
 //! Whether packets can wait for each other in a credit loop during a step.
 ghost use Rattle.std.specs.Prelude.{◌≡◌, IfOk};
 ghost use Rattle.fact_store.specs.View.{cells_of};
-ghost use Rattle.step_loops.specs.StepOrder.{AreWaits, IsShortestInStep, IsStepOrder};
+ghost use Rattle.audit_channels.specs.ChannelOrders.{AreWaits, IsOrder, IsShortest};
+ghost use Rattle.audit_channels.specs.Waiting.{channel_count};
+ghost use Rattle.step_loops.specs.StepOrder.{WaitsFor};
 
 use crate::across::{Columns, add_step, columns_of};
 use audit_channels::{ChannelOrder, Waits, order_channels};
@@ -14,13 +16,13 @@ use std::alloc::{AllocError, Global};
 /// tables. If there are no such numbers, returns a shortest credit loop of some mixtures. Channels are numbered as in
 /// `audit_channels::channel_order`. `held` and `next` must have the same facts. Takes the time that `channel_order`
 /// takes for both tables together, up to a constant factor.
-#[tactic(auto, using(crate::proofs::InStep::order_is, crate::proofs::InStep::shortest_is))]
 pub fn step_order(alloc: Global, held: &Network, next: &Network) -> Result<ChannelOrder, AllocError>
     requires facts { next.now.facts ≡ held.now.facts }
     ensures order { IfOk result (λ found.
-        IsStepOrder (cells_of held.now.facts) held.now.held next.now.held found) }
+        IsOrder (WaitsFor (cells_of held.now.facts) held.now.held next.now.held)
+        (channel_count (cells_of held.now.facts)) found) }
     ensures shortest { IfOk result (λ found.
-        IsShortestInStep (cells_of held.now.facts) held.now.held next.now.held found) }
+        IsShortest (WaitsFor (cells_of held.now.facts) held.now.held next.now.held) found) }
 {
     let waits = waits(alloc, held, next)?;
     let found = order_channels(alloc, &waits)?;
@@ -32,7 +34,8 @@ pub fn step_order(alloc: Global, held: &Network, next: &Network) -> Result<Chann
 fn waits(alloc: Global, held: &Network, next: &Network) -> Result<Waits, AllocError>
     requires facts { next.now.facts ≡ held.now.facts }
     ensures { IfOk result (λ waits.
-        AreWaits (cells_of held.now.facts) held.now.held next.now.held waits) }
+        AreWaits (WaitsFor (cells_of held.now.facts) held.now.held next.now.held)
+        (channel_count (cells_of held.now.facts)) waits) }
 {
     let count = held.switch_count().checked_mul(256).ok_or(AllocError)?;
     let mut waits = Waits::new(alloc, count)?;

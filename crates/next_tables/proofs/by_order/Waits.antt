@@ -68,5 +68,5 @@ pub numbers_rise_by_order : NumbersRiseByOrder
 numbers_rise_by_order cells q held goal next is lid a b one w = rises cells q held goal next is lid a b one w
 
 pub no_cycle_by_order : NoCycleByOrder
-no_cycle_by_order cells q held goal next is channel later h =
-    no_cycle_in_step cells held next (numbers_by cells q) (numbers_rise_by_order cells q held goal next is) channel later h
+no_cycle_by_order cells q held goal next is =
+    no_cycle_in_step cells held next (numbers_by cells q) (numbers_rise_by_order cells q held goal next is)

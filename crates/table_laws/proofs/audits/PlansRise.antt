@@ -35,8 +35,8 @@ use Rattle.held_tables.specs.Switches.{row_of}
 use Rattle.held_tables.specs.Tables.{counted, entry_for, top_of as top_held}
 use Rattle.plan_tables.proofs.HeldPlans.{made, entry_counts, entry_held, top_of_switch}
 use Rattle.packet_walks.proofs.Tops.{entry_above, no_edge_by, none_above, uncounted}
+use Rattle.audit_channels.specs.ChannelOrders.{CanRise}
 use Rattle.audit_channels.specs.Waiting.{WaitsFor}
-use Rattle.audit_report.specs.Passing.{CanRise}
 use Rattle.packet_walks.proofs.EntrySteps.{contains_at, of_column, leaves}
 use Rattle.plan_tables.proofs.PlanSteps.{on_way}
 use Rattle.lft_blocks.specs.LidNumbers.{lid_numbers}
@@ -204,17 +204,17 @@ nothing_waits cells a b w =
     let none = none_above cells nothing_held w.lid (omega (arith, no_top (switches cells), low)) w.switch in
     cc
 
-as_many : (rule : Routing) (cells : Cells) → length (numbers rule cells) ≡ 256 * length (switches cells)
-as_many rule cells = length-map-range_with_len (number_of rule cells) 0 (256 * length (switches cells))
+number : Routing → Cells → ℕ → ℕ
+number rule cells c = slice_index_or (numbers rule cells) c 0
 
 pub plans_rise : (rule : RuleValue) (lmc : ℕ) (facts : Facts) → AreInRange facts → ¬ (IsNoRoom lmc (cells_of facts))
-    → CanRise (cells_of facts) (held_plan (plan_of rule lmc (cells_of facts)))
+    → CanRise (WaitsFor (cells_of facts) (held_plan (plan_of rule lmc (cells_of facts))))
 plans_rise by lmc facts range has_room =
     let cells = cells_of facts in
     let rule = lid_routing by lmc cells (lids lmc cells) in
     let told : Option ℕ → HeldPlan = λ o.
     option_map_or (λ top. made by lmc cells top) o nothing_held in
-    elim (top_of (lids lmc cells)) as (λ o. top_of (lids lmc cells) ≡ o → CanRise cells (told o)) [
-      | None ↦ λ e. (numbers rule cells, record { as_many = as_many rule cells; rises = λ a b w. absurd (nothing_waits cells a b w) })
-      | Some top ↦ λ e. (numbers rule cells, record { as_many = as_many rule cells; rises = rise_in_turn by lmc facts range has_room top e })
+    elim (top_of (lids lmc cells)) as (λ o. top_of (lids lmc cells) ≡ o → CanRise (WaitsFor cells (told o))) [
+      | None ↦ λ e. record { number = number rule cells; rises = λ a b w. absurd (nothing_waits cells a b w) }
+      | Some top ↦ λ e. record { number = number rule cells; rises = rise_in_turn by lmc facts range has_room top e }
     ] refl

@@ -9,7 +9,7 @@ use Rattle.next_tables.specs.Mixtures.{RiseInStep}
 use Rattle.next_tables.specs.OrderRule.{numbers_by}
 use Rattle.next_tables.specs.SwitchPositions.{position_at}
 use Rattle.next_tables.specs.NextTables.{by_order, next_tables, settled_first}
-use Rattle.next_run.specs.StepOrder.{WaitOn, WaitsFor}
+use Rattle.next_run.specs.StepOrder.{WaitsFor}
 use Rattle.next_tables.specs.Rightness.{are_right}
 use Rattle.next_tables.proofs.by_order.OrderedTables.{ordered_tables_are_next}
 use Rattle.next_tables.proofs.by_order.ToldRight.{rightness_is_told}
@@ -21,24 +21,17 @@ use Rattle.next_run.proofs.Safe.{goals_are_safe}
 use Rattle.next_tables.proofs.by_order.Waits.{numbers_rise_by_order}
 use Rattle.next_run.specs.NextRun.{stepped}
 use Rattle.plan_tables.specs.PlanTables.{planned}
-use Rattle.next_run.specs.StepLoops.{IsCycleInStep}
+use Rattle.audit_channels.specs.ChannelOrders.{IsCycleIfAny}
+use Rattle.audit_channels.proofs.Orders.{no_cycle_at_all}
 use Rattle.table_laws.specs.StepLaws.{IsFreeByTold, RightTablesMakeNoLoop, ToldStepsMakeNoLoop}
 use Rattle.table_laws.proofs.step_ends.OneStep.{goal_implied}
 
 module _ (cells : Cells) (held next : HeldPlan) (numbers : List ℕ) (rise : RiseInStep cells held next numbers) where
-  abbrev at : ℕ → ℕ
-  at channel = slice_index_or numbers channel 0
-
-  rises : (a b : ℕ) → WaitsFor cells held next a b → at a < at b
-  rises a b w = rise w.lid a b w.is_lid w.waits
-
-  rises_on : (channel : ℕ) (later : List ℕ) (last : ℕ) → WaitOn cells held next channel later last → at channel < at last
-  rises_on channel [] last w = rises channel last w
-  rises_on channel (c ∷ later) last w = omega (arith, rises channel c w.0, rises_on c later last w.1)
-
-  none_in_cycle : (cycle : List ℕ) → IsCycleInStep cells held next cycle → cycle ≡ []
-  none_in_cycle [] is = refl
-  none_in_cycle (channel ∷ later) is = absurd (omega (arith, rises_on channel later channel is.0))
+  none_in_cycle : (cycle : List ℕ) → IsCycleIfAny (WaitsFor cells held next) cycle → cycle ≡ []
+  none_in_cycle = no_cycle_at_all (WaitsFor cells held next) (record {
+    number = λ c. slice_index_or numbers c 0;
+    rises = λ a b w. rise w.lid a b w.is_lid w.waits;
+  })
 
 pub right_tables_make_no_loop : RightTablesMakeNoLoop
 right_tables_make_no_loop rule lmc facts held range has_room right =
@@ -52,7 +45,7 @@ right_tables_make_no_loop rule lmc facts held range has_room right =
     let same : stepped lmc rule facts held ≡ next = ap (λ t. next_tables cells (cond t (by_order positions) settled_first) held plan) right in
     record {
       loops = λ cycle lids is. none_in_cycle cells held (stepped lmc rule facts held) (numbers_by cells q)
-          (subst (λ (t : HeldPlan). RiseInStep cells held t (numbers_by cells q)) (sym same) towards.0) cycle is.0;
+          (subst (λ (t : HeldPlan). RiseInStep cells held t (numbers_by cells q)) (sym same) towards.0) cycle is.waits;
       right = subst (λ (t : HeldPlan). are_right cells q t ≡ true) (sym same) ((told next).1 towards.1);
     }
 
@@ -65,7 +58,7 @@ free_by_told facts held plan by preferred goal is =
     let next = next_to facts held goal in
     let safe = goals_are_safe facts held plan by preferred goal is in
     record {
-      loops = λ cycle lids found. none_in_cycle cells held next (numbers_by cells q) (numbers_rise_by_order cells q held goal.tables next safe.0) cycle found.0;
+      loops = λ cycle lids found. none_in_cycle cells held next (numbers_by cells q) (numbers_rise_by_order cells q held goal.tables next safe.0) cycle found.waits;
       right = (rightness_is_told cells q next).1 safe.1;
     }
 

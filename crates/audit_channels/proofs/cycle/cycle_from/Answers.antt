@@ -2,7 +2,7 @@
 use Rattle.std.proofs.Common.{◌≡◌, ◌-◌, ℕ, List, [], length, take, drop, true, false, ap, sym, ◌∙◌, subst}
 use Rattle.std.specs.Prelude.{slice_index_or, ◌==◌, unwrap_or, position}
 use Rattle.std.specs.List.{find, list_any}
-use Rattle.audit_channels.specs.ChannelOrders.{IsCycle}
+use Rattle.audit_channels.specs.ChannelOrders.{Follows, IsCycle}
 use Rattle.audit_channels.specs.Numbers.{has_none}
 use Rattle.audit_channels.proofs.ChannelWays.{at_first, cycle_there, further_on, longer, rest_is}
 use Rattle.audit_channels.proofs.cycle.cycle_from.Goals as goal
@@ -45,4 +45,4 @@ returns c =
     let same : c.deref-3.result.now ≡ way = c.deref-3.ensures.value in
     let items : c.in_ok-cycle.cycle.items ≡ drop index way =
     c.in_ok-cycle.ensures.items ∙ ap (λ (xs : List ℕ). take (length xs - index) (drop index xs)) same ∙ rest_is index way in
-    subst (IsCycle c.args.waits.now) (sym items) there.1
+    subst (IsCycle (Follows c.args.waits.now)) (sym items) there.1

@@ -5,5 +5,5 @@ use Rattle.audit_channels.proofs.cycle_text.write_exit.Goals as goal
 
 pub returns : goal.returns
 returns g c =
-    let port = writes_as _ _ _ _ _ _ _ (λ i. port_text (c.switch_of.ensures i) (c.new-port.ensures i)) c.write_port.ensures.writes in
+    let port = writes_as _ _ _ _ _ _ _ (λ i. port_text (c.guid.ensures i) (c.new-port.ensures i)) c.write_port.ensures.writes in
     writes_then _ _ _ _ _ _ _ _ c.in_ok-write.ensures.writes.ok port

@@ -4,11 +4,12 @@ use Rattle.std.proofs.lemmas.Result.{IfOk-weaker}
 use Rattle.std.specs.Io.KnownBytes.{Appends}
 use Rattle.fact_store.specs.View.{Facts, cells_of}
 use Rattle.held_tables.specs.Held.{HeldPlan}
-use Rattle.audit_channels.specs.Waiting.{NoneShorter}
+use Rattle.audit_channels.specs.ChannelOrders.{IsCycleIfAny, NoneShorter}
+use Rattle.audit_channels.specs.Waiting.{WaitsFor}
 use Rattle.audit_report.specs.Appendix.{appendix_text, shown}
 use Rattle.audit_report.specs.AuditText.{findings_text}
 use Rattle.audit_report.specs.LineLimit.{most_lines}
-use Rattle.audit_report.specs.Passing.{Audited, IsCycle}
+use Rattle.audit_report.specs.Passing.{Audited}
 use Rattle.audit_run.specs.declared.flaw.Flaw.{Flaw}
 use Rattle.audit_run.specs.AuditRun.{AreFlaws, AreFoundByLane, IsFoundFree, IsFree, loops_text}
 use Rattle.audit_run.specs.VerdictText.{verdict_line}
@@ -42,8 +43,8 @@ returns-clause-audited g c =
     (subst (λ (x : Audited). AreFlaws (IsFoundFree asked.max_load x.facts x.held found) flaws) same found_flaws) in
     IfOk-weaker c.tell.result _ _ (λ passed says. record {
       cycle = audit.cycle;
-      waits = subst (λ (f : Facts). IsCycle (cells_of f) held audit.cycle) subnet_is audit_is.cycle;
-      shortest = subst (λ (f : Facts). NoneShorter (cells_of f) held audit.cycle) subnet_is audit_is.shortest;
+      waits = subst (λ (f : Facts). IsCycleIfAny (WaitsFor (cells_of f) held) audit.cycle) subnet_is audit_is.cycle;
+      shortest = subst (λ (f : Facts). NoneShorter (WaitsFor (cells_of f) held) audit.cycle) subnet_is audit_is.shortest;
       found = found;
       by_lane = right;
       flaws = says.flaws;

@@ -1,21 +1,40 @@
--- A loop was found, with its LIDs.
-use Rattle.std.proofs.Common.{List, ℕ, subst}
+-- No loop, or a loop with its LIDs.
+use Rattle.std.proofs.Common.{List, ℕ, [], refl, subst, arith}
 use Rattle.fact_store.specs.View.{cells_of}
 use Rattle.audit_channels.specs.declared.order.ChannelOrder.{ChannelOrder}
+use Rattle.audit_channels.specs.ChannelOrders.{IsOrder, IsShortest}
+use Rattle.audit_channels.specs.Waiting.{channel_count}
+use Rattle.audit_channels.proofs.Orders.{can_rise, cycle_there}
 use Rattle.step_loops.specs.LidsInLoop.{AreLoopLids}
-use Rattle.step_loops.specs.StepOrder.{IsShortestInStep, IsStepOrder}
-use Rattle.next_run.proofs.StepIs.{some_cycle}
+use Rattle.step_loops.specs.StepOrder.{WaitsFor}
+use Rattle.next_run.specs.StepLoops.{IsLoopInStep}
 use Rattle.next_run.proofs.loop_text.StepLoop.of.Goals as goal
 
-pub returns : goal.returns
-returns c =
+pub returns-in-Rises : goal.returns-in-Rises
+returns-in-Rises c =
     let cells = cells_of c.args.held.now.facts in
     let held = c.args.held.now.held in
     let next = c.args.next.now.held in
+    let F = WaitsFor cells held next in
+    let order = subst (IsOrder F (channel_count cells)) c.in-Rises.is c.in_ok-step_order.ensures.order in
+    let none : IsLoopInStep cells held next [] [] = record {
+      waits = can_rise F (channel_count cells) _ order;
+      shortest = λ other is. omega arith;
+      lids_are = record { as_many = refl; each = λ i less. absurd (omega (arith, less)) };
+    } in
+    ?
+
+pub returns-in-Cycle : goal.returns-in-Cycle
+returns-in-Cycle c =
+    let cells = cells_of c.args.held.now.facts in
+    let held = c.args.held.now.held in
+    let next = c.args.next.now.held in
+    let F = WaitsFor cells held next in
     let channels = c.in-Cycle.channels.items in
     let lids = c.in_ok-lids-in-Cycle.lids.items in
-    let waits = subst (λ (found : ChannelOrder). IsStepOrder cells held next found) c.in-Cycle.is c.in_ok-step_order.ensures.order in
-    let shortest = subst (λ (found : ChannelOrder). IsShortestInStep cells held next found) c.in-Cycle.is c.in_ok-step_order.ensures.shortest in (
-      some_cycle cells held next channels waits shortest,
-      subst (λ (xs : List ℕ). AreLoopLids cells held next xs lids) c.deref.ensures.value c.in_ok-lids-in-Cycle.ensures,
-    )
+    let order = subst (IsOrder F (channel_count cells)) c.in-Cycle.is c.in_ok-step_order.ensures.order in
+    record {
+      waits = cycle_there F channels order;
+      shortest = subst (IsShortest F) c.in-Cycle.is c.in_ok-step_order.ensures.shortest;
+      lids_are = subst (λ (xs : List ℕ). AreLoopLids cells held next xs lids) c.deref.ensures.value c.in_ok-lids-in-Cycle.ensures;
+    }

@@ -4,9 +4,9 @@ use Rattle.std.proofs.lemmas.Option.{unwrap_or-slice_get}
 use Rattle.std.specs.Option.{unwrap_or}
 use Rattle.fact_store.specs.View.{cells_of}
 use Rattle.subnet_view.specs.Reading.{switches}
-use Rattle.next_run.proofs.step_order_text.switch_at.Goals as goal
+use Rattle.packet_walks.proofs.network.Network.guid.Goals as goal
 
 pub returns : goal.returns
 returns c =
     c.unwrap_or.ensures ∙ (λ i. unwrap_or (c.switch.ensures i) (c.new.ensures i))
-    ∙ unwrap_or-slice_get (switches (cells_of c.args.network.now.facts)) c.args.index 0
+    ∙ unwrap_or-slice_get (switches (cells_of c.args.self.now.facts)) c.args.index 0
