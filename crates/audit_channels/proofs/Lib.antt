@@ -7,6 +7,7 @@ pub mod Made
 pub mod Orders
 pub mod Passing
 pub mod Searches
+pub mod TakenEdges
 pub mod Waiting
 pub mod Written
 pub mod ChannelWays

@@ -1,6 +1,6 @@
 -- The channels that packets take in a fabric, and their numbers. InfiniBand Architecture Specification, Volume 1:
 -- switches, unicast forwarding by the linear forwarding table; link layer, flow control by credits.
-use Rattle.std.specs.Prelude.{◌≡◌, ◌<◌, ◌≤◌, ◌+◌, ◌*◌, ℕ, List, Some, IsTrue, slice_get, slice_index_or}
+use Rattle.std.specs.Prelude.{◌≡◌, ◌<◌, ◌≤◌, ◌+◌, ◌*◌, ℕ, List, Some, IsTrue, slice_get}
 use Rattle.fabric_model.specs.declared.cable.NodePort.{NodePort}
 use Rattle.smp_bytes.specs.NodeType.{is_switch}
 use Rattle.fabric_model.specs.Fabric.{Node, Fabric, IsNodeAt, IsEndPort}

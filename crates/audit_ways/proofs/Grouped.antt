@@ -23,31 +23,13 @@ use Rattle.packet_walks.specs.HopsByTables.{AreBrought, end_for, is_at}
 use Rattle.held_tables.specs.Tables.{entry_for}
 use Rattle.packet_walks.proofs.InTime.{found_at}
 use Rattle.port_graph.proofs.Counts.{length_map}
+use Rattle.packet_walks.proofs.FarRows.{far_within}
 use Rattle.audit_ways.specs.declared.way_tally.WayTally.{WayTally}
 use Rattle.audit_ways.specs.declared.sender_groups.Groups.{Groups}
 use Rattle.audit_ways.specs.SenderGroups.{AreGrouped, IsGroupedWith, IsWithin, by_switch, packets_at}
 use Rattle.audit_ways.specs.WayTally.{IsCounted, IsCountedMore, Sum, grouped, weighed}
 use Rattle.audit_ways.specs.Ways.{Way, one_wire, reaches, reaches_if, way_from, way_of, way_over, ways_to}
 use Rattle.audit_ways.proofs.Counted.{counted_as, none_weighed, weighed_set}
-
--- a wire leads to a switch that there is
-pub far_within : (cells : Cells) (g p index : ℕ) → far_of cells g p ≡ Switch index → index < length (switches cells)
-far_within cells g p index e =
-    elim (across cells g p) as (λ q. far_to (switches cells) q ≡ Switch index → index < length (switches cells)) [
-      | None ↦ λ h. absurd (cc)
-      | Some q ↦ λ h. (elim (index_in (switches cells) q.0) as (λ k. index_in (switches cells) q.0 ≡ k → far_at q k ≡ Switch index → index
-          < length (switches cells)) [
-            | None ↦ λ is over. absurd (cc)
-            | Some k ↦ λ is over.
-                let same : k ≡ index = same_switch k index over in
-                let found = position-Some (λ x. x == q.0) (switches cells) k 0 is in
-                let less = found.0 in
-                omega (arith, same, less)
-          ] refl h)
-    ] e
-  where
-    same_switch : (k index : ℕ) → Switch k ≡ Switch index → k ≡ index
-    same_switch k index h = cc
 
 -- a wire that leads to no switch
 over_none : (far : Far) → ((index : ℕ) → far ≡ Switch index → ⊥) → switch_over far ≡ None

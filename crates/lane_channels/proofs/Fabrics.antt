@@ -1,21 +1,17 @@
 -- In a fabric that facts describe and that holds tables and lanes, packets take channels by lane from stop to stop.
-use Rattle.std.proofs.Common.{◌≡◌, ◌≢◌, ℕ, zero, suc, ◌<◌, ◌≤◌, ◌+◌, ◌*◌, ◌/◌, ◌%◌, Bool, true, false, cond, ◌||◌, List, [], ◌∷◌, Option, None, Some, length}
+use Rattle.std.proofs.Common.{◌≡◌, ◌≢◌, ℕ, zero, suc, ◌<◌, ◌≤◌, ◌+◌, ◌*◌, ◌/◌, ◌%◌, Bool, true, false, cond, List, [], ◌∷◌, Option, None, Some, length}
 use Rattle.std.proofs.Common.{refl, sym, ap, ◌∙◌, subst, arith}
-use Rattle.std.specs.Prelude.{Contains, is_some, slice_get, slice_index_or, map, nat_lt, ◌==◌, ◌&&◌}
+use Rattle.std.specs.Prelude.{Contains, is_some, slice_get, slice_index_or, nat_lt, ◌&&◌}
 use Rattle.std.specs.Option.{option_map_or}
 use Rattle.std.proofs.lemmas.Bool.{and_from, lt-ltb}
 use Rattle.std.proofs.lemmas.Option.{same_Some, get_or_from_slice_get, slice_get-get_or}
 use Rattle.fabric_model.specs.declared.cable.NodePort.{NodePort}
-use Rattle.fabric_model.specs.declared.course.Course.{Course}
-use Rattle.fabric_model.specs.declared.course.Course.TheVariants.{Delivers, LeavesBy, Drops}
-use Rattle.fabric_model.specs.Cables.{is_same_port}
+use Rattle.fabric_model.specs.declared.course.Course.TheVariants.{LeavesBy}
 use Rattle.smp_bytes.specs.NodeType.{is_switch}
-use Rattle.fabric_model.specs.Fabric.{Node, Fabric, IsNodeAt, IsEndPort, IsEndPortNumber, is_switch_at, owns}
+use Rattle.fabric_model.specs.Fabric.{Node, Fabric, IsNodeAt, IsEndPortNumber, is_switch_at}
 use Rattle.fabric_model.specs.FabricWalks.{IsWire, IsJoinedTo, vertex_of}
-use Rattle.fabric_model.specs.Forwarding.{Standing, sent_from, arrived_at, course, adapter_course, switch_course, Hop, Goes}
-use Rattle.fabric_model.proofs.Cabled.{same_port-is, same_port-refl}
-use Rattle.fabric_model.proofs.FabricWalks.{port_at, same_port, type_at, switch_vertex, adapter_vertex, switch_number}
-use Rattle.fabric_model.proofs.NodeCourses.{switch_enters}
+use Rattle.fabric_model.specs.Forwarding.{Standing, sent_from, arrived_at, course, Hop, Goes}
+use Rattle.fabric_model.proofs.FabricWalks.{port_at, type_at, switch_vertex}
 use Rattle.port_graph.specs.declared.edge.Edge.{Edge}
 use Rattle.fact_store.specs.View.{cells_of}
 use Rattle.subnet_view.specs.declared.end_port.EndPort.{EndPort}
@@ -24,16 +20,15 @@ use Rattle.subnet_view.specs.Reading.{Cells, switches}
 use Rattle.subnet_view.specs.Wires.{across}
 use Rattle.subnet_view.specs.FabricAgreement.{Part, IsEndPortIn}
 use Rattle.subnet_view.proofs.EndPortList.{end_ports_law}
-use Rattle.held_tables.specs.declared.far_end.Far.TheVariants.{Nothing, Switch}
-use Rattle.held_tables.specs.Switches.{index_in, far_at, far_to, far_of, row_of}
+use Rattle.held_tables.specs.declared.far_end.Far.TheVariants.{Switch}
+use Rattle.held_tables.specs.Switches.{index_in, far_at, far_to, far_of}
 use Rattle.held_tables.specs.Held.{HeldPlan}
-use Rattle.held_tables.specs.Tables.{counted, entry_for}
-use Rattle.packet_walks.specs.Edges.{edge_by, edge_to, edges_of}
+use Rattle.packet_walks.specs.Edges.{edges_of}
 use Rattle.packet_walks.specs.Fabrics.{IsSeenIn}
-use Rattle.packet_walks.proofs.FabricParts.{indexed, listed, wire_told, switch_end}
-use Rattle.packet_walks.proofs.FarRows.{has, row_at}
-use Rattle.packet_walks.proofs.Told.{IsClosed, switch_goes, joined_closed}
+use Rattle.packet_walks.proofs.FabricParts.{indexed, wire_told, switch_end}
+use Rattle.packet_walks.proofs.Told.{IsClosed, joined_closed}
 use Rattle.audit_channels.specs.Fabrics.{IsChannel}
+use Rattle.audit_channels.proofs.TakenEdges.{edges, known, leaves, left_adapter, left_switch, number_at, own_vertex, stays}
 use Rattle.lane_channels.specs.Fabrics.{HoldLanes, IsCarried, IsLaneChannel, LaneMaps, came_by}
 use Rattle.lane_channels.specs.Fabrics.{lane_at}
 use Rattle.lane_channels.specs.LaneLaws.{LaneChannelsRise}
@@ -59,92 +54,15 @@ stop_port index port few = omega arith
 one_number : (o : Option ℕ) (i j : ℕ) → o ≡ Some i → o ≡ Some j → i ≡ j
 one_number o i j a b = same_Some i j (sym a ∙ b)
 
-same_out : (p q : NodePort) → LeavesBy p ≡ LeavesBy q → p ≡ q
-same_out p q e = cc
-
--- an entry sends a packet on by its port alone
-record ByEntry (a b : Bool) (k n : ℕ) (p : NodePort) : Type 0 where
-  there : a ≡ false
-  onward : b ≡ false
-  out : p ≡ port_at k n
-
-by_entry : (a b : Bool) (k n : ℕ) (p : NodePort) → cond a Drops (cond b (Delivers (port_at k 0)) (LeavesBy (port_at k n))) ≡ LeavesBy p → ByEntry a b k n p
-by_entry true b k n p e = absurd (cc)
-by_entry false true k n p e = absurd (cc)
-by_entry false false k n p e = record { there = refl; onward = refl; out = same_out p (port_at k n) (sym e) }
-
-by_adapter : (own wired : Bool) (q p : NodePort) → cond own (Delivers q) (cond wired Drops (LeavesBy q)) ≡ LeavesBy p → (wired ≡ false) × (p ≡ q)
-by_adapter true wired q p e = absurd (cc)
-by_adapter false true q p e = absurd (cc)
-by_adapter false false q p e = (refl, same_out p q (sym e))
-
-edge_at : (guids : List ℕ) (F : ℕ → Option Edge) (i g : ℕ) → slice_get guids i ≡ Some g → slice_index_or (map F guids) i None ≡ F g
-edge_at [] F i g e = cc
-edge_at (x ∷ guids) F zero g e = ap F (same_Some x g e)
-edge_at (x ∷ guids) F (suc i) g e = edge_at guids F i g e
-
--- a packet leaves by a port of the vertex at which it stands
-record Leaves (f : Fabric) (st : Standing) (p : NodePort) : Type 0 where
-  node : Node
-  node_there : IsNodeAt f st.at.node node
-  node_is : p.node ≡ st.at.node
-  vertex_is : vertex_of f p ≡ vertex_of f st.at
-
 module _ (f : Fabric) (lid : ℕ) where
-  abbrev does : Standing → Node → Course
-  does st n =
-      cond (is_switch n.kind) (switch_course n.ports st.at.node (f.top st.at.node) lid (f.entry st.at.node lid)) (adapter_course (owns f st.at lid) st)
-
-  -- an adapter port sends only its own packets on
-  left_adapter : (st : Standing) (p : NodePort) (node : Node) → IsNodeAt f st.at.node node → is_switch node.kind ≡ false → course f lid st ≡ LeavesBy p
-      → (st.by_wire ≡ false) × (p ≡ st.at)
-  left_adapter st p node at kind e =
-      let it : does st node ≡ LeavesBy p = sym (ap (λ o. option_map_or (does st) o Drops) at) ∙ e in
-      let way = switch_course node.ports st.at.node (f.top st.at.node) lid (f.entry st.at.node lid) in
-      by_adapter (owns f st.at lid) st.by_wire st.at p (sym (ap (λ t. cond t way (adapter_course (owns f st.at lid) st)) kind) ∙ it)
-
-  abbrev number_at : ℕ → ℕ
-  number_at k = counted lid (f.top k) (f.entry k lid)
-
-  left_switch : (st : Standing) (p : NodePort) (node : Node) → IsNodeAt f st.at.node node → is_switch node.kind ≡ true → course f lid st ≡ LeavesBy p
-      → p ≡ port_at st.at.node (number_at st.at.node)
-  left_switch st p node at kind e =
-      let n = number_at st.at.node in
-      (by_entry (n == 255 || nat_lt node.ports n) (n == 0) st.at.node n p (sym (switch_enters f lid st node at kind) ∙ e)).out
-
-  node_left : (st : Standing) (p : NodePort) → course f lid st ≡ LeavesBy p → (node : Node) × IsNodeAt f st.at.node node
-  node_left st p e =
-      elim (slice_get f.nodes st.at.node) as (λ o. slice_get f.nodes st.at.node ≡ o → option_map_or (does st) o Drops ≡ LeavesBy p
-      → (node : Node) × IsNodeAt f st.at.node node) [
-        | None ↦ λ at k. absurd (cc)
-        | Some node ↦ λ at k. (node, at)
-      ] refl e
-
-  leaves : (st : Standing) (p : NodePort) → course f lid st ≡ LeavesBy p → Leaves f st p
-  leaves st p e =
-      let (node, at) = node_left st p e in
-      elim (is_switch node.kind) as (λ t. is_switch node.kind ≡ t → Leaves f st p) [
-        | true ↦ λ kind.
-            let same : p.node ≡ st.at.node = ap (λ (q : NodePort). q.node) (left_switch st p node at kind e) in
-            let here : is_switch_at f st.at.node ≡ true = type_at f st.at.node node at ∙ kind in
-            record {
-              node = node;
-              node_there = at;
-              node_is = same;
-              vertex_is = switch_vertex f p (ap (is_switch_at f) same ∙ here) ∙ ap (λ n. port_at n 0) same ∙ sym (switch_vertex f st.at here);
-            }
-        | false ↦ λ kind.
-            let same = (left_adapter st p node at kind e).1 in
-            record { node = node; node_there = at; node_is = ap (λ (q : NodePort). q.node) same; vertex_is = ap (vertex_of f) same }
-      ] refl
-
   -- a switch forwards a packet by the same port again
   again : (st : Standing) (h k : Hop) (node : Node) → IsNodeAt f h.into.node node → is_switch node.kind ≡ true → course f lid st ≡ LeavesBy h.out
       → course f lid (arrived_at h.into) ≡ LeavesBy k.out → h.out ≡ h.into → k.out ≡ h.out
   again st h k node at kind one two loop =
-      let same : st.at.node ≡ h.into.node = sym (leaves st h.out one).node_is ∙ ap (λ (q : NodePort). q.node) loop in
+      let same : st.at.node ≡ h.into.node = sym (leaves f lid st h.out one).node_is ∙ ap (λ (q : NodePort). q.node) loop in
       let from : IsNodeAt f st.at.node node = ap (slice_get f.nodes) same ∙ at in
-      left_switch (arrived_at h.into) k.out node at kind two ∙ ap (λ n. port_at n (number_at n)) (sym same) ∙ sym (left_switch st h.out node from kind one)
+      left_switch f lid (arrived_at h.into) k.out node at kind two ∙ ap (λ n. port_at n (number_at f lid n)) (sym same)
+      ∙ sym (left_switch f lid st h.out node from kind one)
 
 -- where a packet stands that takes `hops`, from its sender's port on
 abbrev into_at : List Hop → ℕ → NodePort
@@ -167,14 +85,6 @@ earlier [] j k e = absurd (cc)
 earlier (x ∷ hops) zero k e = (x, refl)
 earlier (x ∷ hops) (suc j) k e = earlier hops j k e
 
--- an end port is its own vertex
-own_vertex : (f : Fabric) (v : NodePort) → IsEndPort f v → vertex_of f v ≡ v
-own_vertex f v is =
-    elim (is_switch_at f v.node) as (λ t. is_switch_at f v.node ≡ t → vertex_of f v ≡ v) [
-      | true ↦ λ e. switch_vertex f v e ∙ same_port (port_at v.node 0) v refl (sym (switch_number f v is e))
-      | false ↦ λ e. adapter_vertex f v e
-    ] refl
-
 -- each edge by `mixed` is one by some table
 abbrev pub IsAmong : SeenByLane → List HeldPlan → HeldPlan → ℕ → Type 0
 IsAmong s others mixed lid =
@@ -194,32 +104,8 @@ module _ (s : SeenByLane) (others : List HeldPlan) (mixed : HeldPlan) (f : Fabri
   abbrev Within : Standing → Type 0
   Within st = part (vertex_of f st.at)
 
-  -- over a wire it stays within the part
-  stays : (st : Standing) (hop : Hop) → Within st → course f lid st ≡ LeavesBy hop.out → f.across hop.out ≡ Some hop.into → Within (arrived_at hop.into)
-  stays st hop within on cable =
-      let leaving : part (vertex_of f hop.out) = subst part (sym (leaves f lid st hop.out on).vertex_is) within in
-      elim (is_same_port hop.out hop.into) as (λ t. is_same_port hop.out hop.into ≡ t → part (vertex_of f hop.into)) [
-        | true ↦ λ e. subst (λ (q : NodePort). part (vertex_of f q)) (same_port-is hop.out hop.into e) leaving
-        | false ↦ λ e. closed hop.out hop.into leaving
-            (record {
-              cable = cable;
-              different = λ same.
-                  let is : is_same_port hop.out hop.out ≡ true = same_port-refl hop.out in
-                  let moved : is_same_port hop.out hop.out ≡ is_same_port hop.out hop.into = ap (is_same_port hop.out) same in
-                  cc;
-            })
-      ] refl
-
-  -- the switch that a channel leads to has an index
-  known : (q : NodePort) (to : Node) → IsNodeAt f q.node to → is_switch to.kind ≡ true → part (vertex_of f q)
-      → (index : ℕ) × (index_in (switches cells) to.guid ≡ Some index)
-  known q to at kind within =
-      let vertex = switch_vertex f q (type_at f q.node to at ∙ kind) in
-      elim (index_in (switches cells) to.guid) as (λ o. index_in (switches cells) to.guid ≡ o
-      → (index : ℕ) × (index_in (switches cells) to.guid ≡ Some index)) [
-        | Some j ↦ λ e. (j, e)
-        | None ↦ λ e. absurd (listed part s.seen.facts mixed f seen q.node to at kind (subst part vertex within) e)
-      ] refl
+  stays_on : (st : Standing) (hop : Hop) → Within st → course f lid st ≡ LeavesBy hop.out → f.across hop.out ≡ Some hop.into → Within (arrived_at hop.into)
+  stays_on = stays part s.seen.facts mixed f seen closed lid some
 
   small : (p q : NodePort) → f.across p ≡ Some q → p.port ≤ 254
   small p q cable =
@@ -236,49 +122,28 @@ module _ (s : SeenByLane) (others : List HeldPlan) (mixed : HeldPlan) (f : Fabri
   crosses : (st : Standing) (hop : Hop) (channel : ℕ) (c : IsChannel cells f hop channel) → Within st → course f lid st ≡ LeavesBy hop.out
       → Crosses hop c.index c.to
   crosses st hop channel c within on =
-      let facts = s.seen.facts in
-      let held = mixed in
       let its = leaves f lid st hop.out on in
       let node = c.from in
-      let g = node.guid in
       let k = st.at.node in
-      let n = entry_for held lid g in
       let at : IsNodeAt f k node = sym (ap (slice_get f.nodes) its.node_is) ∙ c.from_there in
       let switch : is_switch_at f k ≡ true = type_at f k node at ∙ c.from_switch in
       let here : part (port_at k 0) = subst part (switch_vertex f st.at switch) within in
-      let end = switch_end part facts held f seen k node at c.from_switch here in
-      let goes = switch_goes part facts held f seen closed lid some st node at c.from_switch here in
-      let by = by_entry (n == 255 || nat_lt node.ports n) (n == 0) k n hop.out (sym goes ∙ on) in
-      let few = (seen.is_fabric.counts k node at).1 in
-      let within_ports : n ≤ node.ports = has n node.ports by.there in
-      let port : hop.out.port ≡ n = ap (λ (q : NodePort). q.port) by.out in
-      let leaving : part (vertex_of f hop.out) = subst part (sym its.vertex_is) within in
-      let to = known hop.into c.to c.to_there c.to_switch (closed hop.out hop.into leaving c.wire) in
-      let told : across cells g hop.out.port ≡ Some (c.to.guid, hop.into.port) =
-      wire_told part facts held f seen hop.out hop.into node c.to c.wire.cable c.wire.different c.from_there c.to_there leaving in
-      let far : far_of cells g n ≡ Switch to.0 =
-      ap (far_to (switches cells)) (ap (across cells g) (sym port) ∙ told) ∙ ap (far_at (c.to.guid, hop.into.port)) to.1 in
-      let in_row : slice_index_or (row_of cells g) n Nothing ≡ Switch to.0 = row_at cells g n (omega arith) ∙ far in
-      let nth = (indexed part facts held f seen (port_at k 0) node c.index end c.index_is).1 in
+      let end = switch_end part s.seen.facts mixed f seen k node at c.from_switch here in
+      let by = edges part s.seen.facts mixed f seen closed lid some st hop channel c within on in
       let little = small hop.out hop.into c.wire.cable in
       let quotient = stop_switch c.index hop.out.port little in
       let rest = stop_port c.index hop.out.port little in
       record {
-        far = to.0;
-        far_is = to.1;
-        edge =
-            among c.index (record { port = hop.out.port; to = to.0 })
-            (edge_at (switches cells) (λ h. edge_by (row_of cells h) (entry_for held lid h)) c.index g nth
-            ∙ ap (λ t. cond t None (edge_to n (slice_index_or (row_of cells g) n Nothing))) by.onward
-            ∙ ap (edge_to n) in_row
-            ∙ ap (λ m. Some (record { port = m; to = to.0 })) (sym port));
+        far = by.far;
+        far_is = by.far_is;
+        edge = among c.index (record { port = hop.out.port; to = by.far }) by.edge;
         port =
             (λ i. option_map_or (λ h. far_port cells h (rest i)) (slice_get (switches cells) (quotient i)) 0)
-            ∙ ap (λ o. option_map_or (λ h. far_port cells h hop.out.port) o 0) nth
-            ∙ ap (λ o. option_map_or port_in o 0) told;
+            ∙ ap (λ o. option_map_or (λ h. far_port cells h hop.out.port) o 0) by.at
+            ∙ ap (λ o. option_map_or port_in o 0) by.told;
         lane = λ came.
             ap (λ m. vl m came hop.out.port level) its.node_is ∙ holds (port_at k 0) node came hop.out.port level end c.from_switch
-            ∙ ap (λ h. lane_of s.said h came hop.out.port level) (sym (get_or_from_slice_get (switches cells) c.index g 0 nth));
+            ∙ ap (λ h. lane_of s.said h came hop.out.port level) (sym (get_or_from_slice_get (switches cells) c.index node.guid 0 by.at));
       }
 
   -- a packet that is carried over a channel comes to the next stop
@@ -370,7 +235,7 @@ module _ (s : SeenByLane) (others : List HeldPlan) (mixed : HeldPlan) (f : Fabri
     within_at (suc j) k e =
         let (h, is) = earlier hops j k e in
         let w = went f lid hops (sent_from source) end j h goes is in
-        subst (λ (p : NodePort). part (vertex_of f p)) (sym (into_is j h is)) (stays (there j) h (within_at j h is) w.0 w.1)
+        subst (λ (p : NodePort). part (vertex_of f p)) (sym (into_is j h is)) (stays_on (there j) h (within_at j h is) w.0 w.1)
 
     -- an adapter port's packet comes first to the switch that its wire leads to
     first_hop : (j : ℕ) (h : Hop) (from to : Node) (index : ℕ) → slice_get hops j ≡ Some h → IsNodeAt f (there j).at.node from → is_switch from.kind ≡ false
@@ -429,8 +294,8 @@ module _ (s : SeenByLane) (others : List HeldPlan) (mixed : HeldPlan) (f : Fabri
             | true ↦ λ kind.
                 let within = within_at j h is in
                 let at : IsNodeAt f h.out.node its.node = ap (slice_get f.nodes) its.node_is ∙ its.node_there in
-                let i = known h.out its.node at kind (subst part (sym its.vertex_is) within) in
-                let c : IsChannel cells f h (256 * i.0 + h.out.port) =
+                let i = known part s.seen.facts mixed f seen closed lid some h.out its.node at kind (subst part (sym its.vertex_is) within) in
+                let c : IsChannel cells f h (256 * i.index + h.out.port) =
                 record {
                   wire = wire;
                   from = its.node;
@@ -439,24 +304,24 @@ module _ (s : SeenByLane) (others : List HeldPlan) (mixed : HeldPlan) (f : Fabri
                   to = d.from;
                   to_there = to_at;
                   to_switch = d.from_switch;
-                  index = i.0;
-                  index_is = i.1;
+                  index = i.index;
+                  index_is = i.index_is;
                   channel_is = refl;
                 } in
-                let before = comes j h (256 * i.0 + h.out.port) is (omega arith) c in
-                let x = crosses (there j) h (256 * i.0 + h.out.port) c within w.0 in
+                let before = comes j h (256 * i.index + h.out.port) is (omega arith) c in
+                let x = crosses (there j) h (256 * i.index + h.out.port) c within w.0 in
                 let same : x.far ≡ d.index = one_number (index_in (switches cells) d.from.guid) x.far d.index x.far_is d.index_is in
                 let few = few_came j in
                 let at_port : ℕ = came_by j hops in
                 let there_is : stop_at x.far h.into.port ≡ stop_at d.index (came_by (suc j) hops) = λ n. stop_at (same n) (sym came n) in
                 let next =
-                next_is (stop_at i.0 at_port) i.0 at_port h d.from x (stop_switch i.0 at_port few) (stop_port i.0 at_port few)
-                (carries j h (256 * i.0 + h.out.port) (omega arith) is c) in (
+                next_is (stop_at i.index at_port) i.index at_port h d.from x (stop_switch i.index at_port few) (stop_port i.index at_port few)
+                (carries j h (256 * i.index + h.out.port) (omega arith) is c) in (
                   suc before.0,
                   (
-                    stop_at i.0 at_port,
+                    stop_at i.index at_port,
                     before.1,
-                    comes_on (stop_at i.0 at_port) (stop_at x.far h.into.port)
+                    comes_on (stop_at i.index at_port) (stop_at x.far h.into.port)
                         (stop_at d.index (came_by (suc j) hops)) next there_is,
                   ),
                 )

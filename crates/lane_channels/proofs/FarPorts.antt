@@ -13,10 +13,10 @@ use Rattle.subnet_view.specs.Reading.{Cells, switches}
 use Rattle.held_tables.specs.declared.senders.Sender.{Sender}
 use Rattle.std.specs.declared.alloc.Global.{Global}
 use Rattle.lane_channels.specs.LaneNetwork.{lists_of}
-use Rattle.subnet_view.specs.Wires.{across}
 use Rattle.held_tables.specs.declared.far_end.Far.{Far}
 use Rattle.held_tables.specs.declared.far_end.Far.TheVariants.{Nothing, Switch, Port}
-use Rattle.held_tables.specs.Switches.{far_at, far_of, far_to, first_by, first_switch, index_in, sender_of, switch_over}
+use Rattle.held_tables.specs.Switches.{far_of, first_by, first_switch, index_in, sender_of, switch_over}
+use Rattle.packet_walks.proofs.FarRows.{far_within}
 use Rattle.lane_channels.specs.FarPorts.{far_port, far_port_by}
 
 -- an element of a list of the numbers from `first` on
@@ -49,22 +49,6 @@ port_there cells ports number are =
 
 pub index_below : (guids : List ℕ) (g i : ℕ) → index_in guids g ≡ Some i → i < length guids
 index_below guids g i e = (position-Some (λ x. x == g) guids i 0 e).0
-
-far_within : (cells : Cells) (g p i : ℕ) → far_of cells g p ≡ Switch i → i < length (switches cells)
-far_within cells g p i e =
-    elim (across cells g p) as (λ o. far_to (switches cells) o ≡ Switch i → i < length (switches cells)) [
-      | None ↦ λ k. absurd (cc)
-      | Some q ↦ λ k. at q (index_in (switches cells) q.0) refl k
-    ] e
-  where
-    at : (q : ℕ × ℕ) (o : Option ℕ) → index_in (switches cells) q.0 ≡ o → far_at q o ≡ Switch i → i < length (switches cells)
-    at q None is k = absurd (cc)
-    at q (Some j) is k =
-        let less = index_below (switches cells) q.0 j is in
-        let same : j ≡ i = same_index j i k in omega arith
-      where
-        same_index : (j i : ℕ) → Switch j ≡ Switch i → j ≡ i
-        same_index j i k = cc
 
 -- the first switch of an end port's packets is one of the switches
 pub first_below : (cells : Cells) (e : EndPort) (i : ℕ) → first_switch (sender_of cells e) ≡ Some i → i < length (switches cells)

@@ -1,12 +1,11 @@
 -- Numbers of channels by lane.
-use Rattle.std.proofs.Common.{◌≡◌, ◌<◌, ◌+◌, ◌*◌, ◌/◌, ◌%◌, ℕ, zero, suc, Bool, List, [], ◌∷◌, inl, inr, arith}
+use Rattle.std.proofs.Common.{◌≡◌, ◌<◌, ◌+◌, ◌*◌, ◌/◌, ◌%◌, ℕ, zero, suc, List, [], ◌∷◌, inl, inr, arith}
 use Rattle.std.specs.Prelude.{Option, None, Some, slice_index_or}
 use Rattle.port_graph.specs.declared.edge.Edge.{Edge}
 use Rattle.fact_store.specs.View.{cells_of}
 use Rattle.packet_walks.specs.Edges.{edges_of}
 use Rattle.audit_channels.specs.Column.{TakesAcross, number_of}
 use Rattle.audit_channels.proofs.Orders.{no_cycle}
-use Rattle.lane_channels.specs.LaneNetwork.{SeenByLane}
 use Rattle.lane_channels.specs.LaneLaws.{AllCarried, NeverBothByLane, OneLaneSuffices}
 use Rattle.lane_channels.specs.Stops.{HasEdge, guid_at, lane_between, lane_by, port_across}
 use Rattle.lane_channels.specs.Waiting.{WaitsByLane}

@@ -26,6 +26,7 @@ use Rattle.plan_tables.proofs.HeldTables.{within_length}
 use Rattle.next_tables.specs.SettledRule.{step_at}
 use Rattle.next_tables.proofs.Entries.{at_mapped, past_mapped}
 use Rattle.next_tables.proofs.Steps.{at_index}
+use Rattle.packet_walks.proofs.FarRows.{far_within}
 use Rattle.next_tables.specs.SwitchPositions.{Leads, switch_at}
 
 -- to a switch an entry leads whoever owns the LID
@@ -170,25 +171,6 @@ pub leads_same_at : (cells : Cells) (a b : HeldPlan) (lid i j : ℕ) → Leads c
     → entry_for a lid (switch_at cells i) ≡ entry_for b lid (switch_at cells i) → Leads cells b lid i j
 leads_same_at cells a b lid i j l e =
     leads_from cells b lid i j (leads_within cells a lid i j l) (to_same cells a b lid (switch_at cells i) j e (leads_at cells a lid i j l))
-
--- a wire leads to a switch that there is
-pub far_within : (cells : Cells) (g p index : ℕ) → far_of cells g p ≡ Switch index → index < length (switches cells)
-far_within cells g p index e =
-    elim (across cells g p) as (λ q. far_to (switches cells) q ≡ Switch index → index < length (switches cells)) [
-      | None ↦ λ h. absurd (cc)
-      | Some q ↦ λ h. (elim (index_in (switches cells) q.0) as (λ k. index_in (switches cells) q.0 ≡ k → far_at q k ≡ Switch index → index
-          < length (switches cells)) [
-            | None ↦ λ is over. absurd (cc)
-            | Some k ↦ λ is over.
-                let same : k ≡ index = same_switch k index over in
-                let found = position-Some (λ x. x == q.0) (switches cells) k 0 is in
-                let less = found.0 in
-                omega (arith, same, less)
-          ] refl h)
-    ] e
-  where
-    same_switch : (k index : ℕ) → Switch k ≡ Switch index → k ≡ index
-    same_switch k index h = cc
 
 row_within : (cells : Cells) (g p j : ℕ) → slice_index_or (row_of cells g) p Nothing ≡ Switch j → j < length (switches cells)
 row_within cells g p j h =

@@ -1,22 +1,18 @@
 -- The ends that are found are those of the walks by the held tables.
-use Rattle.std.proofs.Common.{◌≡◌, Bool, ℕ, zero, suc, ◌/◌, ◌%◌, List, [], ◌∷◌, length, Option, None, Some, Result, Ok, Err, refl, sym, ap, ◌∙◌, subst, arith}
+use Rattle.std.proofs.Common.{◌≡◌, ℕ, zero, suc, ◌/◌, ◌%◌, List, [], ◌∷◌, length, Option, None, Some, Result, Ok, Err, refl, sym, ap, ◌∙◌, subst, arith}
 use Rattle.std.specs.Prelude.{map, slice_get, IfOk, ◌==◌}
 use Rattle.std.proofs.lemmas.List.Quantifiers.{position-Some}
 use Rattle.subnet_view.specs.declared.end_port.EndPort.{EndPort}
 use Rattle.subnet_view.specs.Reading.{Cells, switches}
 use Rattle.subnet_view.specs.EndPort.{end_ports}
 use Rattle.held_tables.specs.declared.held.HeldSwitch.{HeldSwitch}
-use Rattle.held_tables.specs.declared.held.HeldLid.{HeldLid}
 use Rattle.held_tables.specs.Held.{HeldPlan}
 use Rattle.packet_walks.specs.declared.packet_end.End.{End}
-use Rattle.held_tables.specs.declared.chains.Chains.{Chains}
 use Rattle.held_tables.specs.declared.senders.Sender.{Sender}
 use Rattle.held_tables.specs.declared.audited_switch.AuditedSwitch.{AuditedSwitch}
 use Rattle.packet_walks.specs.declared.next_hop.NextHop.{NextHop}
 use Rattle.packet_walks.specs.Edges.{edge_by, edge_of}
-use Rattle.held_tables.specs.declared.owners.Owner.{Owner}
 use Rattle.held_tables.specs.Switches.{row_of, node_of, sender_of}
-use Rattle.packet_walks.specs.Network.{IsNetwork}
 use Rattle.held_tables.specs.Blocks.{AreBlocks}
 use Rattle.packet_walks.specs.HopsByTables.{by_entry, cause_of, next_hops_of, entry_among, next_hop_by, next_hop_of, node_entry, first_hop, switch_step, switch_step_by, switch_step_of, AreBrought}
 use Rattle.held_tables.specs.Tables.{owners_of, index_of, top_of, block_at, entry_in, entry_at, entry_for, counted}

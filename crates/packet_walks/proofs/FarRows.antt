@@ -1,9 +1,10 @@
 -- What a switch's row of far ends says of a port, also if the switch has no such port.
 use Rattle.std.proofs.Common.{◌≡◌, ℕ, ◌<◌, ◌≤◌, true, false, ◌||◌, None, Some, refl, sym, ap, ◌∙◌, subst, arith, inl, inr, ◌⊎◌}
-use Rattle.std.specs.Prelude.{nat_lt, slice_index_or, ◌==◌}
+use Rattle.std.specs.Prelude.{length, nat_lt, slice_index_or, ◌==◌}
 use Rattle.std.proofs.lemmas.Bool.{cases_lt, eqb-true, ltb-true, ltb-false}
 use Rattle.std.proofs.lemmas.Option.{same_Some}
 use Rattle.std.proofs.lemmas.List.{get_or_past}
+use Rattle.std.proofs.lemmas.List.Quantifiers.{position-Some}
 use Rattle.std.proofs.lemmas.List.FromFn.{get_or-map-range_with_len, length-map-range_with_len}
 use Rattle.smp_bytes.specs.NodeType.{is_switch}
 use Rattle.fabric_model.specs.Fabric.{Node, Fabric, IsNodeAt}
@@ -14,9 +15,9 @@ use Rattle.subnet_view.specs.Reading.{Cells, switches}
 use Rattle.subnet_view.specs.Wires.{across}
 use Rattle.subnet_view.specs.FabricAgreement.{Part}
 use Rattle.held_tables.specs.Held.{HeldPlan}
-use Rattle.held_tables.specs.declared.far_end.Far.TheVariants.{Nothing}
+use Rattle.held_tables.specs.declared.far_end.Far.TheVariants.{Nothing, Switch}
 use Rattle.packet_walks.specs.Fabrics.{IsSeenIn}
-use Rattle.held_tables.specs.Switches.{far_of, far_to, row_of}
+use Rattle.held_tables.specs.Switches.{far_at, far_of, far_to, index_in, row_of}
 use Rattle.packet_walks.proofs.FabricParts.{switch_end, told_wire}
 
 -- there is no wire, as far as the facts know
@@ -63,3 +64,22 @@ no_port part facts held f seen k node p at kind within none =
                 elim none [ inl a ↦ absurd (omega arith) | inr b ↦ absurd (omega arith) ]
           ] refl)
     ]
+
+-- a wire leads to a switch that there is
+pub far_within : (cells : Cells) (g p index : ℕ) → far_of cells g p ≡ Switch index → index < length (switches cells)
+far_within cells g p index e =
+    elim (across cells g p) as (λ q. far_to (switches cells) q ≡ Switch index → index < length (switches cells)) [
+      | None ↦ λ h. absurd (cc)
+      | Some q ↦ λ h. (elim (index_in (switches cells) q.0) as (λ k. index_in (switches cells) q.0 ≡ k → far_at q k ≡ Switch index → index
+          < length (switches cells)) [
+            | None ↦ λ is over. absurd (cc)
+            | Some k ↦ λ is over.
+                let same : k ≡ index = same_switch k index over in
+                let found = position-Some (λ x. x == q.0) (switches cells) k 0 is in
+                let less = found.0 in
+                omega (arith, same, less)
+          ] refl h)
+    ] e
+  where
+    same_switch : (k index : ℕ) → Switch k ≡ Switch index → k ≡ index
+    same_switch k index h = cc

@@ -25,7 +25,8 @@ use Rattle.next_tables.specs.OrderRule.{IsChoice, IsNextByOrder, may_change, tri
 use Rattle.next_tables.specs.SwitchPositions.{is_bad, AreRight, IsOrder, switch_at}
 use Rattle.next_tables.specs.OrderedStepLaws.{AllEndByOrder, NextDeliverOrDropByOrder, AllAreStep, AllFollowTheRule, DeliverFrom}
 use Rattle.next_tables.specs.NextTables.{ordered_for}
-use Rattle.next_tables.proofs.Hops.{far_within, leads_from, leads_within, over_switch, placed, taken_same, to_same, to_within}
+use Rattle.packet_walks.proofs.FarRows.{far_within}
+use Rattle.next_tables.proofs.Hops.{leads_from, leads_within, over_switch, placed, taken_same, to_same, to_within}
 use Rattle.next_tables.proofs.by_order.Lost.{chosen, comes_made, comes_true}
 use Rattle.next_tables.proofs.by_order.Turns.{Goes, goes_well, mixed_goes, next_are_right, not_true}
 use Rattle.next_tables.proofs.by_order.Waits.{numbers_rise}
