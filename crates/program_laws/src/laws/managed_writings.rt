@@ -4,7 +4,7 @@ ghost use Rattle.program_laws.specs.AnsweredWritings.{AnsweredWritingsAreWritten
 ghost use Rattle.program_laws.specs.ManagedPings.{ManagedPingsArrive, SomeManagerDecides};
 ghost use Rattle.program_laws.specs.ManagedWritings.{WritesNothingElse, WritesWhatOneSweepSaw};
 ghost use Rattle.program_laws.specs.StandingPlans.{SettlesWhenWritten, StandingPlansAreWritten};
-ghost use Rattle.program_laws.specs.ToldPaths.{PathsAreToldAtSeats, ToldPathsArrive};
+ghost use Rattle.program_laws.specs.ToldPaths.{PathsAreToldAtSeats, SomePathIsToldAtASeat, ToldPathsArrive};
 
 /// Whatever is told to a new manager that decides by itself, and whatever happens around it, if its shell is faithful,
 /// each writing that it begins is of what its last sweep saw: it held no facts when that sweep began, and has learned
@@ -82,4 +82,10 @@ pub fn told_paths_arrive()
 /// has, or by both. If the path does not suit, the request is refused, since there is no such record.
 pub fn paths_are_told_at_seats()
     ensures { PathsAreToldAtSeats }
+{}
+
+/// Some manager tells a host a path under the conditions of `told_paths_arrive`, in answer to a request that gives the
+/// LIDs of both adapters: that of `some_manager_decides`, once it has written its plan.
+pub fn some_path_is_told_at_a_seat()
+    ensures { SomePathIsToldAtASeat }
 {}
