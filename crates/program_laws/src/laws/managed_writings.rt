@@ -60,8 +60,8 @@ pub fn answered_writings_are_written()
     ensures { AnsweredWritingsAreWritten }
 {}
 
-/// Once a new manager that decides by itself has ended its writing, pings arrive as in `managed_pings_arrive`, if, in
-/// place of a sweep with every answer and a plan that counts as written, three conditions hold: from the beginning of
+/// Once a new manager that decides by itself has ended its writing, pings arrive as in `managed_pings_arrive`, if,
+/// instead of a sweep with every answer and a plan that counts as written, three conditions hold: from the beginning of
 /// the sweep to the end of the writing it notes no request that it gives up, and does not give up what it writes; no
 /// port led too far for the sweep; nobody tells it to leave.
 pub fn answered_pings_arrive()
