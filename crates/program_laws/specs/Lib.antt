@@ -5,6 +5,8 @@ pub mod Says
 pub mod ServeLaws
 pub mod Told
 pub mod AlwaysAsks
+pub mod AnsweredWritings
+pub mod AnsweredPings
 pub mod Deciding
 pub mod ManagedEnds
 pub mod FreshWork
@@ -15,6 +17,7 @@ pub mod NextSweep
 pub mod RestTime
 pub mod StandingPings
 pub mod StandingPlans
+pub mod ToldPaths
 pub mod SweepTime
 pub mod Wakes
 pub mod WritingTime
