@@ -4,6 +4,7 @@ pub mod LivePings
 pub mod Says
 pub mod ServeLaws
 pub mod Told
+pub mod Alone
 pub mod AlwaysAsks
 pub mod Deciding
 pub mod ManagedEnds
@@ -11,6 +12,8 @@ pub mod FreshWork
 pub mod Healing
 pub mod HealingAtSeat
 pub mod InTurn
+pub mod Leading
+pub mod LoneHealing
 pub mod NextSweep
 pub mod RestTime
 pub mod StandingPings

@@ -3,6 +3,8 @@ ghost use Rattle.program_laws.specs.FreshWork.{WorksAgainInTime};
 ghost use Rattle.program_laws.specs.Healing.{HealsInTime, SomeManagerHeals};
 ghost use Rattle.program_laws.specs.HealingAtSeat.{HealsAtSeat};
 ghost use Rattle.program_laws.specs.InTurn.{WorksInTurn};
+ghost use Rattle.program_laws.specs.Leading.{LoneManagersLeadInTime};
+ghost use Rattle.program_laws.specs.LoneHealing.{LoneManagersHeal};
 ghost use Rattle.program_laws.specs.NextSweep.{SweepsAgainInTime};
 ghost use Rattle.program_laws.specs.RestTime.{RestsEndInTime};
 ghost use Rattle.program_laws.specs.StandingPings.{StandingPingsArrive};
@@ -73,4 +75,23 @@ pub fn standing_pings_arrive()
 /// began; since then each Set that an agent took is one of the writing's own or carries the plan's values.
 pub fn heals_at_seat()
     ensures { HealsAtSeat }
+{}
+
+/// A manager that decides by itself, and is alone, is master at some moment at most seventeen longest waits and
+/// `20 * (n + 4)` turns later, and from then on, whatever it is about at first and in whatever state it is, unless
+/// another manager has disabled it. It is alone if no packet that it is told is a word of another manager: neither a
+/// Set of SMInfo, nor an answer of SMInfo, but for answers to its sweeps by managers that do not outrank it (they are
+/// not master, and it wins over them, or they are Not-active or have another SM_Key). Generations are left for its
+/// sweeps, and its shell is at most two seconds late. All else is as in `sweeps_again_in_time`.
+pub fn lone_managers_lead_in_time()
+    ensures { LoneManagersLeadInTime }
+{}
+
+/// A manager that decides by itself, and is alone, has swept anew, and has its plan written, as in `heals_in_time`,
+/// after at most nineteen longest waits and `26 * (n + 4)` turns, whatever it is about at first, if three more
+/// conditions hold: it gives no request up; when its sweep is over, no path led too far, each end port finds a LID,
+/// and its writing is not refused; when its writing is over, the plan counts as written. All else is as in
+/// `lone_managers_lead_in_time`.
+pub fn lone_managers_heal()
+    ensures { LoneManagersHeal }
 {}
