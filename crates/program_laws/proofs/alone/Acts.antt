@@ -1,11 +1,10 @@
 -- What a decision of a manager does to its state: it stays what it is, unless a standby discovers anew.
-use Rattle.std.proofs.Common.{◌≡◌, ◌≢◌, ◌∙◌, ◌⊎◌, inl, inr, ℕ, Bool, true, false, cond, List, [], ◌∷◌, refl, sym, ap, subst}
+use Rattle.std.proofs.Common.{◌≡◌, ◌∙◌, ◌⊎◌, inl, inr, ℕ, Bool, true, false, cond, [], ◌∷◌, refl, sym, ap, subst}
 use Rattle.std.proofs.lemmas.Bool.{cond_both, cond-true, cond-false}
-use Rattle.std.specs.Prelude.{◌==◌, ◌||◌, Option, Some, None, is_none, nat_le, nat_lt}
+use Rattle.std.specs.Prelude.{◌||◌, Option, Some, None, is_none, nat_le, nat_lt}
 use Rattle.lft_blocks.specs.Plan.{PlanValue}
 use Rattle.sm_state.specs.Election.{any_outranks}
-use Rattle.sm_state.specs.Standing.{active_once_more, info_of, is_in, moved_by, moved_to, one_more}
-use Rattle.sm_state.specs.State.{number_of_state}
+use Rattle.sm_state.specs.Standing.{info_of, is_in, moved_to}
 use Rattle.sm_state.specs.Transitions.{stepped}
 use Rattle.sm_state.specs.declared.conduct.Conduct.{Conduct}
 use Rattle.sm_state.specs.declared.event.Event.TheVariants.{HandoverWanted, PollsUnanswered}
@@ -22,9 +21,9 @@ use Rattle.sm_manager.specs.Writing.{after_write_steps, is_written}
 use Rattle.sm_manager.specs.declared.fault.ManagerFault.TheVariants as fault
 use Rattle.sm_manager.specs.declared.way.Way.{Way}
 use Rattle.sm_policy.specs.Judged.{cause_of, failed, judged, once_more, settled, stood, taking, wrote}
-use Rattle.sm_policy.specs.Policy.{Decision, announced_every, forgotten, later_by, patience, polled, still, waited_longer, wanting}
+use Rattle.sm_policy.specs.Policy.{Decision, forgotten, patience, polled, still, waited_longer, wanting}
 use Rattle.sm_policy.specs.Resting.{call_due, is_due, poll_due, rested, sweep_due, sweeping}
-use Rattle.sm_policy.specs.Swept.{counts, dealt, ended, goes_on, judging, leaves_it, masterless_by, meeting_at, met, swept, swept_in}
+use Rattle.sm_policy.specs.Swept.{dealt, ended, goes_on, judging, leaves_it, masterless_by, meeting_at, swept, swept_in}
 use Rattle.sm_policy.specs.declared.act.Act.{Act}
 use Rattle.sm_policy.specs.declared.act.Act.TheVariants as act
 use Rattle.sm_policy.specs.declared.activity.Activity.{Activity}
@@ -37,14 +36,14 @@ use Rattle.sm_policy.specs.declared.rival.Rival.{Rival}
 use Rattle.sm_policy.specs.declared.rival.Rival.TheVariants.{Lesser, Greater}
 use Rattle.sm_policy.specs.declared.write_cause.WriteCause.{WriteCause}
 use Rattle.acting_manager.specs.Acting.{Acting, caught_up, noted}
-use Rattle.acting_manager.specs.Acts.{about_plan, acted, acted_in, decided, done_by, floor_raised, is_whole, left_in, noted_unplanned, rival_seen}
+use Rattle.acting_manager.specs.Acts.{about_plan, acted, acted_in, done_by, floor_raised, is_whole, left_in, noted_unplanned, rival_seen}
 use Rattle.acting_manager.specs.Planned.{comparison_of, planned}
-use Rattle.acting_manager.specs.Working.{acted_if_idle, is_idle, sent}
+use Rattle.acting_manager.specs.Working.{is_idle, sent}
 use Rattle.acting_manager.specs.declared.note.Note.TheVariants.{Swept}
 use Rattle.program_laws.specs.Alone.{IsNoWord}
 use Rattle.program_laws.specs.Wakes.{IsNoLeave, Line, after_line, before_deciding}
 use Rattle.program_laws.proofs.alone.InfoOnly.{InfoOnly, info_call}
-use Rattle.program_laws.proofs.alone.Moves.{Clean, SameWho, moved_none, moved_state, moved_who, same_rank, state_is}
+use Rattle.program_laws.proofs.alone.Moves.{SameWho, moved_none, moved_state, moved_who, same_rank, state_is}
 use Rattle.program_laws.proofs.alone.Needs.{IsActive, IsLed, active_lasts, led_lasts}
 use Rattle.program_laws.proofs.alone.Quiet.{IsAwake, LastsQuietly, catches_up, lasts_quietly}
 use Rattle.program_laws.proofs.wakes.FreshWork.{GoesOn}
@@ -126,8 +125,11 @@ module _ (m : Manager) where
           record {
             who = moved_who (stepped m.standing.conduct m.standing.state PollsUnanswered).state m.standing;
             seen = inl refl;
-            state = inr (standby, moved_state (stepped m.standing.conduct m.standing.state PollsUnanswered).state m.standing
-                ∙ ap (λ s. (stepped m.standing.conduct s PollsUnanswered).state) standby);
+            state = inr (
+              standby,
+              moved_state (stepped m.standing.conduct m.standing.state PollsUnanswered).state m.standing
+                  ∙ ap (λ s. (stepped m.standing.conduct s PollsUnanswered).state) standby,
+            );
             info = info;
           }
 

@@ -1,6 +1,6 @@
 -- What is so of a manager that is alone, through lines that come in time.
-use Rattle.std.proofs.Common.{◌≡◌, ◌≢◌, ◌∙◌, ◌⊎◌, inl, inr, ℕ, ◌+◌, ◌-◌, ◌*◌, ◌<◌, ◌≤◌, ◌^◌, Bool, true, false, cond, List, [], ◌∷◌, ◌++◌, refl, sym, ap, subst, arith}
-use Rattle.std.specs.Prelude.{◌==◌, Option, Some, None, max}
+use Rattle.std.proofs.Common.{◌≡◌, ◌≢◌, ◌∙◌, ℕ, ◌+◌, ◌-◌, ◌<◌, ◌≤◌, ◌^◌, Bool, true, false, cond, List, [], ◌∷◌, ◌++◌, refl, ap, subst, arith}
+use Rattle.std.specs.Prelude.{◌==◌, Some, None, max}
 use Rattle.sm_manager.specs.Manager.{Manager, begin_fault, is_running, newest_held}
 use Rattle.sm_manager.specs.declared.fault.ManagerFault.TheVariants.{GenerationsSpent, SweepRunning}
 use Rattle.sm_policy.specs.PolicyLaws.{longest_wait}
@@ -12,7 +12,7 @@ use Rattle.acting_manager.specs.Acts.{floor_raised}
 use Rattle.acting_manager.specs.Working.{is_idle, is_resting, pause}
 use Rattle.program_laws.specs.Alone.{IsNoWord, StaysAlone}
 use Rattle.program_laws.specs.NextSweep.{HasFewTurns}
-use Rattle.program_laws.specs.Wakes.{ArePrompt, HasDecided, Line, NoneLeaves, after_line, after_lines, before_deciding, longest_turn}
+use Rattle.program_laws.specs.Wakes.{ArePrompt, Line, NoneLeaves, after_line, after_lines, before_deciding}
 use Rattle.program_laws.proofs.alone.Hearing.{is_awake}
 use Rattle.program_laws.proofs.alone.InfoOnly.{InfoOnly, lived_info}
 use Rattle.program_laws.proofs.alone.Needs.{IsRest}

@@ -1,17 +1,17 @@
 -- What a manager that is alone hears while it has no request, or a poll is out: nothing that is a request to it, and no answer.
-use Rattle.std.proofs.Common.{◌≡◌, ◌∙◌, ℕ, ◌+◌, ◌<◌, ◌≤◌, ◌^◌, Bool, true, false, cond, ◌&&◌, not, List, [], ◌∷◌, ◌++◌, length, refl, sym, ap, subst, arith}
+use Rattle.std.proofs.Common.{◌≡◌, ◌∙◌, ℕ, ◌<◌, ◌≤◌, ◌^◌, Bool, true, false, cond, ◌&&◌, not, List, [], ◌∷◌, ◌++◌, length, refl, sym, ap, subst, arith}
 use Rattle.std.proofs.lemmas.Bool.{and_parts, cond_both, eqb-true, le-ltb}
-use Rattle.std.specs.Prelude.{◌==◌, Option, Some, None, filter, max, nat_lt}
+use Rattle.std.specs.Prelude.{◌==◌, Option, Some, None, filter, max}
 use Rattle.smp_bytes.specs.Field.{number_in}
 use Rattle.smp_bytes.specs.Header.{get_resp, set, sm_info}
 use Rattle.smp_bytes.specs.Packet.{attribute_id, fault_of, is_response, method}
 use Rattle.smp_bytes.specs.declared.smp_fault.SmpFault.{SmpFault}
 use Rattle.subnet_view.proofs.Apart.{found_there}
 use Rattle.sm_state.specs.Conduct.{is_live}
-use Rattle.sm_state.specs.Standing.{active_once_more, after_request_heard, info_of}
+use Rattle.sm_state.specs.Standing.{active_once_more, info_of}
 use Rattle.sm_state.specs.declared.standing.Standing.{Standing}
 use Rattle.sm_manager.specs.CallLists.{Call, after_call}
-use Rattle.sm_manager.specs.Manager.{IsSentWhole, Manager, Writing}
+use Rattle.sm_manager.specs.Manager.{IsSentWhole, Manager}
 use Rattle.sm_manager.specs.Packets.{Called, answers as ends, done, is_for_sweep, is_info_request, packet_taken, pending_for, refused, request_answered, sweep_answered}
 use Rattle.sm_manager.specs.Packets.{unless_spent}
 use Rattle.sm_manager.specs.SmInfoAnswers.{controlled, is_control as may_control, replying, served}
@@ -21,10 +21,9 @@ use Rattle.sm_manager.specs.declared.fault.ManagerFault.TheVariants.{SequenceSpe
 use Rattle.sm_manager.specs.declared.outgoing.Outgoing.{Outgoing}
 use Rattle.sm_manager.specs.declared.pending.Pending.{Pending}
 use Rattle.sm_policy.specs.Policy.{is_master, later_by, taken_over, wanting}
-use Rattle.sm_policy.specs.declared.activity.Activity.{Activity}
 use Rattle.sm_policy.specs.declared.policy.Policy.{Policy}
 use Rattle.request_window.specs.declared.out.Out.{Out}
-use Rattle.request_window.specs.Window.{TakenOut, Window, answers, first_out}
+use Rattle.request_window.specs.Window.{Window, answers, first_out}
 use Rattle.acting_manager.specs.Acting.{Acting, caught_up, collected, is_request}
 use Rattle.acting_manager.specs.Heard.{answered, asked, hands_over, heard_by, is_handed, requested, responded, tells_change}
 use Rattle.acting_manager.specs.Working.{Told, are_none, is_idle, is_resting, not_before, pause, stood_still, taken, wake_in, wake_of}
@@ -33,8 +32,7 @@ use Rattle.program_laws.specs.Alone.{IsNoWord, is_word}
 use Rattle.program_laws.specs.Wakes.{IsBy, IsNoLeave, Line, is_control, next_in, one_if, sets_to_come}
 use Rattle.program_laws.proofs.alone.Moves.{no_control, none_there}
 use Rattle.program_laws.proofs.alone.Quiet.{IsAwake}
-use Rattle.program_laws.proofs.wakes.Load.{looked_about}
-use Rattle.program_laws.proofs.wakes.Makes.{packet_makes, requests_in, responds}
+use Rattle.program_laws.proofs.wakes.Makes.{packet_makes, responds}
 use Rattle.program_laws.proofs.wakes.Waking.{looked_manager, looked_window}
 
 -- standing still ------------------------------------------------------------------------------------------------------------

@@ -1,12 +1,11 @@
 -- What waits outside sweeps, and is no step of a writing, is for SMInfo.
-use Rattle.std.proofs.Common.{◌≡◌, ◌∙◌, ℕ, suc, Bool, true, false, cond, not, List, [], ◌∷◌, ◌++◌, refl, sym, ap, subst}
+use Rattle.std.proofs.Common.{◌≡◌, ℕ, suc, Bool, false, not, List, [], ◌∷◌, ◌++◌, refl, subst}
 use Rattle.std.proofs.lemmas.Bool.{cond_both}
 use Rattle.std.specs.List.{AllByRecursion}
 use Rattle.std.specs.Prelude.{◌^◌, ◌==◌, Option, Some, None, Result, Ok, Err, is_none, nat_le}
 use Rattle.smp_bytes.specs.Header.{sm_info}
 use Rattle.smp_bytes.specs.Packet.{fault_of, status}
 use Rattle.smp_bytes.specs.declared.smp_fault.SmpFault.{SmpFault}
-use Rattle.plan_steps.specs.Phase.{Phase}
 use Rattle.plan_steps.specs.declared.step.Step.{Step}
 use Rattle.sweep.specs.declared.answer.Answer.{Answer}
 use Rattle.sweep.specs.declared.fault.SweepFault.{SweepFault}
@@ -22,7 +21,7 @@ use Rattle.sm_manager.specs.ManagerRequests.{counts, is_step, no_step_waits, wit
 use Rattle.sm_manager.specs.Packets.{Called, after_request, answered_by, done, is_for_sweep, is_info_request, packet_taken, pending_for, refused}
 use Rattle.sm_manager.specs.Packets.{request_answered, request_gave_up, sweep_answered, sweep_gave_up, sweep_timed_out, unless_spent}
 use Rattle.sm_manager.specs.PlanFaults.{writing_fault}
-use Rattle.sm_manager.specs.SmInfoAnswers.{acknowledged_by, answering, controlled, is_control, moved_on, replying, request_counted, served}
+use Rattle.sm_manager.specs.SmInfoAnswers.{acknowledged_by, answering, controlled, is_control, replying, served}
 use Rattle.sm_manager.specs.Traps.{represses, repressing}
 use Rattle.sm_manager.specs.Writing.{after_step, after_write_steps, is_done_by, is_spent, next_phase, noted, numbered, phase_sent, phases_by, went_on_with, without_empty_phases}
 use Rattle.sm_manager.specs.declared.fault.ManagerFault.TheVariants.{SequenceSpent}
@@ -141,7 +140,7 @@ module _ (m : Manager) (info : InfoOnly m) where
   pub info_call : (call : Call) → InfoOnly (after_call m call)
   info_call Call.BeginSweep = cond_both (is_none (begin_fault m)) (after_begin_sweep m) m InfoOnly (λ _. info) (λ _. info)
   info_call Call.WriteSteps =
-      cond_both (is_none (writing_fault m)) (after_write_steps m) m InfoOnly 
+      cond_both (is_none (writing_fault m)) (after_write_steps m) m InfoOnly
       (λ _. sends m (record { later = without_empty_phases (phases_by m m.sweep); has_failed = false }) info) (λ _. info)
   info_call Call.Take = taken m.outgoing
   info_call (Call.Packet bytes from) = by_fault bytes from (fault_of bytes)

@@ -1,10 +1,9 @@
 -- A manager that is alone becomes master in time, and stays master.
-use Rattle.std.proofs.Common.{◌≡◌, ◌≢◌, ◌∙◌, ◌⊎◌, inl, inr, ℕ, suc, ◌+◌, ◌*◌, ◌<◌, ◌≤◌, ◌^◌, Bool, true, false, cond, ◌&&◌, not, List, [], ◌∷◌, ◌++◌, refl, sym, ap, subst, arith}
-use Rattle.std.proofs.lemmas.Bool.{both_ways, cond_both, cond-true, cond-false}
+use Rattle.std.proofs.Common.{◌≡◌, ◌∙◌, inl, inr, ℕ, suc, ◌+◌, ◌*◌, ◌≤◌, Bool, true, false, ◌&&◌, not, List, [], ◌∷◌, ◌++◌, refl, sym, ap, subst, arith}
+use Rattle.std.proofs.lemmas.Bool.{cond_both, cond-false}
 use Rattle.std.proofs.lemmas.List.{append-nil}
 use Rattle.std.specs.Prelude.{◌==◌, max}
 use Rattle.sm_state.specs.State.{number_of_state}
-use Rattle.sm_state.specs.declared.state.SmState.TheVariants.{NotActive}
 use Rattle.sm_manager.specs.Manager.{Manager, new_manager}
 use Rattle.sm_policy.specs.Policy.{is_sweeping}
 use Rattle.sm_policy.specs.PolicyLaws.{longest_wait}
@@ -16,22 +15,22 @@ use Rattle.request_window.specs.declared.limits.Limits.{Limits}
 use Rattle.acting_manager.specs.Acting.{Acting, caught_up, collected, new_acting}
 use Rattle.acting_manager.specs.Acts.{acted, acted_in}
 use Rattle.acting_manager.specs.Working.{acted_if_idle, is_idle, is_resting, is_writing, pause, sent}
-use Rattle.program_laws.specs.Alone.{IsLone, StaysAlone}
+use Rattle.program_laws.specs.Alone.{IsLone}
 use Rattle.program_laws.specs.InTurn.{may_follow}
-use Rattle.program_laws.specs.Leading.{Leads, LoneManagersLeadInTime, StaysMaster}
+use Rattle.program_laws.specs.Leading.{LoneManagersLeadInTime, StaysMaster}
 use Rattle.program_laws.specs.ManagedEnds.{StaysAbout}
 use Rattle.program_laws.specs.NextSweep.{HasFewTurns}
-use Rattle.program_laws.specs.Wakes.{ArePrompt, GetsOn, HasDecided, IsBy, Line, StaysBusy, after_line, after_lines, before_deciding, longest_turn, turns_until}
+use Rattle.program_laws.specs.Wakes.{ArePrompt, HasDecided, IsBy, Line, StaysBusy, after_line, after_lines, before_deciding, longest_turn, turns_until}
 use Rattle.program_laws.proofs.alone.Acts.{line_active, line_led}
 use Rattle.program_laws.proofs.alone.Calm.{IsCalm, at_rest, calm_later, calm_line, info_is, later_time, line_awake, line_goes, line_quiet, line_time, may_begin}
 use Rattle.program_laws.proofs.alone.Calm.{over_then, rest_by, soon_is}
 use Rattle.program_laws.proofs.alone.Moves.{state_is}
-use Rattle.program_laws.proofs.alone.Needs.{IsActive, IsLed, IsRest, active_lasts, need_few}
+use Rattle.program_laws.proofs.alone.Needs.{IsActive, IsLed, active_lasts, need_few}
 use Rattle.program_laws.proofs.alone.Quiet.{lasts_quietly}
-use Rattle.program_laws.proofs.alone.Rests.{RestEnds, rest_ends}
+use Rattle.program_laws.proofs.alone.Rests.{rest_ends}
 use Rattle.program_laws.proofs.alone.Runs.{FoundBy, all_go, bound, ends_by, found_by, found_then}
-use Rattle.program_laws.proofs.alone.Steady.{AtRest, IsReady, idle_then, knows_then}
-use Rattle.program_laws.proofs.wakes.AtSeats.{lines_both, longer}
+use Rattle.program_laws.proofs.alone.Steady.{IsReady, idle_then, knows_then}
+use Rattle.program_laws.proofs.wakes.AtSeats.{longer}
 use Rattle.program_laws.proofs.wakes.Deciding.{sent_about, sweeps_past, writings_past}
 use Rattle.program_laws.proofs.wakes.DueTimes.{IsDueSoon, still_soon}
 use Rattle.program_laws.proofs.wakes.Empties.{windows_empty}
@@ -44,7 +43,7 @@ use Rattle.program_laws.proofs.wakes.NextSweep.Split.{Ends, Whole}
 use Rattle.program_laws.proofs.wakes.Resting.{knows_state, looked_knows}
 use Rattle.program_laws.proofs.wakes.Sending.{only_sends}
 use Rattle.program_laws.proofs.wakes.Settled.{has_settled}
-use Rattle.program_laws.proofs.wakes.Waking.{Falls, any_falls}
+use Rattle.program_laws.proofs.wakes.Waking.{any_falls}
 
 -- what the policy knows -------------------------------------------------------------------------------------------------------------
 

@@ -1,7 +1,6 @@
 -- What a packet or a time-out does to the state of a manager that hears no word of another one.
 use Rattle.std.proofs.Common.{◌≡◌, ◌≢◌, ◌∙◌, ◌⊎◌, inl, inr, ℕ, ◌-◌, ◌<◌, ◌≤◌, ◌^◌, Bool, true, false, cond, ◌&&◌, not, List, [], ◌∷◌, ◌++◌, refl, sym, ap, subst, arith}
 use Rattle.std.proofs.lemmas.Bool.{and_parts, cond_both, cond-true, eq-eqb, eqb-true, lt-leb, ltb-true}
-use Rattle.std.specs.List.{AllByRecursion, list_any}
 use Rattle.std.specs.Prelude.{◌==◌, ◌||◌, Option, Some, None, Result, Ok, Err, nat_le, nat_lt}
 use Rattle.smp_bytes.specs.Field.{bytes_in, number_in}
 use Rattle.smp_bytes.specs.Header.{get_resp, set, sm_info}
@@ -10,9 +9,7 @@ use Rattle.smp_bytes.specs.declared.smp_fault.SmpFault.{SmpFault}
 use Rattle.attr_codec.specs.SmInfo.{sm_info_in}
 use Rattle.attr_codec.specs.declared.sm_info.SmInfo.{SmInfo}
 use Rattle.subnet_view.proofs.Apart.{found_there}
-use Rattle.subnet_view.proofs.Members.{contains_none}
 use Rattle.sweep.specs.declared.answer.Answer.{Answer}
-use Rattle.sweep.specs.declared.answer.Answer.TheVariants.{Facts, Seen}
 use Rattle.sweep.specs.declared.fault.SweepFault.{SweepFault}
 use Rattle.sweep.specs.declared.question.Question.{Question}
 use Rattle.sweep.specs.declared.question.Question.TheVariants as ask
@@ -21,18 +18,17 @@ use Rattle.sweep.specs.Replies.{after_reply, answer_by, belongs, judged, report_
 use Rattle.sweep.specs.Sweep.{Sweep, after_timeout as sweep_after_timeout, attribute_asked, is_done, timeout_fault, transaction_of}
 use Rattle.sm_state.specs.Conduct.{is_live, key_of}
 use Rattle.sm_state.specs.Election.{any_outranks, outranks}
-use Rattle.sm_state.specs.Standing.{active_once_more, after_request_heard, info_of, is_in, moved_by, moved_to, one_more, poll_lost}
+use Rattle.sm_state.specs.Standing.{active_once_more, info_of, is_in, moved_by, moved_to, one_more, poll_lost}
 use Rattle.sm_state.specs.State.{number_of_state}
 use Rattle.sm_state.specs.Transitions.{stepped}
 use Rattle.sm_state.specs.declared.conduct.Conduct.{Conduct}
 use Rattle.sm_state.specs.declared.election.SeenManager.{SeenManager}
-use Rattle.sm_state.specs.declared.event.Event.{Event}
 use Rattle.sm_state.specs.declared.event.Event.TheVariants.{Outranked, PollsUnanswered, Unrivalled}
 use Rattle.sm_state.specs.declared.standing.Standing.{Standing}
 use Rattle.sm_state.specs.declared.state.SmState.{SmState}
 use Rattle.sm_state.specs.declared.state.SmState.TheVariants.{NotActive, Discovering, Standby, Master}
 use Rattle.sm_manager.specs.CallLists.{Call, after_call}
-use Rattle.sm_manager.specs.Election.{after_control_end, is_handover, is_relieved}
+use Rattle.sm_manager.specs.Election.{is_handover, is_relieved}
 use Rattle.sm_manager.specs.Manager.{Manager, Writing, after_sweep, after_verdict, is_over, is_running, with_sweep}
 use Rattle.sm_manager.specs.ManagerRequests.{counts, is_for_step, no_step_waits, with_number, without_number}
 use Rattle.sm_manager.specs.NotedManagers.{with_seen}

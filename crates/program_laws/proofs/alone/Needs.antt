@@ -1,17 +1,15 @@
 -- How many sweeps and polls a manager that is alone may need until it is master.
-use Rattle.std.proofs.Common.{◌≡◌, ◌≢◌, ◌∙◌, ◌⊎◌, inl, inr, ℕ, suc, ◌+◌, ◌-◌, ◌*◌, ◌≤◌, Bool, true, false, cond, refl, sym, ap, subst, arith}
+use Rattle.std.proofs.Common.{◌≡◌, ◌≢◌, ◌∙◌, ◌⊎◌, inl, inr, ℕ, ◌+◌, ◌-◌, ◌*◌, ◌≤◌, true, false, refl, sym, ap, arith}
 use Rattle.std.proofs.lemmas.Bool.{cond_both, eq-eqb}
-use Rattle.std.specs.Prelude.{◌==◌, List, Option, Some, None}
+use Rattle.std.specs.Prelude.{◌==◌, Option, Some, None}
 use Rattle.sm_state.specs.State.{number_of_state}
-use Rattle.sm_state.specs.Standing.{info_of}
 use Rattle.sm_state.specs.declared.state.SmState.{SmState}
 use Rattle.sm_state.specs.declared.state.SmState.TheVariants.{NotActive, Discovering, Standby, Master}
 use Rattle.sm_manager.specs.CallLists.{Call, after_call}
-use Rattle.sm_manager.specs.Manager.{Manager, emptied, is_running}
+use Rattle.sm_manager.specs.Manager.{Manager, is_running}
 use Rattle.sm_policy.specs.Policy.{in_state, moved, sweeps_first, wanting}
 use Rattle.sm_policy.specs.declared.policy.Policy.{Policy}
 use Rattle.sm_policy.specs.declared.rival.Rival.{Rival}
-use Rattle.program_laws.specs.Alone.{is_word}
 use Rattle.program_laws.proofs.alone.InfoOnly.{InfoOnly, info_call}
 use Rattle.program_laws.proofs.alone.Moves.{Clean, Moves, packet_moves, timeout_moves}
 use Rattle.program_laws.proofs.alone.Quiet.{LastsQuietly}

@@ -1,55 +1,38 @@
 -- A poll of a manager that is alone goes out, and is lost in the end.
-use Rattle.std.proofs.Common.{◌≡◌, ◌≢◌, ◌∙◌, ◌⊎◌, inl, inr, ℕ, zero, suc, ◌+◌, ◌-◌, ◌*◌, ◌<◌, ◌≤◌, ◌^◌, Bool, true, false, cond, ◌&&◌, not, List, [], ◌∷◌, ◌++◌, ◌||◌, length, replicate, refl, sym, ap, subst, arith}
-use Rattle.std.proofs.lemmas.Bool.{and_parts, cond_both, cond-true, cond-false, eq-eqb, eqb-true, leb-false, lt-leb, lt-ltb, ltb-false, ltb-true}
+use Rattle.std.proofs.Common.{◌≡◌, ◌∙◌, inl, ℕ, zero, suc, ◌+◌, ◌-◌, ◌<◌, ◌≤◌, ◌^◌, Bool, true, false, cond, ◌&&◌, not, List, [], ◌∷◌, ◌++◌, length, refl, sym, ap, subst, arith}
+use Rattle.std.proofs.lemmas.Bool.{and_parts, cond_both, cond-true, cond-false, eq-eqb, eqb-true, leb-false, lt-leb, ltb-true}
 use Rattle.std.specs.List.{AllByRecursion}
-use Rattle.std.specs.Prelude.{◌==◌, Option, Some, None, filter, find, is_none, max, nat_le, nat_lt, option_map}
+use Rattle.std.specs.Prelude.{◌==◌, Option, Some, None, filter, nat_le, nat_lt}
 use Rattle.smp_bytes.specs.Field.{number_in}
 use Rattle.smp_bytes.specs.Header.{get, sm_info}
-use Rattle.smp_bytes.specs.Packet.{attribute_id, attribute_modifier, is_response, method, transaction_id}
-use Rattle.smp_bytes.specs.Requests.{directed}
-use Rattle.sm_state.specs.Standing.{info_of, is_in, moved_by, one_more, poll_lost}
-use Rattle.sm_state.specs.State.{number_of_state}
+use Rattle.smp_bytes.specs.Packet.{attribute_id, is_response, method, transaction_id}
+use Rattle.sm_state.specs.Standing.{info_of, moved_by, one_more, poll_lost}
 use Rattle.sm_state.specs.Transitions.{stepped}
 use Rattle.sm_state.specs.declared.event.Event.TheVariants.{PollsUnanswered}
 use Rattle.sm_state.specs.declared.standing.Standing.{Standing}
-use Rattle.sm_state.specs.declared.state.SmState.{SmState}
-use Rattle.sm_state.specs.declared.state.SmState.TheVariants.{NotActive, Discovering, Standby, Master}
+use Rattle.sm_state.specs.declared.state.SmState.TheVariants.{NotActive, Standby}
 use Rattle.sm_manager.specs.CallLists.{Call, after_call, after_calls}
-use Rattle.sm_manager.specs.Election.{after_poll, along, poll_fault, poll_out, poll_pending, poll_way, polled_by, unless_way}
-use Rattle.sm_manager.specs.Manager.{Manager, emptied, is_running}
+use Rattle.sm_manager.specs.Manager.{Manager, is_running}
 use Rattle.sm_manager.specs.ManagerRequests.{with_number}
 use Rattle.sm_manager.specs.Packets.{Called, after_request, request_gave_up, sweep_gave_up}
 use Rattle.sm_manager.specs.Writing.{without}
-use Rattle.sm_manager.specs.declared.fault.ManagerFault.{ManagerFault}
-use Rattle.sm_manager.specs.declared.fault.ManagerFault.TheVariants as fault
-use Rattle.sm_manager.specs.declared.outgoing.Outgoing.{Outgoing}
 use Rattle.sm_manager.specs.declared.pending.Pending.{Pending}
-use Rattle.sm_manager.specs.declared.pending.Purpose.{Purpose}
 use Rattle.sm_manager.specs.declared.pending.Purpose.TheVariants as purpose
-use Rattle.sm_manager.specs.declared.way.Way.{Way}
-use Rattle.sm_manager.specs.declared.way.Way.TheVariants.{Along}
 use Rattle.sm_manager.proofs.CountedSteps.{Rising}
-use Rattle.sm_policy.specs.Policy.{is_master, later_by}
-use Rattle.sm_policy.specs.declared.activity.Activity.{Activity}
-use Rattle.sm_policy.specs.declared.activity.Activity.TheVariants as activity
 use Rattle.sm_policy.specs.declared.policy.Policy.{Policy}
 use Rattle.sm_policy.specs.declared.rival.Rival.{Rival}
-use Rattle.request_window.specs.Window.{Given, LateOutcome, TakenOut, Window, after_overdue, after_send, answers, behind, first_out, is_late, is_poll, is_sent_again, judged_late}
-use Rattle.request_window.specs.Window.{kept_behind, late_in, out_at, patience, sent_of}
-use Rattle.request_window.specs.declared.late.Late.{Late}
+use Rattle.request_window.specs.Window.{Window, after_send, answers, behind, first_out, is_late, is_poll, is_sent_again, judged_late}
+use Rattle.request_window.specs.Window.{kept_behind, late_in, sent_of}
 use Rattle.request_window.specs.declared.late.Late.TheVariants.{GivenUp}
-use Rattle.request_window.specs.declared.limits.Limits.{Limits}
 use Rattle.request_window.specs.declared.out.Out.{Out}
-use Rattle.acting_manager.specs.Acting.{Acting, caught_up, collected, is_request, looked}
+use Rattle.acting_manager.specs.Acting.{Acting, caught_up, collected, is_request}
 use Rattle.acting_manager.specs.Acts.{acted}
-use Rattle.acting_manager.specs.Working.{all_overdue, all_sent, are_none, given_away, is_given_up, is_idle, is_resting, is_writing, late_done, one_overdue, one_sent}
-use Rattle.acting_manager.specs.Working.{repeated, sent, sent_one}
+use Rattle.acting_manager.specs.Working.{all_overdue, all_sent, are_none, given_away, is_given_up, is_idle, is_resting, late_done, one_overdue, one_sent}
+use Rattle.acting_manager.specs.Working.{repeated, sent}
 use Rattle.manager_laws.specs.WritingEnds.{HasLived}
-use Rattle.manager_laws.proofs.writing_ends.Headers.{directed_attribute, directed_method}
-use Rattle.manager_laws.proofs.writing_ends.Lists.{all_below}
 use Rattle.manager_laws.proofs.writing_ends.Turns.{turn, turn_rises}
-use Rattle.program_laws.specs.Alone.{IsNoWord, is_word}
-use Rattle.program_laws.specs.Wakes.{IsNoLeave, Line, after_line, before_deciding}
+use Rattle.program_laws.specs.Alone.{IsNoWord}
+use Rattle.program_laws.specs.Wakes.{Line, after_line, before_deciding}
 use Rattle.program_laws.proofs.alone.Hearing.{Unanswered, caught_out, caught_pending, caught_queued, caught_standing, idle_lists}
 use Rattle.program_laws.proofs.alone.InfoOnly.{InfoOnly, info_call}
 use Rattle.program_laws.proofs.alone.Moves.{moved_state, no_answer, small_sweep}
@@ -59,10 +42,7 @@ use Rattle.program_laws.proofs.alone.Steady.{IsReady, Steady, heard_then, knows_
 use Rattle.program_laws.proofs.wakes.Deciding.{caught_about}
 use Rattle.program_laws.proofs.wakes.DueTimes.{IsDueSoon, still_soon}
 use Rattle.program_laws.proofs.wakes.FreshWork.{GoesOn}
-use Rattle.program_laws.proofs.wakes.Requests.{all_three, directed_transaction, gets}
 use Rattle.program_laws.proofs.wakes.Sending.{only_sends, sent_window}
-use Rattle.program_laws.proofs.wakes.Settled.{caught_given}
-use Rattle.program_laws.proofs.wakes.Waking.{looked_manager, looked_window}
 
 -- numbers of requests -----------------------------------------------------------------------------------------------------------
 

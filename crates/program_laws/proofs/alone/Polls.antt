@@ -1,7 +1,7 @@
 -- When a standby polls next: within its longest wait.
-use Rattle.std.proofs.Common.{◌≡◌, ◌∙◌, ℕ, ◌+◌, ◌≤◌, ◌<◌, ◌^◌, Bool, true, false, cond, List, [], ◌∷◌, refl, sym, ap, subst, arith}
+use Rattle.std.proofs.Common.{◌≡◌, ◌∙◌, ℕ, ◌+◌, ◌≤◌, Bool, true, false, [], ◌∷◌, refl, ap, arith}
 use Rattle.std.proofs.lemmas.Bool.{cond_both}
-use Rattle.std.specs.Prelude.{◌||◌, Option, Some, None, max, nat_le, nat_lt}
+use Rattle.std.specs.Prelude.{◌||◌, Option, Some, None, nat_le, nat_lt}
 use Rattle.sm_state.specs.Standing.{one_more}
 use Rattle.sm_state.specs.declared.state.SmState.{SmState}
 use Rattle.sm_state.specs.declared.state.SmState.TheVariants.{NotActive, Discovering, Standby, Master}
@@ -10,7 +10,7 @@ use Rattle.sm_policy.specs.Policy.{Decision, forgotten, in_state, later_by, move
 use Rattle.sm_policy.specs.PolicyLaws as news
 use Rattle.sm_policy.specs.PolicyLaws.{News, Rise, after_news, longest_wait}
 use Rattle.sm_policy.specs.Resting.{call_due, is_due, poll_due, rested, sweep_due, sweeping}
-use Rattle.sm_policy.specs.Swept.{counts, dealt, ended, goes_on, judging, leaves_it, masterless_by, meeting_at, met, swept, swept_in}
+use Rattle.sm_policy.specs.Swept.{dealt, ended, goes_on, judging, leaves_it, masterless_by, meeting_at, met, swept, swept_in}
 use Rattle.sm_policy.specs.declared.activity.Activity.TheVariants.{Rests}
 use Rattle.sm_policy.specs.declared.comparison.Comparison.{Comparison}
 use Rattle.sm_policy.specs.declared.comparison.Comparison.TheVariants.{NoPlan, Same, Differs}
@@ -51,7 +51,6 @@ module _ (timing : Timing) (now : ℕ) where
   ends true rival p s = as_is p _ refl refl s
   ends false rival p s =
       cond_both (leaves_it p.state rival || goes_on p) p (waited_longer now p)
-      
       (λ (q : Policy). Soon (record q { gaps = one_more p.gaps; activity = Rests; next_sweep = later_by p.timing.every now }))
       (λ _. as_is p _ refl refl s) (λ _. as_is p _ refl refl s)
 
@@ -82,7 +81,7 @@ module _ (timing : Timing) (now : ℕ) where
 
   once : (ports : Ports) (p : Policy) → Soon p → Soon (once_more now ports p)
   once ports p s =
-      cond_both (nat_lt 0 ports.foreign) (taking now p) p 
+      cond_both (nat_lt 0 ports.foreign) (taking now p) p
       (λ (q : Policy). Soon (record q { written = record p.written { repeats = one_more p.written.repeats } }))
       (λ _. as_is p _ refl refl s)
       (λ _. as_is p _ refl refl s)

@@ -1,11 +1,11 @@
 -- What lasts while a manager that decides by itself hears no word of another one: a property of its manager and its policy, which
 -- each move keeps that it may make before it decides.
-use Rattle.std.proofs.Common.{◌≡◌, ◌∙◌, ℕ, zero, suc, Bool, true, false, cond, ◌&&◌, not, List, length, refl, sym, ap, subst}
+use Rattle.std.proofs.Common.{◌≡◌, ℕ, zero, suc, Bool, true, false, cond, ◌&&◌, List, length, refl, sym, ap, subst}
 use Rattle.std.proofs.lemmas.Bool.{and_parts, cond_both, cond-false}
 use Rattle.std.specs.Prelude.{◌==◌, Option, Some, None, is_none, max}
 use Rattle.smp_bytes.specs.Field.{number_in}
 use Rattle.smp_bytes.specs.Header.{set, sm_info}
-use Rattle.smp_bytes.specs.Packet.{attribute_id, fault_of, is_directed, is_response, method, transaction_id}
+use Rattle.smp_bytes.specs.Packet.{attribute_id, fault_of, is_response, method, transaction_id}
 use Rattle.smp_bytes.specs.declared.smp_fault.SmpFault.{SmpFault}
 use Rattle.sm_state.specs.Standing.{info_of}
 use Rattle.sm_state.specs.State.{number_of_state}

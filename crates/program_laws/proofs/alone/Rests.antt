@@ -1,18 +1,17 @@
 -- What a manager that is alone, and rests without a request, decides: it waits, polls, or sweeps.
-use Rattle.std.proofs.Common.{◌≡◌, ◌∙◌, ◌⊎◌, inl, inr, ℕ, zero, suc, ◌+◌, ◌-◌, ◌*◌, ◌<◌, ◌≤◌, ◌^◌, Bool, true, false, cond, ◌&&◌, not, List, [], ◌∷◌, ◌++◌, ◌||◌, length, replicate, refl, sym, ap, subst, arith}
+use Rattle.std.proofs.Common.{◌≡◌, ◌∙◌, inl, inr, ℕ, zero, suc, ◌+◌, ◌-◌, ◌*◌, ◌≤◌, ◌^◌, Bool, true, false, cond, ◌&&◌, not, List, [], ◌∷◌, ◌++◌, ◌||◌, length, replicate, refl, sym, ap, subst, arith}
 use Rattle.std.proofs.lemmas.Bool.{cond_both, cond-true, cond-false, eq-eqb, leb-false, lt-ltb, ltb-false}
-use Rattle.std.specs.Prelude.{◌==◌, Option, Some, None, filter, is_none, max, nat_lt, option_map}
+use Rattle.std.specs.Prelude.{◌==◌, Option, Some, None, filter, is_none, nat_lt}
 use Rattle.smp_bytes.specs.Field.{number_in}
 use Rattle.smp_bytes.specs.Header.{get, sm_info}
 use Rattle.smp_bytes.specs.Packet.{attribute_id, method, transaction_id}
 use Rattle.sm_state.specs.Standing.{is_in}
 use Rattle.sm_state.specs.State.{number_of_state}
-use Rattle.sm_state.specs.declared.standing.Standing.{Standing}
 use Rattle.sm_state.specs.declared.state.SmState.{SmState}
 use Rattle.sm_state.specs.declared.state.SmState.TheVariants.{NotActive, Discovering, Standby, Master}
-use Rattle.sm_manager.specs.CallLists.{Call, after_call}
+use Rattle.sm_manager.specs.CallLists.{Call}
 use Rattle.sm_manager.specs.Election.{after_poll, along, poll_fault, poll_out, poll_pending, poll_way, polled_by, unless_way}
-use Rattle.sm_manager.specs.Manager.{Manager, after_begin_sweep, begin_fault, emptied, is_running}
+use Rattle.sm_manager.specs.Manager.{Manager, after_begin_sweep, begin_fault, emptied}
 use Rattle.sm_manager.specs.ManagerRequests.{with_number}
 use Rattle.sm_manager.specs.PlanFaults.{number_fault, or_else}
 use Rattle.sm_manager.specs.declared.fault.ManagerFault.{ManagerFault}
@@ -26,37 +25,33 @@ use Rattle.sm_policy.specs.Policy.{Decision, announced_every, is_master, is_swee
 use Rattle.sm_policy.specs.Resting.{call_due, call_due_in, is_due, poll_due, poll_due_in, rested, sweep_due, sweeping}
 use Rattle.sm_policy.specs.declared.act.Act.TheVariants as act
 use Rattle.sm_policy.specs.declared.activity.Activity.{Activity}
-use Rattle.sm_policy.specs.declared.activity.Activity.TheVariants as activity
 use Rattle.sm_policy.specs.declared.policy.Policy.{Policy}
 use Rattle.sm_policy.specs.declared.rival.Rival.{Rival}
 use Rattle.sm_policy.specs.declared.rival.Rival.TheVariants.{Lesser, Greater}
 use Rattle.request_window.specs.Window.{Given, Window, after_send, is_poll, out_at, patience, sent_of}
 use Rattle.request_window.specs.declared.limits.Limits.{Limits}
-use Rattle.request_window.specs.declared.out.Out.{Out}
-use Rattle.acting_manager.specs.Acting.{Acting, caught_up, collected, is_request}
-use Rattle.acting_manager.specs.Acts.{acted, acted_in, decided, done_by, floor_raised, left_in}
-use Rattle.acting_manager.specs.Working.{all_sent, are_none, given_away, is_given_up, is_idle, is_resting, is_writing, one_sent, repeated, sent}
+use Rattle.acting_manager.specs.Acting.{Acting, collected, is_request}
+use Rattle.acting_manager.specs.Acts.{acted_in, decided, done_by, floor_raised}
+use Rattle.acting_manager.specs.Working.{all_sent, is_given_up, is_resting, is_writing, one_sent, repeated, sent}
 use Rattle.manager_laws.specs.WritingEnds.{HasLived}
 use Rattle.manager_laws.proofs.writing_ends.Headers.{directed_attribute, directed_method}
 use Rattle.manager_laws.proofs.writing_ends.Lists.{all_below}
 use Rattle.program_laws.specs.RestTime.{sweeps_in}
 use Rattle.program_laws.specs.Wakes.{Line, after_line, before_deciding}
-use Rattle.program_laws.proofs.alone.After.{after_acts, fell, idle_after, manager_is, policy_is, time_is, window_is}
-use Rattle.program_laws.proofs.alone.Hearing.{caught_out, caught_queued, idle_lists, lists_idle}
+use Rattle.program_laws.proofs.alone.After.{fell, idle_after, manager_is, policy_is, time_is, window_is}
+use Rattle.program_laws.proofs.alone.Hearing.{lists_idle}
 use Rattle.program_laws.proofs.alone.InfoOnly.{InfoOnly, info_call}
-use Rattle.program_laws.proofs.alone.Needs.{IsRest, IsSweep, Sweeps, need, rest_lasts, sweeps_left}
+use Rattle.program_laws.proofs.alone.Needs.{IsRest, IsSweep, Sweeps, need, sweeps_left}
 use Rattle.program_laws.proofs.alone.Polling.{IsPolling, find_last, lived_rising}
-use Rattle.program_laws.proofs.alone.Quiet.{catches_up}
 use Rattle.program_laws.proofs.alone.Steady.{AtRest, IsReady, IsResting}
 use Rattle.program_laws.proofs.lasting.Running.{still_sound}
 use Rattle.program_laws.proofs.lasting.Standing.{is_sound}
 use Rattle.program_laws.proofs.wakes.DueTimes.{IsDueSoon}
 use Rattle.program_laws.proofs.wakes.FreshWork.{GoesOn}
 use Rattle.program_laws.proofs.wakes.Requests.{directed_transaction, gets}
-use Rattle.program_laws.proofs.wakes.Resting.{looked_still, sweep_soon}
-use Rattle.program_laws.proofs.wakes.Sending.{only_sends, sent_idle, sent_window}
-use Rattle.program_laws.proofs.wakes.Settled.{has_settled, settled_given}
-use Rattle.program_laws.proofs.wakes.Waking.{Falls, any_falls}
+use Rattle.program_laws.proofs.wakes.Resting.{sweep_soon}
+use Rattle.program_laws.proofs.wakes.Sending.{sent_window}
+use Rattle.program_laws.proofs.wakes.Settled.{settled_given}
 
 -- what the manager does: it waits for what is due; it begins a sweep; there is no way to the master that it knew; or it polls
 pub data RestEnds (j last : ℕ) (line : Line) (a : Acting) : Type 0 where

@@ -1,9 +1,8 @@
 -- How long a manager that is alone rests, polls and sweeps until it is master.
-use Rattle.std.proofs.Common.{◌≡◌, ◌≢◌, ◌∙◌, ◌⊎◌, inl, inr, ℕ, zero, suc, ◌+◌, ◌-◌, ◌*◌, ◌<◌, ◌≤◌, ◌^◌, Bool, true, false, cond, ◌&&◌, not, List, [], ◌∷◌, ◌++◌, refl, sym, ap, subst, arith}
+use Rattle.std.proofs.Common.{◌≡◌, ◌∙◌, ◌⊎◌, inl, inr, ℕ, zero, suc, ◌+◌, ◌*◌, ◌≤◌, Bool, true, false, List, [], ◌∷◌, ◌++◌, refl, sym, ap, subst, arith}
 use Rattle.std.proofs.lemmas.Bool.{both_ways, cond-true, cond-false}
 use Rattle.std.proofs.lemmas.List.{append_assoc}
-use Rattle.std.specs.Prelude.{Option, Some, None, max}
-use Rattle.sm_manager.specs.Manager.{begin_fault}
+use Rattle.std.specs.Prelude.{max}
 use Rattle.sm_policy.specs.Policy.{is_sweeping}
 use Rattle.sm_policy.specs.PolicyLaws.{longest_wait}
 use Rattle.sm_policy.specs.declared.activity.Activity.{Activity}
@@ -18,9 +17,9 @@ use Rattle.program_laws.specs.ManagedEnds.{StaysAbout}
 use Rattle.program_laws.specs.NextSweep.{HasFewTurns}
 use Rattle.program_laws.specs.Wakes.{ArePrompt, Line, after_line, after_lines, before_deciding, longest_turn}
 use Rattle.program_laws.proofs.alone.Acts.{waits_on}
-use Rattle.program_laws.proofs.alone.Calm.{IsCalm, at_rest, calm_later, calm_line, info_is, later_time, line_awake, line_goes, line_quiet, line_time, may_begin}
+use Rattle.program_laws.proofs.alone.Calm.{IsCalm, at_rest, calm_later, calm_line, line_awake, line_goes, line_quiet, line_time, may_begin}
 use Rattle.program_laws.proofs.alone.Calm.{next_is, over_then, rest_by, soon_is}
-use Rattle.program_laws.proofs.alone.Needs.{IsLed, IsRest, IsSweep, need_some, rest_some, sweep_lasts}
+use Rattle.program_laws.proofs.alone.Needs.{IsLed, IsSweep, rest_some, sweep_lasts}
 use Rattle.program_laws.proofs.alone.Polling.{IsPolling, early_polling, early_time, late_ready}
 use Rattle.program_laws.proofs.alone.Quiet.{lasts_quietly}
 use Rattle.program_laws.proofs.alone.Rests.{RestEnds, rest_ends}

@@ -1,24 +1,22 @@
 -- What a manager that rests is before it decides, if it has no request, or polls and nothing else.
-use Rattle.std.proofs.Common.{◌≡◌, ◌∙◌, ℕ, ◌+◌, ◌≤◌, Bool, true, false, ◌&&◌, not, List, [], ◌∷◌, ◌||◌, length, refl, sym, ap, subst, arith}
+use Rattle.std.proofs.Common.{◌≡◌, ◌∙◌, ℕ, ◌+◌, ◌≤◌, true, false, ◌&&◌, not, [], ◌∷◌, ◌||◌, length, refl, sym, ap, subst, arith}
 use Rattle.std.proofs.lemmas.Bool.{cond_both, cond-true, cond-false}
 use Rattle.std.specs.Prelude.{Option, Some, None, filter, min, max}
-use Rattle.sm_state.specs.State.{number_of_state}
 use Rattle.sm_state.specs.declared.standing.Standing.{Standing}
 use Rattle.sm_state.specs.declared.state.SmState.{SmState}
 use Rattle.sm_state.specs.declared.state.SmState.TheVariants.{NotActive, Discovering, Standby, Master}
-use Rattle.sm_manager.specs.Manager.{Manager}
 use Rattle.sm_policy.specs.Policy.{is_master}
-use Rattle.sm_policy.specs.Resting.{call_due, due_in, earlier, poll_due, poll_due_in, rest_due, sweep_due}
+use Rattle.sm_policy.specs.Resting.{call_due, due_in, earlier, poll_due_in, rest_due, sweep_due}
 use Rattle.sm_policy.specs.declared.activity.Activity.{Activity}
 use Rattle.sm_policy.specs.declared.activity.Activity.TheVariants as activity
 use Rattle.sm_policy.specs.declared.rival.Rival.{Rival}
 use Rattle.request_window.specs.Window.{Window, answers, first_out}
 use Rattle.acting_manager.specs.Acting.{Acting, caught_up, collected, entered, is_request, looked}
 use Rattle.acting_manager.specs.Working.{all_overdue, dropped, is_given_up, is_idle, is_resting, is_writing, not_before, one_overdue, repeated, stopped}
-use Rattle.acting_manager.specs.Working.{taken, told_time, wake_in, wake_of}
+use Rattle.acting_manager.specs.Working.{taken, wake_of}
 use Rattle.program_laws.specs.Alone.{IsNoWord}
 use Rattle.program_laws.specs.RestTime.{sweeps_in}
-use Rattle.program_laws.specs.Wakes.{IsBy, IsNoLeave, Line, before_deciding}
+use Rattle.program_laws.specs.Wakes.{IsBy, Line, before_deciding}
 use Rattle.program_laws.proofs.alone.Hearing.{Heard, Unanswered, caught_out, caught_pending, caught_queued, caught_standing, hears, idle_lists, lists_idle}
 use Rattle.program_laws.proofs.alone.Moves.{state_is}
 use Rattle.program_laws.proofs.alone.Needs.{IsRest, rest_lasts}
@@ -28,7 +26,6 @@ use Rattle.program_laws.proofs.wakes.FreshWork.{GoesOn}
 use Rattle.program_laws.proofs.wakes.Load.{looked_about}
 use Rattle.program_laws.proofs.wakes.Resting.{HasDue, knows_state, rest_due_is, sweep_soon}
 use Rattle.program_laws.proofs.wakes.Settled.{IsSettled, caught_given, has_settled}
-use Rattle.program_laws.proofs.wakes.Waking.{looked_window}
 
 -- before late requests are dealt with -----------------------------------------------------------------------------------------
 

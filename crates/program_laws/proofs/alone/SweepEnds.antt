@@ -1,30 +1,27 @@
 -- What a manager that is alone does once its sweep is over.
-use Rattle.std.proofs.Common.{◌≡◌, ◌≢◌, ◌∙◌, ◌⊎◌, inl, inr, ℕ, ◌+◌, ◌-◌, ◌*◌, ◌<◌, ◌≤◌, Bool, true, false, cond, ◌&&◌, List, [], ◌∷◌, ◌||◌, refl, sym, ap, subst, arith}
+use Rattle.std.proofs.Common.{◌≡◌, ◌∙◌, inl, inr, ℕ, ◌+◌, ◌<◌, ◌≤◌, Bool, true, false, cond, ◌&&◌, List, [], ◌∷◌, ◌||◌, refl, sym, ap, subst, arith}
 use Rattle.std.proofs.lemmas.Bool.{cond_both, cond-true, cond-false, eq-eqb, leb-false, ltb-false}
-use Rattle.std.specs.Prelude.{◌==◌, Option, Some, None, is_none, nat_le, nat_lt}
+use Rattle.std.specs.Prelude.{◌==◌, Some, None, is_none, nat_le, nat_lt}
 use Rattle.attr_codec.specs.declared.sm_info.SmInfo.{SmInfo}
-use Rattle.sm_state.specs.Election.{any_outranks, best_with, greatest_in, is_heard_in, next_best, outranks, says}
+use Rattle.sm_state.specs.Election.{any_outranks, best_with, is_heard_in, next_best, outranks, says}
 use Rattle.sm_state.specs.Conduct.{is_heard}
-use Rattle.sm_state.specs.Standing.{info_of, is_in, moved_by, one_more}
+use Rattle.sm_state.specs.Standing.{info_of, is_in, one_more}
 use Rattle.sm_state.specs.State.{number_of_state}
 use Rattle.sm_state.specs.Transitions.{stepped}
 use Rattle.sm_state.specs.declared.election.SeenManager.{SeenManager}
 use Rattle.sm_state.specs.declared.event.Event.TheVariants.{PollsUnanswered}
-use Rattle.sm_state.specs.declared.state.SmState.{SmState}
 use Rattle.sm_state.specs.declared.state.SmState.TheVariants.{NotActive, Discovering, Standby, Master}
-use Rattle.sm_manager.specs.CallLists.{Call, after_call}
+use Rattle.sm_manager.specs.CallLists.{Call}
 use Rattle.sm_manager.specs.Election.{after_rediscover, rediscover_fault}
 use Rattle.sm_manager.specs.Manager.{Manager, emptied, is_running}
 use Rattle.sm_manager.specs.declared.fault.ManagerFault.TheVariants as fault
 use Rattle.sm_policy.specs.Policy.{Decision, patience, still, waited_longer}
 use Rattle.sm_policy.specs.Swept.{counts, ended, goes_on, leaves_it, masterless_by, swept, swept_in}
 use Rattle.sm_policy.specs.declared.act.Act.TheVariants as act
-use Rattle.sm_policy.specs.declared.activity.Activity.{Activity}
 use Rattle.sm_policy.specs.declared.activity.Activity.TheVariants as activity
 use Rattle.sm_policy.specs.declared.policy.Policy.{Policy}
-use Rattle.sm_policy.specs.declared.rival.Rival.{Rival}
 use Rattle.acting_manager.specs.Acting.{Acting, caught_up, collected, noted}
-use Rattle.acting_manager.specs.Acts.{acted, acted_in, decided, done_by, is_whole, rival_of, rival_seen}
+use Rattle.acting_manager.specs.Acts.{acted_in, decided, done_by, is_whole, rival_of, rival_seen}
 use Rattle.acting_manager.specs.Working.{given_away, is_idle, sent}
 use Rattle.acting_manager.specs.declared.note.Note.TheVariants.{Swept}
 use Rattle.program_laws.specs.Wakes.{Line, after_line, before_deciding}
@@ -40,7 +37,7 @@ use Rattle.program_laws.proofs.wakes.FreshWork.{GoesOn}
 use Rattle.program_laws.proofs.wakes.Resting.{KnowsState, looked_knows}
 use Rattle.program_laws.proofs.wakes.Sending.{only_sends}
 use Rattle.program_laws.proofs.wakes.Settled.{has_settled, settled_given}
-use Rattle.program_laws.proofs.wakes.Waking.{Falls, any_falls}
+use Rattle.program_laws.proofs.wakes.Waking.{any_falls}
 
 -- whom a sweep saw ------------------------------------------------------------------------------------------------------------------
 
