@@ -6,9 +6,11 @@ use Rattle.std.specs.Prelude.{Some, All, is_some}
 use Rattle.fabric_model.specs.Fabric as fabrics
 use Rattle.fabric_model.specs.FabricWalks.{IsJoinedTo}
 use Rattle.fabric_sim.specs.Simulation.{fabric_of}
+use Rattle.fabric_sim.proofs.SeenFabrics.{simulations_are_fabrics}
 use Rattle.fact_store.specs.View.{cells_of}
 use Rattle.subnet_view.specs.FabricAgreement.{AgreesOn}
 use Rattle.subnet_view.specs.EndPort.{IsEndPort}
+use Rattle.lid_assign.specs.Lids.{IsNoRoom}
 use Rattle.lft_blocks.specs.InForce.{HoldsPlan}
 use Rattle.sweep.specs.Sweep.{Sweep, path_to, IsReached}
 use Rattle.sm_manager.specs.Writing.{is_written}
@@ -149,6 +151,27 @@ module _ (w : Managing) (before between after : List ManagerEvent) (planned : Wr
       let may = held.may w before between after run sweep sweep_is in
       pings_arrive rule lmc facts f w.seat may.has_room (held.at_end_is w before between after run sweep sweep_is) seat_is_end known_agrees
       (holds_it written)
+
+-- what is so in the end of the part that is joined to the seat
+pub record IsServed (w : Managing) (before between after : List ManagerEvent) : Type 0 where
+  pub is_fabric : fabrics.IsFabric (fabric_of (at_end w before between after).scene.fabric)
+  pub origin : fabrics.IsEndPort (fabric_of (at_end w before between after).scene.fabric) w.seat
+  pub agrees : AgreesOn (IsJoinedTo (fabric_of (at_end w before between after).scene.fabric) w.seat)
+      (cells_of (at_writing w before between).manager.store) (fabric_of (at_end w before between after).scene.fabric)
+  pub holds : HoldsPlan (IsJoinedTo (fabric_of (at_end w before between after).scene.fabric) w.seat) (plan_at (at_writing w before between))
+      (fabric_of (at_end w before between after).scene.fabric)
+  pub has_room : ¬ (IsNoRoom (at_writing w before between).manager.planning.lmc (cells_of (at_writing w before between).manager.store))
+
+pub is_served : (w : Managing) (before between after : List ManagerEvent) → WritesWholeSweep w before between after
+    → is_written (at_end w before between after).manager ≡ true → IsServed w before between after
+is_served w before between after planned written =
+    record {
+      is_fabric = simulations_are_fabrics _ (held.at_end_is w before between after planned.writes.run planned.sweep planned.is_last);
+      origin = seat_is_end w before between after planned;
+      agrees = known_agrees w before between after planned;
+      holds = holds_it w before between after planned written;
+      has_room = (held.may w before between after planned.writes.run planned.sweep planned.is_last).has_room;
+    }
 
 pub pings_arrive_once_written : PingsArriveOnceWritten
 pings_arrive_once_written w before between after b = arrives w before between after b.planned b.written

@@ -13,9 +13,7 @@ use Rattle.node_agents.specs.Agent.{Agent, base_lid_at, lmc_at, range_at, entry_
 use Rattle.fact_store.specs.View.{Facts, cells_of}
 use Rattle.fabric_sim.specs.Simulation.{Simulation, IsSimulation, agent_at, fabric_of}
 use Rattle.fabric_sim.proofs.SeenFabrics.{agent_seen}
-use Rattle.fabric_sim.proofs.TripEnds.{few_ports, along_itself}
 use Rattle.fabric_sim.proofs.TripShapes.{IsAlong}
-use Rattle.fabric_sim.proofs.TracedCalls.{AreTraced}
 use Rattle.subnet_view.specs.declared.end_port.EndPort.{EndPort}
 use Rattle.subnet_view.proofs.Members.{contains_none}
 use Rattle.lid_assign.specs.Lids.{range_of, top_of}
@@ -27,55 +25,24 @@ use Rattle.plan_steps.specs.Carried.{port_read}
 use Rattle.plan_steps.specs.LidSteps.{own_lid, port_data}
 use Rattle.plan_steps.specs.BlockSteps.{top_data}
 use Rattle.plan_steps.specs.Phase.{Phase, phases_of}
-use Rattle.sm_manager.specs.Manager.{Manager, Writing, after_begin_sweep}
+use Rattle.sm_manager.specs.Manager.{Manager, Writing}
 use Rattle.sm_manager.specs.Writing.{begun_with, is_written, without_empty_phases, phases_by, after_write_steps}
 use Rattle.manager_laws.specs.Truth.{HasNode, AreGuidsDistinct}
-use Rattle.manager_laws.proofs.Answers as scenes
-use Rattle.manager_laws.proofs.Swept as swept_laws
-use Rattle.manager_laws.specs.Managing.{Managing, ManagerEvent, Begin, Starts, after_manager_event, after_manager_events}
+use Rattle.manager_laws.specs.Managing.{Managing, ManagerEvent}
 use Rattle.manager_laws.specs.Written.{IsHeldWhere, IsWritingRun, WrittenPlansAreHeld, at_first_steps, at_writing}
 use Rattle.manager_laws.specs.Written.{at_end, own_sets, plan_at}
 use Rattle.manager_laws.specs.Sets.{Carries, IsOwnSet}
 use Rattle.manager_laws.proofs.After.{IsOnWay, Writes, phase_writes, after_writes, written_done}
 use Rattle.manager_laws.proofs.AgentSets.{Holds}
-use Rattle.manager_laws.proofs.Before.{none-is_none, begin_goes, before_goes, between_goes}
-use Rattle.manager_laws.proofs.Fair.{AreOwnPackets}
-use Rattle.manager_laws.proofs.Generations.{generation_small, in_range_small}
+use Rattle.manager_laws.proofs.Before.{none-is_none}
 use Rattle.manager_laws.proofs.Goes.{Goes}
 use Rattle.manager_laws.proofs.Led.{IsLedSweep, LeadsToVertex, path_led, seen_small}
-use Rattle.manager_laws.proofs.Numbered.{from_passed, none_once, passed_is_of}
-use Rattle.manager_laws.proofs.Scenes.{Sends, Tells, WereTraced}
+use Rattle.manager_laws.proofs.Numbered.{from_passed, passed_is_of}
+use Rattle.manager_laws.proofs.SweepBegins as sweeps
 use Rattle.manager_laws.proofs.Steps.{IsOf, StepSent, range_is_set, block_is_set, top_is_set, range_value, top_value}
-use Rattle.manager_laws.proofs.WritingSweeps.{Ground, IsSwept, IsSweptOne, nothing_accepted}
+use Rattle.manager_laws.proofs.WritingSweeps.{Ground, IsSwept, IsSweptOne}
 use Rattle.manager_laws.proofs.WritingTaken.{IsGood, IsDone, nodes_stay}
 use Rattle.manager_laws.proofs.Writings.{MayWrite, may_write, own_carries, writing_good}
-
--- at the start -----------------------------------------------------------------------------------------
-
-pub starting : (w : Managing) → Starts w → (plan : PlanValue) → Goes w.scene.fabric w.seat plan (Unit {0}) w
-starting w starts plan =
-    let start = w.scene.fabric in
-    let c = w.manager.counter in
-    record {
-      fair = record {
-        scene = scenes.begun w.scene starts.quiet;
-        traced = record {
-          flights = subst (AreTraced (Sends start w.seat plan c []) (Tells start w.seat plan c [] start) start) (sym starts.quiet.flights) tt;
-          handed = subst (WereTraced start w.seat plan c [] start) (sym starts.quiet.handed) tt;
-        };
-        seat_is = refl;
-        side = record {
-          port = starts.port;
-          lmc = starts.lmc;
-          sweep = inl (tt, nothing_accepted start w.seat w.manager starts.at_rest.sweep);
-          knows = in_range_small w.manager.store starts.at_rest.facts (generation_small w.manager.store.floor starts.at_rest.floor);
-        };
-        once = none_once c w.manager.pending starts.at_rest.pending;
-        outgoing = subst (AreOwnPackets start w.seat plan c [] w.scene.handed) (sym starts.at_rest.outgoing) tt;
-        out = subst (AreOwnPackets start w.seat plan c [] w.scene.handed) (sym starts.out) tt;
-      };
-      waits = inl (λ p there is. contains_none p (subst (λ ps. Contains ps p) starts.at_rest.pending there));
-    }
 
 -- what a step that was done means -------------------------------------------------------------------------
 
@@ -100,40 +67,14 @@ module _ (start s : Simulation) (seat : NodePort) (plan : PlanValue) (distinct :
 
 module _ (w : Managing) (before between after : List ManagerEvent) (run : IsWritingRun w before between after) where
   pub along0 : IsAlong w.scene.fabric w.scene.fabric
-  along0 = along_itself w.scene.fabric run.starts.quiet.fabric
+  along0 = sweeps.along0 w run.starts
 
   pub ground : Ground w.scene.fabric w.seat
-  ground =
-      record {
-        cables = run.starts.quiet.fabric.cables;
-        counts = few_ports w.scene.fabric along0.agents;
-        can = swept_laws.can_be_swept w.scene.fabric run.starts.quiet.fabric w.seat run.starts.seat run.starts.distinct;
-        cabled = swept_laws.is_cabled w.scene.fabric run.starts.quiet.fabric;
-      }
-
-  pub went_before : Goes w.scene.fabric w.seat (plan_at (at_writing w before between)) (Unit {0}) (after_manager_events before w)
-  went_before =
-      before_goes w.scene.fabric w.seat (plan_at (at_writing w before between)) ground before w run.sweeps_first
-      (starting w run.starts (plan_at (at_writing w before between))) run.before_can
-
-  pub sweep_first : after_manager_event (after_manager_events before w) Begin
-      ≡ record (after_manager_events before w) { manager = after_begin_sweep (after_manager_events before w).manager }
-  sweep_first =
-      ap (λ b. record (after_manager_events before w) {
-        manager = cond b (after_begin_sweep (after_manager_events before w).manager)
-            (after_manager_events before w).manager;
-      })
-      (none-is_none _ run.sweep_begins)
-
-  pub swept_first : Goes w.scene.fabric w.seat (plan_at (at_writing w before between)) ⊥ (after_manager_event (after_manager_events before w) Begin)
-  swept_first =
-      subst (Goes w.scene.fabric w.seat (plan_at (at_writing w before between)) ⊥) (sym sweep_first)
-      (begin_goes w.scene.fabric w.seat (plan_at (at_writing w before between)) ground (Unit {0}) (after_manager_events before w) went_before run.sweep_begins)
+  ground = sweeps.ground w run.starts
 
   pub swept_before : Goes w.scene.fabric w.seat (plan_at (at_writing w before between)) ⊥ (at_writing w before between)
   swept_before =
-      between_goes w.scene.fabric w.seat (plan_at (at_writing w before between)) ground between
-      (after_manager_event (after_manager_events before w) Begin) swept_first run.between_can
+      sweeps.swept_on w run.starts (plan_at (at_writing w before between)) before run.sweeps_first run.before_can run.sweep_begins between run.between_can
 
   module _ (sweep : Sweep) (sweep_is : (at_writing w before between).manager.sweep ≡ Some sweep) where
     pub may : MayWrite (at_writing w before between).manager

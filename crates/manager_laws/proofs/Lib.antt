@@ -25,6 +25,7 @@ pub mod Goes
 pub mod HeardAnswers
 pub mod Held
 pub mod Known
+pub mod KnownPart
 pub mod Led
 pub mod Lists
 pub mod NewManagers
@@ -44,6 +45,7 @@ pub mod Sound
 pub mod Steps
 pub mod Sweeps
 pub mod Swept
+pub mod SweepBegins
 pub mod Taken
 pub mod TracedScenes
 pub mod TrueFacts

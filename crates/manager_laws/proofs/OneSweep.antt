@@ -1,7 +1,7 @@
 -- A manager that knew nothing knows what one sweep was told, which is followed from the first scene on, while something is so of the scene.
 use Rattle.std.proofs.Common.{◌≡◌, inr, ℕ, ◌<◌, ◌≤◌, ◌^◌, Bool, List, [], ◌∷◌, ◌++◌, map, refl, sym, ap, ◌∙◌, subst, arith}
 use Rattle.std.proofs.lemmas.List.Elements.{All-head, All-tail}
-use Rattle.std.specs.Prelude.{Some, All}
+use Rattle.std.specs.Prelude.{None, Some, All}
 use Rattle.fabric_model.specs.declared.cable.NodePort.{NodePort}
 use Rattle.reply_facts.specs.declared.report.Report.{Report}
 use Rattle.fact_store.specs.Seen.{newest_of}
@@ -11,7 +11,7 @@ use Rattle.lft_blocks.specs.Plan.{PlanValue}
 use Rattle.sweep.specs.declared.request.Request.{Request}
 use Rattle.sweep.specs.Sweep.{Sweep, started}
 use Rattle.sm_state.specs.Conduct.{is_live}
-use Rattle.sm_manager.specs.Manager.{after_begin_sweep, newest_held, next_generation, with_all_sent}
+use Rattle.sm_manager.specs.Manager.{after_begin_sweep, begin_fault, newest_held, next_generation, with_all_sent}
 use Rattle.manager_laws.specs.Scene.{Scene}
 use Rattle.manager_laws.specs.Sweeping as sweeping
 use Rattle.manager_laws.specs.Sweeping.{AlwaysSo, Sweeping, SweepEvent, Begins, after_sweep_events}
@@ -24,7 +24,7 @@ use Rattle.manager_laws.proofs.Followed.{seen_further, stays_append}
 use Rattle.manager_laws.proofs.Follows.{Follows, event_followed}
 use Rattle.manager_laws.proofs.Generations.{AreOf, floor_small}
 use Rattle.manager_laws.proofs.Goes.{Goes}
-use Rattle.manager_laws.proofs.Held as held
+use Rattle.manager_laws.proofs.SweepBegins as sweeps
 use Rattle.manager_laws.proofs.Sweeps.{told_in}
 use Rattle.manager_laws.proofs.WritingSweeps.{Ground}
 
@@ -162,19 +162,28 @@ module _ (is_so : Scene → Type 0) (from : Scene) (seat : NodePort) where
         (λ event events x old g can later stays. seen_further is_so x.scene (after_manager_event x event).scene _
         (event_seen is_so from.fabric seat plan old x.manager.counter [] x event g.fair can stays.0) (later stays.1))
 
+-- a sweep that began when the manager knew nothing, and of which alone it learned
+pub swept_once : (w : Managing) → Starts w → (before between : List ManagerEvent) → SweepsFirst before w → All (CanBe w.seat) before
+    → begin_fault (after_manager_events before w).manager ≡ None → All (CanBe w.seat) between
+    → cells_of (after_manager_events before w).manager.store ≡ [] → AreNoSweeps between (after_manager_event (after_manager_events before w) Begin)
+    → (is_so : Scene → Type 0) → is_so w.scene → StaysSo is_so before w
+    → StaysSo is_so between (after_manager_event (after_manager_events before w) Begin)
+    → FollowsOne is_so w.scene w.seat (at_writing w before between)
+swept_once w starts before between sweeps_first before_can begins between_can nothing alone is_so now so_before so_between =
+    let p = plan_at (at_writing w before between) in
+    let ground = sweeps.ground w starts in
+    let x = after_manager_events before w in
+    let so = so_at_last is_so before w now so_before in
+    let seen = before_seen is_so w.scene w.seat p ground before w sweeps_first (sweeps.starting w starts p) before_can so_before in
+    follows_through is_so w.scene w.seat p ground between (after_manager_event x Begin) alone
+    (sweeps.swept_first w starts p before sweeps_first before_can begins) between_can so so_between
+    (subst (FollowsOne is_so w.scene w.seat) (sym (sweeps.sweep_first w starts p before sweeps_first before_can begins))
+    (follows_first is_so w.scene w.seat p ground (Unit {0}) x seen so (sweeps.went_before w starts p before sweeps_first before_can) nothing))
+
 -- the sweep of a run that writes
 pub one_sweep : (w : Managing) (before between after : List ManagerEvent) → IsWritingRun w before between after
     → cells_of (after_manager_events before w).manager.store ≡ [] → AreNoSweeps between (after_manager_event (after_manager_events before w) Begin)
     → (is_so : Scene → Type 0) → is_so w.scene → StaysSo is_so before w
     → StaysSo is_so between (after_manager_event (after_manager_events before w) Begin)
     → FollowsOne is_so w.scene w.seat (at_writing w before between)
-one_sweep w before between after run nothing alone is_so now so_before so_between =
-    let p = plan_at (at_writing w before between) in
-    let ground = held.ground w before between after run in
-    let x = after_manager_events before w in
-    let so = so_at_last is_so before w now so_before in
-    let seen = before_seen is_so w.scene w.seat p ground before w run.sweeps_first (held.starting w run.starts p) run.before_can so_before in
-    follows_through is_so w.scene w.seat p ground between (after_manager_event x Begin) alone (held.swept_first w before between after run) run.between_can
-    so so_between
-    (subst (FollowsOne is_so w.scene w.seat) (sym (held.sweep_first w before between after run))
-    (follows_first is_so w.scene w.seat p ground (Unit {0}) x seen so (held.went_before w before between after run) nothing))
+one_sweep w before between after run = swept_once w run.starts before between run.sweeps_first run.before_can run.sweep_begins run.between_can

@@ -13,6 +13,7 @@ pub mod Claims
 pub mod OnePlan
 pub mod Takeover
 pub mod Known
+pub mod KnownPart
 pub mod Masters
 pub mod OwnRuns
 pub mod StaysInForce

@@ -2,6 +2,7 @@
 ghost use Rattle.manager_laws.specs.AnswersTell.{AnswersTell};
 ghost use Rattle.manager_laws.specs.Complete.{DoneSweepsAreComplete, SomeManagerIsSilent, SomeSweepIsWhole};
 ghost use Rattle.manager_laws.specs.Complete.{SweptPingsArrive};
+ghost use Rattle.manager_laws.specs.KnownPart.{KnowsItsPart};
 ghost use Rattle.manager_laws.specs.Managing.{NewManagersRest};
 ghost use Rattle.manager_laws.specs.Pings.{PingsArrive};
 ghost use Rattle.manager_laws.specs.Sweeping.{AcceptedFactsAreTrue};
@@ -47,6 +48,13 @@ pub fn pings_arrive()
 /// nothing at all.
 pub fn done_sweeps_are_complete()
     ensures { DoneSweepsAreComplete }
+{}
+
+/// A manager's facts describe exactly the part that is joined to its seat, as the part is at that time, if it held no
+/// facts when its last sweep began, has learned nothing else since, and the sweep has every answer. Earlier sweeps and
+/// writings may have come before. The run is as in `manager_laws::laws::written_plans_are_held`.
+pub fn knows_its_part()
+    ensures { KnowsItsPart }
 {}
 
 /// Each ping from an end port of the part that is joined to a sweep's seat, for each LID of the plan of what the sweep

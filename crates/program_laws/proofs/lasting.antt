@@ -1,10 +1,15 @@
 pub mod Answered
+pub mod AnsweredPings
+pub mod AnsweredRuns
+pub mod AnsweredWritings
 pub mod Counted
+pub mod EventLines
 pub mod FirstPlans
 pub mod GoodLines
 pub mod Healing
 pub mod HealingAtSeat
 pub mod HealingExample
+pub mod KeptPlans
 pub mod LoneAdapter
 pub mod LoneSweeps
 pub mod Notes
@@ -14,3 +19,4 @@ pub mod Standing
 pub mod StandingPings
 pub mod StillWritten
 pub mod Told
+pub mod ToldPaths

@@ -7,6 +7,7 @@ pub mod Moves
 pub mod Newest
 pub mod OneSweeps
 pub mod Outcomes
+pub mod PathExample
 pub mod Pinged
 pub mod Staged
 pub mod Steps

@@ -35,33 +35,47 @@ pub record SweptWell (a : Acting) : Type 0 where
   pub unrefused : writing_fault a.manager ≡ None
 
 -- all goes well when the manager is told a line: it gives no request up; if it rests, it is to sweep; if its sweep is over,
--- it is to judge its plan; and if its writing is over, the plan is written
-pub record GoesWell (line : Line) (a : Acting) : Type 0 where
+-- it is to judge its plan; and `writing_so` is so of what it writes
+pub record GoesWellBy (writing_so : Line → Acting → Type 0) (line : Line) (a : Acting) : Type 0 where
   pub none_lost : list_any tells_loss (after_told line.0 line.1 a).notes ≡ false
   pub to_sweep : IsToSweep line a
   pub swept : is_idle (before_deciding line a).window ≡ true → is_sweeping (before_deciding line a).policy.activity ≡ true
       → SweptWell (before_deciding line a)
-  pub wrote : is_idle (before_deciding line a).window ≡ true → is_writing (before_deciding line a).policy.activity ≡ true
-      → is_written (before_deciding line a).manager ≡ true
+  pub writes : writing_so line a
 
-abbrev pub AllGoWell : List Line → Acting → Type 0
-AllGoWell [] a = Unit {0}
-AllGoWell (line ∷ lines) a = GoesWell line a × AllGoWell lines (after_line line a)
+abbrev pub AllGoWellBy : (Line → Acting → Type 0) → List Line → Acting → Type 0
+AllGoWellBy writing_so [] a = Unit {0}
+AllGoWellBy writing_so (line ∷ lines) a = GoesWellBy writing_so line a × AllGoWellBy writing_so lines (after_line line a)
 
 -- all goes well for a manager that decides by itself, through the lines. It may send each request once at least, one may be
 -- out, nobody tells it to leave or has told it, its newest generation fits in 32 bits at first, and times fit in 64 bits
-pub record IsUndisturbed (n : ℕ) (a : Acting) (lines : List Line) : Type 0 where
+pub record IsUndisturbedBy (writing_so : Line → Acting → Type 0) (n : ℕ) (a : Acting) (lines : List Line) : Type 0 where
   pub decided : HasDecided a
   pub generations : decided.newest < 2 ^ 32
   pub none_left : NoneLeaves decided.lines
   pub first : is_resting a.policy.activity ≡ true → is_idle a.window ≡ true → sweeps_by_itself a ≡ true
-  pub well : AllGoWell lines a
+  pub well : AllGoWellBy writing_so lines a
   pub few : HasFewTurns n lines a
   pub tries : 1 ≤ a.window.limits.tries
   pub outstanding : 1 ≤ a.window.limits.outstanding
   pub stays_on : a.is_leaving ≡ false
   pub none_leaves : NoneLeaves lines
   pub time : (after_lines lines a).time < 2 ^ 64
+
+-- if the manager's writing is over, the plan is written
+abbrev pub EndsWritten : Line → Acting → Type 0
+EndsWritten line a =
+    is_idle (before_deciding line a).window ≡ true → is_writing (before_deciding line a).policy.activity ≡ true
+    → is_written (before_deciding line a).manager ≡ true
+
+abbrev pub GoesWell : Line → Acting → Type 0
+GoesWell = GoesWellBy EndsWritten
+
+abbrev pub AllGoWell : List Line → Acting → Type 0
+AllGoWell = AllGoWellBy EndsWritten
+
+abbrev pub IsUndisturbed : ℕ → Acting → List Line → Type 0
+IsUndisturbed = IsUndisturbedBy EndsWritten
 
 -- one of the lines begins a sweep, and a later one, `ends`, ends the work on that. The plan that the manager keeps is then
 -- that of its last writing, and is written

@@ -11,7 +11,8 @@ use Rattle.manager_laws.specs.Pings.{EachPingArrives}
 use Rattle.manager_laws.specs.Sets.{KeepsPlan, OwnSets}
 use Rattle.manager_laws.specs.Written.{own_sets, plan_at}
 use Rattle.program_laws.specs.Deciding.{Around, CanDecide, Deciding, DecidingEvent, after_deciding_event, after_deciding_events}
-use Rattle.program_laws.specs.Healing.{IsUndisturbed}
+use Rattle.program_laws.specs.AnsweredWritings.{KeepsWriting}
+use Rattle.program_laws.specs.Healing.{IsUndisturbedBy}
 use Rattle.program_laws.specs.ManagedPings.{managed_at_end, managed_at_writing}
 use Rattle.program_laws.specs.ManagedWritings.{IsNew, begins_writing, managing_of}
 use Rattle.program_laws.specs.SweepTime.{lines_of}
@@ -26,13 +27,13 @@ OthersKeep plan own (Around event ∷ events) d =
 OthersKeep plan own (event ∷ events) d = OthersKeep plan own events (after_deciding_event d event)
 
 -- a new manager that decides by itself sits at its seat, and nothing is on its way. After the events `before` all goes well
--- for it, through the events `events`
+-- for it, through the events `events`; of what it writes only this is asked, that it does not give it up
 pub record IsUndisturbedAt (n : ℕ) (d : Deciding) (before events : List DecidingEvent) : Type 0 where
   pub new : IsNew d
   pub starts : Starts (managing_of d)
   pub before_can : AllByRecursion (CanDecide d.seat) before
   pub events_can : AllByRecursion (CanDecide d.seat) events
-  pub undisturbed : IsUndisturbed n (after_deciding_events before d).acting (lines_of events (after_deciding_events before d))
+  pub undisturbed : IsUndisturbedBy KeepsWriting n (after_deciding_events before d).acting (lines_of events (after_deciding_events before d))
 
 -- at some moment in the events, after `first`, the plan of the last writing, which the event `begins` began, serves: if the
 -- manager was strict when it began, and others kept the plan since then, each ping from an end port that the seat is joined

@@ -6,6 +6,8 @@ pub mod ServeLaws
 pub mod Told
 pub mod Alone
 pub mod AlwaysAsks
+pub mod AnsweredWritings
+pub mod AnsweredPings
 pub mod Deciding
 pub mod ManagedEnds
 pub mod FreshWork
@@ -18,6 +20,7 @@ pub mod NextSweep
 pub mod RestTime
 pub mod StandingPings
 pub mod StandingPlans
+pub mod ToldPaths
 pub mod SweepTime
 pub mod Wakes
 pub mod WritingTime

@@ -14,7 +14,7 @@ use Rattle.manager_laws.specs.Written.{BeginsNoWriting, BeginsSweep, SweepsFirst
 use Rattle.manager_laws.proofs.Before.{before_goes, event_goes, is_none-none}
 use Rattle.manager_laws.proofs.Fair.{own_there}
 use Rattle.manager_laws.proofs.Goes.{Goes}
-use Rattle.manager_laws.proofs.Held as held_laws
+use Rattle.manager_laws.proofs.SweepBegins.{starting}
 use Rattle.manager_laws.proofs.WritingSweeps.{Ground}
 use Rattle.manager_laws.specs.Masters.{AllCanBe, Around, At, CanBe, IsAt, IsItsOwn, Masters, MastersEvent, Seated, StartTogether, acting}
 use Rattle.manager_laws.specs.Masters.{after_masters_event, after_masters_events, has_swept_after, seated_after, seen_by}
@@ -28,7 +28,7 @@ pub what_is_given_out_can_be_sent : WhatIsGivenOutCanBeSent
 what_is_given_out_can_be_sent w events starts first all which o there =
     let plan = plan_at w in
     let after = after_manager_events events w in
-    let g = before_goes w.scene.fabric w.seat plan (ground_of w starts) events w first (held_laws.starting w starts plan) all in
+    let g = before_goes w.scene.fabric w.seat plan (ground_of w starts) events w first (starting w starts plan) all in
     let own = own_there w.scene.fabric w.seat plan after.manager.counter [] after.scene.handed after.out which o g.fair.out there in
     record {
       sending = own.sending;
@@ -227,7 +227,7 @@ module _ (t0 : Masters) (starts : StartTogether t0) (plan : PlanValue) where
           seat = refl;
           swept = λ knows. absurd (cc (sym (starts.none_swept which m0 there).0 ∙ knows));
           goes = subst (λ b. Goes t0.scene.fabric m0.seat plan (Old b) (seen_by t0.scene m0)) (sym (starts.none_swept which m0 there).0)
-              (held_laws.starting (seen_by t0.scene m0) (starts.each which m0 there) plan);
+              (starting (seen_by t0.scene m0) (starts.each which m0 there) plan);
         };
         seats = record { was = λ which m there. (m, there, refl) };
       }

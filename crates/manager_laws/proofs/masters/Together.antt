@@ -18,9 +18,9 @@ use Rattle.manager_laws.proofs.Answers as scenes
 use Rattle.manager_laws.proofs.Done.{seat_end}
 use Rattle.manager_laws.proofs.Fair.{AreOwnPackets}
 use Rattle.manager_laws.proofs.Goes.{Goes}
-use Rattle.manager_laws.proofs.Held as held_laws
 use Rattle.manager_laws.proofs.OneSweep.{first_begins, first_of}
 use Rattle.manager_laws.proofs.Sound.{CanBeSwept}
+use Rattle.manager_laws.proofs.SweepBegins.{starting}
 use Rattle.manager_laws.proofs.Swept as swept_laws
 use Rattle.manager_laws.proofs.TracedScenes.{WereTraced}
 use Rattle.manager_laws.proofs.WritingSweeps.{Ground}
@@ -269,7 +269,7 @@ module _ (held : Facts) (planning : Planning) (t0 : Masters) (h : ShareLids held
       let none = h.starts.none_swept which m there in
       record {
         goes = subst (λ b. Goes t0.scene.fabric m.seat (plan_by_it planning held) (Old b) (seen_by t0.scene m)) (sym none.0)
-            (held_laws.starting (seen_by t0.scene m) starts (plan_by_it planning held));
+            (starting (seen_by t0.scene m) starts (plan_by_it planning held));
         plans = record {
           all = [];
           outgoing = subst (AreOwnPackets t0.scene.fabric m.seat (plan_by_it planning held) 0 [] t0.scene.handed) (sym starts.at_rest.outgoing) tt;

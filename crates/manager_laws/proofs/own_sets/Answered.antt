@@ -16,7 +16,7 @@ use Rattle.sm_manager.specs.declared.pending.Pending.{Pending}
 use Rattle.sm_manager.specs.CallLists as calls
 use Rattle.sm_manager.specs.Manager.{Manager, Writing}
 use Rattle.sm_manager.specs.ManagerRequests.{counts, is_step, none_counts}
-use Rattle.sm_manager.specs.Packets.{answers}
+use Rattle.sm_manager.specs.Packets.{answers, is_for_sweep}
 use Rattle.sm_manager.specs.Writing.{after_write_steps, is_written, is_written_by, write_fault_with}
 use Rattle.sm_manager.proofs.Begun.{may_begin}
 use Rattle.manager_laws.specs.Managing.{CanBe, Managing, ManagerEvent, Around, Begin, Write, Take, Send, Hear, TimeOut, Raise, Merge, Poll, HandOver, Yield, Rediscover}
@@ -25,7 +25,7 @@ use Rattle.manager_laws.specs.OwnSetsTaken.{AnsweredPlansAreWritten, AreAnswered
 use Rattle.manager_laws.specs.WritingPings.{WritesItsSweep}
 use Rattle.manager_laws.specs.Scene.{Handed}
 use Rattle.manager_laws.specs.Written.{AllKeep, Keeps, at_end, at_first_steps, at_writing, own_sets, plan_at}
-use Rattle.manager_laws.proofs.After.{Writes, event_writes}
+use Rattle.manager_laws.proofs.After.{Writes, after_writes, event_writes}
 use Rattle.manager_laws.proofs.Arrive.{arrives}
 use Rattle.manager_laws.proofs.AskedSets.{WasAsked}
 use Rattle.manager_laws.proofs.Before.{none-is_none}
@@ -92,6 +92,22 @@ module _ (w : Managing) (before between after : List ManagerEvent) (writes : Wri
         by_counts false e = refl
         by_counts true e = ap not (says.0 ∙ ap (λ s. s == done) (says_done e))
 
+  -- so it is of each answer that is heard in the end
+  pub heard_done : (which : ℕ) (h : Handed) → slice_get (at_end w before between after).scene.handed which ≡ Some h
+      → is_same_port h.at (at_end w before between after).seat ≡ true
+      → (p : Pending) → Contains (at_end w before between after).manager.pending p → is_step p ≡ true → counts p ≡ true
+      → answers h.packet.bytes p ≡ true → is_for_sweep h.packet.bytes ≡ false → status h.packet.bytes ≡ done
+  heard_done which h there here p waits is counted answered no_sweep =
+      says_done (at_end w before between after) ends which h there here p waits is answered (status h.packet.bytes == done) (refl, no_sweep) counted
+    where
+      ends : Runs (at_end w before between after)
+      ends =
+          after_writes w.scene.fabric w.seat (plan_at (at_writing w before between)) (at_writing w before between).manager.counter
+          (held.phases w before between after writes.run sweep sweep_is) (held.good w before between after writes.run sweep sweep_is)
+          (held.ground w before between after writes.run) (own_sets w (at_writing w before between))
+          (held.owns w before between after writes.run sweep sweep_is) after (at_first_steps w before between) writes.run.keep
+          (held.begins w before between after writes.run sweep sweep_is) writes.run.after_can
+
   -- no step that counts fails -----------------------------------------------------------------------------
 
   heard_unfailed : (x : Managing) → Runs x → (which : ℕ) (m : Option Handed) → slice_get x.scene.handed which ≡ m → IsUnfailed x.manager.writing
@@ -157,15 +173,30 @@ module _ (w : Managing) (before between after : List ManagerEvent) (writes : Wri
       (and_from _ _ (ap not (over.none_to_come ends.now ends.writing)) over.none_waits)
 
 -- a writing that begins has a sweep
-pub answered_plans_are_written : AnsweredPlansAreWritten
-answered_plans_are_written w before between after writes answered = by_sweep (at_writing w before between).manager.sweep refl
+swept_before : (w : Managing) (before between after : List ManagerEvent) → WritesItsSweep w before between after
+    → (sweep : Sweep) × ((at_writing w before between).manager.sweep ≡ Some sweep)
+swept_before w before between after writes = by_sweep (at_writing w before between).manager.sweep refl
   where
-    by_sweep : (o : Option Sweep) → (at_writing w before between).manager.sweep ≡ o → is_written (at_end w before between after).manager ≡ true
+    by_sweep : (o : Option Sweep) → (at_writing w before between).manager.sweep ≡ o
+        → (sweep : Sweep) × ((at_writing w before between).manager.sweep ≡ Some sweep)
     by_sweep None e =
         let none : write_fault_with (at_writing w before between).manager None ≡ None =
         ap (write_fault_with (at_writing w before between).manager) (sym e) ∙ (may_begin (at_writing w before between).manager writes.run.writing_begins).may in
         absurd (cc)
-    by_sweep (Some sweep) e = written w before between after writes sweep e answered
+    by_sweep (Some sweep) e = (sweep, e)
+
+pub answered_plans_are_written : AnsweredPlansAreWritten
+answered_plans_are_written w before between after writes answered =
+    let of = swept_before w before between after writes in written w before between after writes of.0 of.1 answered
+
+-- an answer to a step that counts has status 0
+pub answers_are_done : (w : Managing) (before between after : List ManagerEvent) → WritesItsSweep w before between after
+    → (which : ℕ) (h : Handed) → slice_get (at_end w before between after).scene.handed which ≡ Some h
+    → is_same_port h.at (at_end w before between after).seat ≡ true
+    → (p : Pending) → Contains (at_end w before between after).manager.pending p → is_step p ≡ true → counts p ≡ true
+    → answers h.packet.bytes p ≡ true → is_for_sweep h.packet.bytes ≡ false → status h.packet.bytes ≡ done
+answers_are_done w before between after writes =
+    let of = swept_before w before between after writes in heard_done w before between after writes of.0 of.1
 
 pub pings_arrive_once_answered : PingsArriveOnceAnswered
 pings_arrive_once_answered w before between after b =

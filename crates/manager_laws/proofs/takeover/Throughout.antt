@@ -34,6 +34,7 @@ use Rattle.manager_laws.proofs.After.{Writes, event_writes}
 use Rattle.manager_laws.proofs.Before.{by_before, by_swept}
 use Rattle.manager_laws.proofs.Goes.{Goes}
 use Rattle.manager_laws.proofs.Held as held
+use Rattle.manager_laws.proofs.SweepBegins.{starting, swept_first}
 use Rattle.manager_laws.proofs.WritingSweeps.{Ground}
 use Rattle.manager_laws.specs.Takeover.{AllCarry, Carrying, IsInUse, InUseAlong, IsInUseThroughout, PingsArriveThroughout, TakesOverQuietly, planning_at, plan_by_it}
 use Rattle.manager_laws.proofs.takeover.HeldOn.{AreListed, HeldOn, delivery_keeps, held_later, holds_now, same_keep}
@@ -244,9 +245,10 @@ module _ (given : Facts) (w : Managing) (before between after : List ManagerEven
   throughout =
       let plan = plan_at (at_writing w before between) in
       let one = by_before w.scene.fabric w.seat plan ground Along none_along one_along before w planned.writes.run.sweeps_first
-      (held.starting w planned.writes.run.starts plan) planned.writes.run.before_can t.carry_before at_first in
+      (starting w planned.writes.run.starts plan) planned.writes.run.before_can t.carry_before at_first in
       let two = by_swept w.scene.fabric w.seat plan ground Along none_along one_along between (after_manager_event (after_manager_events before w) Begin)
-      (held.swept_first w before between after planned.writes.run) planned.writes.run.between_can t.carry_between one.1 in
+      (swept_first w planned.writes.run.starts plan before planned.writes.run.sweeps_first planned.writes.run.before_can planned.writes.run.sweep_begins)
+      planned.writes.run.between_can t.carry_between one.1 in
       record {
         until_sweep = one.0;
         until_writing = two.0;

@@ -294,7 +294,7 @@ line_none line a s none sweeps = by_idle (is_idle x.window) refl
               (after.heard (ap (λ (y : Acting). list_any tells_loss (sent y).notes) (sym waits_is) ∙ none)),
         )
 
-given_parts : (during : List Line) (ends : Line) (a : Acting) → NothingGivenUp (during ++ ends ∷ []) a
+pub given_parts : (during : List Line) (ends : Line) (a : Acting) → NothingGivenUp (during ++ ends ∷ []) a
     → NothingGivenUp during a × (list_any tells_loss (sent (acted_if_idle (before_deciding ends (after_lines during a)))).notes ≡ false)
 given_parts [] ends a none = (tt, none.0)
 given_parts (line ∷ during) ends a none = let rest = given_parts during ends (after_line line a) none.1 in ((none.0, rest.0), rest.1)
@@ -311,7 +311,7 @@ more_lost : (notes : List Note) (note : Note) → IsLost notes → IsLost (notes
 more_lost notes note lost = any_last tells_loss notes note ∙ ap (λ b. b || tells_loss note) lost
 
 -- when it decides, it takes no note back
-noted_before : (x : Acting) → list_any tells_loss (sent (acted_if_idle x)).notes ≡ false → list_any tells_loss x.notes ≡ false
+pub noted_before : (x : Acting) → list_any tells_loss (sent (acted_if_idle x)).notes ≡ false → list_any tells_loss x.notes ≡ false
 noted_before x none = by (list_any tells_loss x.notes) refl
   where
     by : (b : Bool) → list_any tells_loss x.notes ≡ b → list_any tells_loss x.notes ≡ false
@@ -321,7 +321,7 @@ noted_before x none = by (list_any tells_loss x.notes) refl
         let wrong : true ≡ false = sym still ∙ none in
         absurd (cc)
 
-none_both : (first later : List Line) → NoneLeaves first → NoneLeaves later → NoneLeaves (first ++ later)
+pub none_both : (first later : List Line) → NoneLeaves first → NoneLeaves later → NoneLeaves (first ++ later)
 none_both [] later none more = more
 none_both (line ∷ first) later none more = (none.0, none_both first later none.1 more)
 

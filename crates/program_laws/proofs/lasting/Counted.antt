@@ -20,10 +20,10 @@ use Rattle.manager_laws.proofs.writing_ends.Turns.{marked, over_by}
 use Rattle.program_laws.proofs.managed.Moves.{both, filtered}
 
 -- none of the requests is a step that counts
-abbrev NoneCount : List Pending → Type 0
+abbrev pub NoneCount : List Pending → Type 0
 NoneCount ps = AllByRecursion (λ (p : Pending). counts p ≡ false) ps
 
-all_none : (ps : List Pending) → ((p : Pending) → Contains ps p → counts p ≡ true → ⊥) → NoneCount ps
+pub all_none : (ps : List Pending) → ((p : Pending) → Contains ps p → counts p ≡ true → ⊥) → NoneCount ps
 all_none ps never = from_members (λ (p : Pending). counts p ≡ false) ps (λ p there. by p there (counts p) refl)
   where
     by : (p : Pending) → Contains ps p → (b : Bool) → counts p ≡ b → counts p ≡ false
@@ -43,7 +43,7 @@ numbered_none c n (s ∷ steps) e = (e, numbered_none c (suc n) steps e)
 
 -- phases that do not count ------------------------------------------------------------------------
 
-abbrev NoPhase : List Phase → Type 0
+abbrev pub NoPhase : List Phase → Type 0
 NoPhase phases = list_any (λ (p : Phase). p.counts) phases ≡ false
 
 next_none : (phases : List Phase) → NoPhase phases → (next_phase phases).counts ≡ false
@@ -62,12 +62,12 @@ passed_none (p ∷ phases) e =
 
 -- what counts as written ----------------------------------------------------------------------------
 
-record AllDone (m : Manager) : Type 0 where
-  now : Writing
-  writing : m.writing ≡ Some now
-  unfailed : now.has_failed ≡ false
-  later : NoPhase now.later
-  none : NoneCount m.pending
+pub record AllDone (m : Manager) : Type 0 where
+  pub now : Writing
+  pub writing : m.writing ≡ Some now
+  pub unfailed : now.has_failed ≡ false
+  pub later : NoPhase now.later
+  pub none : NoneCount m.pending
 
 all_done : (m : Manager) → is_written m ≡ true → AllDone m
 all_done m e = by_writing m.writing refl
@@ -88,7 +88,7 @@ all_done m e = by_writing m.writing refl
           none = all_none m.pending (λ p there counted. none_pending_counts m.pending p rest.1 there counted);
         }
 
-done_all : (m : Manager) → AllDone m → is_written m ≡ true
+pub done_all : (m : Manager) → AllDone m → is_written m ≡ true
 done_all m d =
     ap (is_written_by m.pending) d.writing
     ∙ and_from (not d.now.has_failed) _ (not_from_false d.now.has_failed d.unfailed)

@@ -25,12 +25,12 @@ use Rattle.program_laws.specs.Wakes.{Line, after_line, before_deciding}
 use Rattle.program_laws.proofs.wakes.Deciding.{caught_about, sent_about}
 use Rattle.program_laws.proofs.lasting.Told.{Lasts, Of, Property, catches_up, lasts_until, sends}
 
--- no plan is kept
-abbrev NoPlan : Property
-NoPlan m p kept notes leaves = kept ≡ None
+-- this plan is kept, or none
+abbrev pub IsKept : Option PlanValue → Property
+IsKept plan m p kept notes leaves = kept ≡ plan
 
-none_lasts : Lasts NoPlan
-none_lasts =
+pub kept_lasts : (plan : Option PlanValue) → Lasts (IsKept plan)
+kept_lasts plan =
     record {
       gives = λ a e. e;
       hears = λ a bytes from e. e;
@@ -42,8 +42,8 @@ none_lasts =
       enters = λ a state e. e;
       pauses = λ a time e. e;
       leaves = λ a e.
-          cond_both a.is_leaving a (if_sweeping a) (Of NoPlan) (λ _. e)
-          (λ _. cond_both (is_sweeping a.policy.activity) (record a { is_leaving = true }) (yielding_at_once (record a { is_leaving = true })) (Of NoPlan)
+          cond_both a.is_leaving a (if_sweeping a) (Of (IsKept plan)) (λ _. e)
+          (λ _. cond_both (is_sweeping a.policy.activity) (record a { is_leaving = true }) (yielding_at_once (record a { is_leaving = true })) (Of (IsKept plan))
           (λ _. e) (λ _. e));
     }
   where
@@ -51,7 +51,7 @@ none_lasts =
     if_sweeping a = cond (is_sweeping a.policy.activity) (record a { is_leaving = true }) (yielding_at_once (record a { is_leaving = true }))
 
 -- the plan that is kept is as before, or a writing runs
-abbrev KeepsOrWrites : Acting → Acting → Type 0
+abbrev pub KeepsOrWrites : Acting → Acting → Type 0
 KeepsOrWrites a b = (b.kept ≡ a.kept) ⊎ (is_writing b.policy.activity ≡ true)
 
 with_fault : (o : Option ManagerFault) (cause : WriteCause) (plan : PlanValue) (a : Acting) → KeepsOrWrites a (writing_with o cause plan a)
@@ -98,13 +98,13 @@ acts_keep activity.Sweeps a = done_keeps _ _
 acts_keep activity.Writes a = done_keeps _ _
 acts_keep activity.Hands a = inl refl
 
-leaves_keep : (what : Activity) (a : Acting) → (left_in what a).kept ≡ a.kept
+pub leaves_keep : (what : Activity) (a : Acting) → (left_in what a).kept ≡ a.kept
 leaves_keep activity.Rests a = refl
 leaves_keep activity.Sweeps a = refl
 leaves_keep activity.Writes a = refl
 leaves_keep activity.Hands a = refl
 
-acted_keeps : (a : Acting) → KeepsOrWrites a (acted a)
+pub acted_keeps : (a : Acting) → KeepsOrWrites a (acted a)
 acted_keeps a =
     cond_both a.is_leaving (left_in a.policy.activity a) (acted_in a.policy.activity a) (KeepsOrWrites a)
     (λ _. inl (leaves_keep a.policy.activity a)) (λ _. acts_keep a.policy.activity a)
@@ -131,10 +131,10 @@ line_first line a f begins = record { none = kept; quiet = quiet }
     quiet = still_quiet (is_writing a.policy.activity) (is_writing (after_line line a).policy.activity) f.quiet begins
 
     ready : x.kept ≡ None
-    ready = lasts_until NoPlan none_lasts line a f.none
+    ready = lasts_until (IsKept None) (kept_lasts None) line a f.none
 
     by_acts : is_idle x.window ≡ true → KeepsOrWrites x (acted x) → (caught_up (acted x)).kept ≡ None
-    by_acts idle (inl e) = catches_up NoPlan none_lasts (acted x) (e ∙ ready)
+    by_acts idle (inl e) = catches_up (IsKept None) (kept_lasts None) (acted x) (e ∙ ready)
     by_acts idle (inr w) =
         let writes : is_writing (after_line line a).policy.activity ≡ true =
         ap (λ (y : Acting). is_writing (sent y).policy.activity) (cond-true (is_idle x.window) (caught_up (acted x)) x idle)
@@ -144,7 +144,7 @@ line_first line a f begins = record { none = kept; quiet = quiet }
 
     kept : (after_line line a).kept ≡ None
     kept =
-        sends NoPlan none_lasts (acted_if_idle x)
+        sends (IsKept None) (kept_lasts None) (acted_if_idle x)
         (cond_both (is_idle x.window) (caught_up (acted x)) x (λ (y : Acting). y.kept ≡ None) (λ idle. by_acts idle (acted_keeps x)) (λ _. ready))
 
 event_first : (d : Deciding) (event : DecidingEvent) → IsFirst d.acting → begins_writing d event ≡ false → IsFirst (after_deciding_event d event).acting

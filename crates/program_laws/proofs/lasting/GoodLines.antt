@@ -109,7 +109,7 @@ module _ (line : Line) (a b : Acting) (leads : after_line line a ≡ b) where
             itself = λ e k. ap sweeps_by_itself leads ∙ itself;
           };
           swept = swept;
-          wrote = wrote;
+          writes = wrote;
         };
         no_control = control;
         stays = stays;
@@ -127,7 +127,7 @@ begins_good time g a h fits prompt itself after none =
         none_lost = ap (λ (b : Acting). list_any tells_loss b.notes) (begun_told time g a h) ∙ none;
         to_sweep = record { may = λ e k. may; itself = λ e k. ap sweeps_by_itself (begun time g a h) ∙ after };
         swept = λ e k. absurd (both_ways _ (ap (λ (b : Acting). is_sweeping b.policy.activity) h.before ∙ ap is_sweeping h.rests) k);
-        wrote = λ e k. absurd (both_ways _ (ap (λ (b : Acting). is_writing b.policy.activity) h.before ∙ ap is_writing h.rests) k);
+        writes = λ e k. absurd (both_ways _ (ap (λ (b : Acting). is_writing b.policy.activity) h.before ∙ ap is_writing h.rests) k);
       };
       no_control = refl;
       stays = tt;

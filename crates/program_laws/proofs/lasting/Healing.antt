@@ -1,12 +1,14 @@
 -- If all goes well for long enough, a manager sweeps and has its plan written.
-use Rattle.std.proofs.Common.{◌≡◌, ◌∙◌, ◌⊎◌, inl, inr, ℕ, Bool, true, false, ◌&&◌, not, List, [], ◌∷◌, ◌++◌, refl, sym, ap, subst, arith}
+use Rattle.std.proofs.Common.{◌≡◌, ◌∙◌, ◌⊎◌, inl, inr, ℕ, Bool, true, false, ◌&&◌, not, ◌+◌, ◌*◌, ◌<◌, List, [], ◌∷◌, ◌++◌, refl, sym, ap, subst, arith}
 use Rattle.std.proofs.lemmas.Bool.{and_parts, both_ways, cond_both, cond-true, cond-false}
 use Rattle.std.specs.Prelude.{Option, Some, None, is_none}
 use Rattle.lft_blocks.specs.Plan.{PlanValue}
 use Rattle.sm_state.specs.declared.state.SmState.TheVariants.{Master}
 use Rattle.sm_manager.specs.PlanFaults.{writing_fault}
+use Rattle.sm_manager.specs.Writing.{is_written}
 use Rattle.sm_policy.specs.Judged.{anew, cause_of, failed, judged, stood}
 use Rattle.sm_policy.specs.Policy.{Decision, is_sweeping}
+use Rattle.sm_policy.specs.PolicyLaws.{longest_wait}
 use Rattle.sm_policy.specs.Swept.{ended, swept, swept_in}
 use Rattle.sm_policy.specs.declared.act.Act.{Act}
 use Rattle.sm_policy.specs.declared.act.Act.TheVariants as act
@@ -23,12 +25,12 @@ use Rattle.acting_manager.specs.Planned.{comparison_of, is_same_plan}
 use Rattle.acting_manager.specs.Working.{is_idle, is_writing, sent}
 use Rattle.acting_manager.specs.declared.note.Note.TheVariants.{Swept}
 use Rattle.program_laws.specs.FreshWork.{EndNoFreshWork, works}
-use Rattle.program_laws.specs.Healing.{AllGoWell, GoesWell, Heals, HealsInTime, SweptWell}
+use Rattle.program_laws.specs.Healing.{AllGoWellBy, EndsWritten, GoesWellBy, HealsInTime, IsUndisturbedBy, SweptWell}
 use Rattle.program_laws.specs.ManagedEnds.{StaysAbout}
 use Rattle.program_laws.specs.NextSweep.{begins_sweep}
 use Rattle.program_laws.specs.StandingPlans.{KeepsWritten}
 use Rattle.program_laws.specs.WholeSweeps.{NothingGivenUp, too_far_in}
-use Rattle.program_laws.specs.Wakes.{Line, NoneLeaves, after_line, after_lines, before_deciding}
+use Rattle.program_laws.specs.Wakes.{ArePrompt, Line, NoneLeaves, after_line, after_lines, before_deciding, longest_turn}
 use Rattle.program_laws.proofs.lasting.Answered.{answered_sweeps_are_whole}
 use Rattle.program_laws.proofs.lasting.Running.{is_running, still_runs, still_sound}
 use Rattle.program_laws.proofs.lasting.Standing.{full, is_sound}
@@ -108,8 +110,8 @@ works_sweeping activity.Rests e = absurd (cc)
 works_sweeping activity.Writes e = absurd (cc)
 works_sweeping activity.Hands e = absurd (cc)
 
-module _ (line : Line) (a : Acting) (g : GoesOn a (line ∷ [])) (about : works a.policy.activity ≡ true)
-    (over : works (after_line line a).policy.activity ≡ false) (well : GoesWell line a)
+module _ (Writes : Line → Acting → Type 0) (line : Line) (a : Acting) (g : GoesOn a (line ∷ [])) (about : works a.policy.activity ≡ true)
+    (over : works (after_line line a).policy.activity ≡ false) (well : GoesWellBy Writes line a)
     (whole : is_idle (before_deciding line a).window ≡ true → is_sweeping a.policy.activity ≡ true → is_whole (before_deciding line a).manager ≡ true) where
   abbrev x : Acting
   x = before_deciding line a
@@ -150,51 +152,55 @@ module _ (line : Line) (a : Acting) (g : GoesOn a (line ∷ [])) (about : works 
           ap works (after_is ∙ ap (λ w. (acted_in w x).policy.activity) e) ∙ works_writing _ writes in
           absurd (both_ways (works (after_line line a).policy.activity) over after)
 
-  -- a writing: its plan is written
-  writing_written : x.policy.activity ≡ activity.Writes → KeepsWritten x.kept x.manager
-  writing_written e =
-      let k = (still_runs line a (is_running a g.decided)).writes stays (ap is_writing e) in
-      record { plan = k.plan; is_kept = k.is_kept; last = k.last; written = well.wrote idle (ap is_writing e) }
-
-  -- and so it is after the line
+  -- after the line, it is written if it was before the manager decided
   no_writing : (what : Activity) → works what ≡ false → is_writing what ≡ false
   no_writing activity.Rests e = refl
   no_writing activity.Hands e = refl
   no_writing activity.Sweeps e = absurd (cc)
   no_writing activity.Writes e = absurd (cc)
 
-  ends_written : KeepsWritten (after_line line a).kept (after_line line a).manager
-  ends_written =
-      line_written line a stays idle (no_writing (after_line line a).policy.activity over)
-      (by_what x.policy.activity refl (ap works fell.about ∙ about))
+  still_written : KeepsWritten x.kept x.manager → KeepsWritten (after_line line a).kept (after_line line a).manager
+  still_written = line_written line a stays idle (no_writing (after_line line a).policy.activity over)
+
+  -- the plan is written, or a writing is over
+  work_ends : KeepsWritten (after_line line a).kept (after_line line a).manager ⊎ (is_writing a.policy.activity ≡ true)
+  work_ends = by_what x.policy.activity refl (ap works fell.about ∙ about)
     where
-      by_what : (what : Activity) → x.policy.activity ≡ what → works what ≡ true → KeepsWritten x.kept x.manager
-      by_what activity.Sweeps e w = sweep_written e
-      by_what activity.Writes e w = writing_written e
+      by_what : (what : Activity) → x.policy.activity ≡ what → works what ≡ true
+          → KeepsWritten (after_line line a).kept (after_line line a).manager ⊎ (is_writing a.policy.activity ≡ true)
+      by_what activity.Sweeps e w = inl (still_written (sweep_written e))
+      by_what activity.Writes e w = inr (ap is_writing (sym fell.about ∙ e))
       by_what activity.Rests e w = absurd (cc)
       by_what activity.Hands e w = absurd (cc)
+
+  -- a writing whose plan was written
+  writing_written : is_writing a.policy.activity ≡ true → is_written x.manager ≡ true
+      → KeepsWritten (after_line line a).kept (after_line line a).manager
+  writing_written writes is =
+      let k = (still_runs line a (is_running a g.decided)).writes stays (ap is_writing fell.about ∙ writes) in
+      still_written (record { plan = k.plan; is_kept = k.is_kept; last = k.last; written = is })
 
 -- finding it ---------------------------------------------------------------------------------------------------------------------
 
 -- one of the lines begins a sweep, and a later one ends the work on that
-record Found (lines : List Line) (a : Acting) : Type 0 where
-  before : List Line
-  begins : Line
-  during : List Line
-  ends : Line
-  after : List Line
-  are : lines ≡ before ++ begins ∷ (during ++ ends ∷ after)
-  begun : begins_sweep begins (after_lines before a) ≡ true
-  goes_on : StaysAbout works during (after_line begins (after_lines before a))
-  over : works (after_lines (ends ∷ []) (after_lines during (after_line begins (after_lines before a)))).policy.activity ≡ false
+pub record Found (lines : List Line) (a : Acting) : Type 0 where
+  pub before : List Line
+  pub begins : Line
+  pub during : List Line
+  pub ends : Line
+  pub after : List Line
+  pub are : lines ≡ before ++ begins ∷ (during ++ ends ∷ after)
+  pub begun : begins_sweep begins (after_lines before a) ≡ true
+  pub goes_on : StaysAbout works during (after_line begins (after_lines before a))
+  pub over : works (after_lines (ends ∷ []) (after_lines during (after_line begins (after_lines before a)))).policy.activity ≡ false
 
 works_on : (lines : List Line) (a : Acting) → StaysAbout works lines a → EndNoFreshWork true lines a
 works_on [] a s = tt
 works_on (line ∷ lines) a s = (s.0, works_on lines (after_line line a) s.1)
 
-find : (lines : List Line) (a : Acting) → AllGoWell lines a → Found lines a ⊎ EndNoFreshWork false lines a
-find [] a well = inr tt
-find (line ∷ lines) a well = by_begun (find lines b well.1) (begins_sweep line a) refl
+find : (Writes : Line → Acting → Type 0) (lines : List Line) (a : Acting) → AllGoWellBy Writes lines a → Found lines a ⊎ EndNoFreshWork false lines a
+find Writes [] a well = inr tt
+find Writes (line ∷ lines) a well = by_begun (find Writes lines b well.1) (begins_sweep line a) refl
   where
     b : Acting
     b = after_line line a
@@ -259,9 +265,10 @@ sweeps_on (line ∷ lines) a g stays last =
     by_what activity.Rests e w then rest = absurd (cc)
     by_what activity.Hands e w then rest = absurd (cc)
 
-none_lost : (some : List Line) (line : Line) (rest : List Line) (a : Acting) → AllGoWell (some ++ line ∷ rest) a → NothingGivenUp (some ++ line ∷ []) a
-none_lost [] line rest a w = (w.0.none_lost, tt)
-none_lost (first ∷ some) line rest a w = (w.0.none_lost, none_lost some line rest (after_line first a) w.1)
+pub none_lost : (Writes : Line → Acting → Type 0) (some : List Line) (line : Line) (rest : List Line) (a : Acting)
+    → AllGoWellBy Writes (some ++ line ∷ rest) a → NothingGivenUp (some ++ line ∷ []) a
+none_lost Writes [] line rest a w = (w.0.none_lost, tt)
+none_lost Writes (first ∷ some) line rest a w = (w.0.none_lost, none_lost Writes some line rest (after_line first a) w.1)
 
 -- who begins a sweep has decided
 begins_idle : (line : Line) (a : Acting) → GoesOn a (line ∷ []) → begins_sweep line a ≡ true → is_idle (before_deciding line a).window ≡ true
@@ -293,70 +300,134 @@ none_more : (first more : List Line) → NoneLeaves first → NoneLeaves more �
 none_more [] more n m = m
 none_more (line ∷ first) more n m = (n.0, none_more first more n.1 m)
 
-well_later : (some rest : List Line) (a : Acting) → AllGoWell (some ++ rest) a → AllGoWell rest (after_lines some a)
-well_later [] rest a w = w
-well_later (line ∷ some) rest a w = well_later some rest (after_line line a) w.1
+pub well_later : (Writes : Line → Acting → Type 0) (some rest : List Line) (a : Acting) → AllGoWellBy Writes (some ++ rest) a
+    → AllGoWellBy Writes rest (after_lines some a)
+well_later Writes [] rest a w = w
+well_later Writes (line ∷ some) rest a w = well_later Writes some rest (after_line line a) w.1
+
+-- how the work on a sweep ends ------------------------------------------------------------------------------------------------------
+
+module _ (Writes : Line → Acting → Type 0) (n : ℕ) (a : Acting) (lines : List Line) (r : IsUndisturbedBy Writes n a lines) where
+  pub goes : GoesOn a lines
+  goes = record { decided = r.decided; tries = r.tries; outstanding = r.outstanding; stays_on = r.stays_on; none_leaves = r.none_leaves }
+
+  -- so much time is enough
+  pub found : (late : ℕ) → ArePrompt late lines a
+      → a.time + 2 * longest_wait r.decided.timing + (6 * (n + 3)) * longest_turn late a.window.limits < (after_lines lines a).time
+      → Found lines a
+  found late prompt long = by_found (find Writes lines a r.well)
+    where
+      by_found : Found lines a ⊎ EndNoFreshWork false lines a → Found lines a
+      by_found (inl f) = f
+      by_found (inr none) =
+          let few = works_again_in_time n a lines (record {
+            decided = r.decided;
+            first = r.first;
+            none = none;
+            few = r.few;
+            tries = r.tries;
+            outstanding = r.outstanding;
+            stays_on = r.stays_on;
+            none_leaves = r.none_leaves;
+            time = r.time;
+          }) late prompt in
+          absurd (omega (arith, long, few))
+
+  near : (line : Line) (c : Acting) → GoesWellBy Writes line c → GoesOn c (line ∷ []) → is_idle (before_deciding line c).window ≡ true
+      → is_sweeping c.policy.activity ≡ true → too_far_in (before_deciding line c).manager.sweep ≡ 0
+  near line c well g idle sweeps =
+      let fell = any_falls c.window.limits g.tries line c (record { same = refl; whole = (has_settled c g.decided).whole }) g.none_leaves.0 in
+      (well.swept idle (ap is_sweeping fell.about ∙ sweeps)).near
+
+  module _ (f : Found lines a) where
+    abbrev first : Acting
+    first = after_lines f.before a
+
+    abbrev b : Acting
+    b = after_line f.begins first
+
+    -- where the work ends
+    abbrev c : Acting
+    c = after_lines f.during b
+
+    abbrev rest : List Line
+    rest = f.during ++ f.ends ∷ f.after
+
+    pub at_first : GoesOn first (f.begins ∷ rest)
+    at_first = goes_later f.before (f.begins ∷ rest) a (subst (GoesOn a) f.are goes)
+
+    pub at_sweep : GoesOn b rest
+    at_sweep = goes_line f.begins rest first at_first
+
+    pub at_end : GoesOn c (f.ends ∷ [])
+    at_end = goes_first (f.ends ∷ []) f.after c (goes_later f.during (f.ends ∷ f.after) b at_sweep)
+
+    pub all_well : AllGoWellBy Writes rest b
+    all_well = (well_later Writes f.before (f.begins ∷ rest) a (subst (λ ls. AllGoWellBy Writes ls a) f.are r.well)).1
+
+    pub last_well : GoesWellBy Writes f.ends c
+    last_well = (well_later Writes f.during (f.ends ∷ f.after) b all_well).0
+
+    pub sweeps : is_sweeping b.policy.activity ≡ true
+    sweeps = begun_is first.policy.activity b.policy.activity f.begun
+
+    abbrev about : works c.policy.activity ≡ true
+    about = about_last works f.during b (works_sweeping b.policy.activity sweeps) f.goes_on
+
+    whole : is_idle (before_deciding f.ends c).window ≡ true → is_sweeping c.policy.activity ≡ true → is_whole (before_deciding f.ends c).manager ≡ true
+    whole idle last =
+        answered_sweeps_are_whole first f.begins b f.during f.ends (record {
+          decided = has_more a f.before first refl r.decided;
+          generations = r.generations;
+          none_left =
+              none_more r.decided.lines f.before r.none_left (none_first f.before (f.begins ∷ rest) (subst (GoesOn a) f.are goes).none_leaves);
+          stays = at_first.none_leaves.0;
+          leads = refl;
+          decides = begins_idle f.begins first (goes_first (f.begins ∷ []) rest first at_first) f.begun;
+          sweeps = sweeps;
+          goes_on = sweeps_on f.during b (goes_first f.during (f.ends ∷ f.after) b at_sweep) f.goes_on last;
+          none_leaves = none_first f.during (f.ends ∷ f.after) at_sweep.none_leaves;
+          remains = at_end.none_leaves.0;
+          over = idle;
+        }) (none_lost Writes f.during f.ends f.after b all_well) (near f.ends c last_well at_end idle last)
+
+    -- the plan is written, or a writing is over
+    pub ends_so : KeepsWritten (after_line f.ends c).kept (after_line f.ends c).manager ⊎ (is_writing c.policy.activity ≡ true)
+    ends_so = work_ends Writes f.ends c at_end about f.over last_well whole
+
+    pub writing_ends : is_writing c.policy.activity ≡ true → is_written (before_deciding f.ends c).manager ≡ true
+        → KeepsWritten (after_line f.ends c).kept (after_line f.ends c).manager
+    writing_ends = writing_written Writes f.ends c at_end about f.over last_well whole
+
+    pub is_over : is_idle (before_deciding f.ends c).window ≡ true
+    is_over = idle Writes f.ends c at_end about f.over last_well whole
 
 pub heals_in_time : HealsInTime
-heals_in_time n a lines r late prompt long = by_found (find lines a r.well)
+heals_in_time n a lines r late prompt long =
+    record {
+      before = f.before;
+      begins = f.begins;
+      during = f.during;
+      ends = f.ends;
+      after = f.after;
+      are = f.are;
+      begun = f.begun;
+      goes_on = f.goes_on;
+      over = f.over;
+      written = by_end (ends_so EndsWritten n a lines r f);
+    }
   where
-    goes : GoesOn a lines
-    goes = record { decided = r.decided; tries = r.tries; outstanding = r.outstanding; stays_on = r.stays_on; none_leaves = r.none_leaves }
+    f : Found lines a
+    f = found EndsWritten n a lines r late prompt long
 
-    near : (line : Line) (c : Acting) → GoesWell line c → GoesOn c (line ∷ []) → is_idle (before_deciding line c).window ≡ true
-        → is_sweeping c.policy.activity ≡ true → too_far_in (before_deciding line c).manager.sweep ≡ 0
-    near line c well g idle sweeps =
-        let fell = any_falls c.window.limits g.tries line c (record { same = refl; whole = (has_settled c g.decided).whole }) g.none_leaves.0 in
-        (well.swept idle (ap is_sweeping fell.about ∙ sweeps)).near
+    c : Acting
+    c = after_lines f.during (after_line f.begins (after_lines f.before a))
 
-    by_found : Found lines a ⊎ EndNoFreshWork false lines a → Heals lines a
-    by_found (inr none) =
-        let few = works_again_in_time n a lines (record {
-          decided = r.decided;
-          first = r.first;
-          none = none;
-          few = r.few;
-          tries = r.tries;
-          outstanding = r.outstanding;
-          stays_on = r.stays_on;
-          none_leaves = r.none_leaves;
-          time = r.time;
-        }) late prompt in
-        absurd (omega (arith, long, few))
-    by_found (inl f) =
-        let b = after_line f.begins (after_lines f.before a) in
-        let c = after_lines f.during b in
-        let rest = f.during ++ f.ends ∷ f.after in
-        let g = goes_line f.begins rest (after_lines f.before a) (goes_later f.before (f.begins ∷ rest) a (subst (GoesOn a) f.are goes)) in
-        let w = (well_later f.before (f.begins ∷ rest) a (subst (λ ls. AllGoWell ls a) f.are r.well)).1 in
-        let here = goes_first (f.ends ∷ []) f.after c (goes_later f.during (f.ends ∷ f.after) b g) in
-        let first = after_lines f.before a in
-        let at_first = goes_later f.before (f.begins ∷ rest) a (subst (GoesOn a) f.are goes) in
-        let stays = (subst (GoesOn a) f.are goes).none_leaves in
-        let sweeps = works_sweeping b.policy.activity (begun_is (after_lines f.before a).policy.activity b.policy.activity f.begun) in
-        record {
-          before = f.before;
-          begins = f.begins;
-          during = f.during;
-          ends = f.ends;
-          after = f.after;
-          are = f.are;
-          begun = f.begun;
-          goes_on = f.goes_on;
-          over = f.over;
-          written = ends_written f.ends c here (about_last works f.during b sweeps f.goes_on) f.over (well_later f.during (f.ends ∷ f.after) b w).0
-              (λ idle last. answered_sweeps_are_whole first f.begins b f.during f.ends (record {
-                decided = has_more a f.before first refl r.decided;
-                generations = r.generations;
-                none_left = none_more r.decided.lines f.before r.none_left (none_first f.before (f.begins ∷ rest) stays);
-                stays = at_first.none_leaves.0;
-                leads = refl;
-                decides = begins_idle f.begins first (goes_first (f.begins ∷ []) rest first at_first) f.begun;
-                sweeps = begun_is first.policy.activity b.policy.activity f.begun;
-                goes_on = sweeps_on f.during b (goes_first f.during (f.ends ∷ f.after) b g) f.goes_on last;
-                none_leaves = none_first f.during (f.ends ∷ f.after) g.none_leaves;
-                remains = here.none_leaves.0;
-                over = idle;
-              }) (none_lost f.during f.ends f.after b w)
-              (near f.ends c (well_later f.during (f.ends ∷ f.after) b w).0 here idle last));
-        }
+    by_end : KeepsWritten (after_line f.ends c).kept (after_line f.ends c).manager ⊎ (is_writing c.policy.activity ≡ true)
+        → KeepsWritten (after_line f.ends c).kept (after_line f.ends c).manager
+    by_end (inl k) = k
+    by_end (inr writes) =
+        let g = at_end EndsWritten n a lines r f in
+        let fell = any_falls c.window.limits g.tries f.ends c (record { same = refl; whole = (has_settled c g.decided).whole }) g.none_leaves.0 in
+        writing_ends EndsWritten n a lines r f writes
+        ((last_well EndsWritten n a lines r f).writes (is_over EndsWritten n a lines r f) (ap is_writing fell.about ∙ writes))

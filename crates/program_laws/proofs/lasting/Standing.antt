@@ -217,7 +217,7 @@ stood_on now ports p =
     (record { policy = settled ports p; act = act.Settle }) (λ (d : Decision). StandsOn p d.policy)
     (λ _ e. e) (λ _ e. e)
 
-judged_on : (now : ℕ) (comparison : Comparison) (ports : Ports) (p : Policy) → StandsOn p (judged now comparison ports p).policy
+pub judged_on : (now : ℕ) (comparison : Comparison) (ports : Ports) (p : Policy) → StandsOn p (judged now comparison ports p).policy
 judged_on now NoPlan ports p = λ e. e
 judged_on now Differs ports p = λ e. e
 judged_on now Same ports p =

@@ -15,7 +15,7 @@ use Rattle.program_laws.proofs.managed.Pinged.{managed_pings_arrive}
 use Rattle.program_laws.proofs.wakes.AtSeats.{events_acting}
 use Rattle.program_laws.proofs.wakes.NextSweep.{has_more}
 
-new_decided : (d : Deciding) → IsNew d → HasDecided d.acting
+abbrev pub new_decided : (d : Deciding) → IsNew d → HasDecided d.acting
 new_decided d new =
     record {
       port_guid = new.port_guid;

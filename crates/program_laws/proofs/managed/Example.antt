@@ -68,7 +68,7 @@ use Rattle.program_laws.proofs.managed.Calm.{caught, sends as out_of}
 -- the manager, and what it begins with ------------------------------------------------------------------------
 
 abbrev pub timing : Timing
-timing = record { every = 10000; poll = 1000; is_strict = false }
+timing = record { every = 10000; poll = 1000; is_strict = true }
 
 -- one request is out at a time
 abbrev pub limits : Limits
@@ -136,7 +136,7 @@ swept = after_deciding_events between sweeping
 -- it judges and writes ----------------------------------------------------------------------------------------------
 
 -- it was told nothing by the other manager
-abbrev replies : List Sightings
+abbrev pub replies : List Sightings
 replies = told_by_agents ++ [] ∷ []
 
 module _ (d : Deciding) where
@@ -199,7 +199,7 @@ has_swept : HasSwept in_pairs replies to_judge.manager
 unfolding cabled_at fresh_agent after_inject after_lose after_repeat after_deliver outcome_of after_answer get_of set_of changed_port with_bytes
 has_swept = record { whole = record { done = refl; answered = refl; near = refl }; swept = refl; planning_is = refl; store_is = refl; no_fault = refl }
 
-abbrev plan : PlanValue
+abbrev pub plan : PlanValue
 plan = plan_of up_and_down 1 (cells_by replies)
 
 -- what is planned by such a planning, if this is known
@@ -264,13 +264,13 @@ writes =
     ∙ ap (printed_by swept) (judged_new to_judge kept_none)
     ∙ ap (printed_by swept) (written_so (record to_judge { policy = (anew to_judge.policy).policy }) has_swept)
 
-abbrev after : List DecidingEvent
+abbrev pub after : List DecidingEvent
 after = bring_up.after Around sends Send hears
 
-abbrev written : Deciding
+abbrev pub written : Deciding
 written = after_deciding_events after writing
 
-is_written_then : is_written written.acting.manager ≡ true
+pub is_written_then : is_written written.acting.manager ≡ true
 unfolding cabled_at fresh_agent after_inject after_lose after_repeat after_deliver outcome_of after_answer get_of set_of changed_port with_bytes
 is_written_then = refl
 
@@ -352,13 +352,13 @@ between_can =
     elsewhere : port 2 1 ≢ port 0 1
     elsewhere e = let same : 2 ≡ 0 = ap (λ (p : NodePort). p.node) e in omega (arith, same)
 
-abbrev before : List DecidingEvent
+abbrev pub before : List DecidingEvent
 before = Tell 1 Time ∷ between
 
 swept_then : after_deciding_events before beginning ≡ swept
 swept_then = ap (after_deciding_events between) begun
 
-writing_then : managed_at_writing beginning before (Hear 2 11) ≡ writing
+pub writing_then : managed_at_writing beginning before (Hear 2 11) ≡ writing
 writing_then = ap (λ (d : Deciding). after_deciding_event d (Hear 2 11)) swept_then ∙ writes
 
 finished : (c : Acting) → (sent (caught_up c)).manager ≡ emptied c.manager
@@ -383,7 +383,7 @@ keeps =
     subst (λ (x : Manager). KeepBy (plan_of x.planning.rule x.planning.lmc (cells_of x.store)) (phases_by x x.sweep)) (sym its_manager)
     (by_known in_pairs replies to_judge.manager has_swept KeepBy (all_keep after writing kept))
 
-brings_up : BringsUpManaged beginning before (Hear 2 11) after
+pub brings_up : BringsUpManaged beginning before (Hear 2 11) after
 brings_up =
     record {
       new = record {

@@ -76,7 +76,7 @@ module _ (plan : PlanValue) (own : OwnSets) where
   sent_acting None d = refl
   sent_acting (Some o) d = refl
 
-  begins_none : (d : Deciding) (event : DecidingEvent) → KeepsManaged plan own d event → begins_writing d event ≡ false
+  pub begins_none : (d : Deciding) (event : DecidingEvent) → KeepsManaged plan own d event → begins_writing d event ≡ false
   begins_none d (DecidingEvent.Around event) keeps = still_so (does_write d)
   begins_none d (DecidingEvent.Tell time what) keeps = keeps
   begins_none d (DecidingEvent.Hear time which) keeps = keeps

@@ -58,8 +58,9 @@ pub record Known (w : Managing) (d : Deciding) : Type 0 where
   pub leads : after_manager_events events w ≡ at
   pub stands : StandsFor at d
   pub newest : IsNewestTo d.acting.newest at.manager
-  -- while it sweeps
+  -- while it sweeps, and while a plan stands
   pub one : d.acting.policy.activity ≡ Sweeps → OneSweep w at
+  pub stood : d.acting.policy.written.stands ≡ true → OneSweep w at
 
 -- something happens around the manager, or it sends a packet that it gave out
 abbrev IsOutside : ManagerEvent → Type 0
@@ -174,6 +175,8 @@ module _ (w : Managing) (d d' : Deciding) (k : Known w d) (stays : d'.seat ≡ d
             (subst (IsNewestTo d.acting.newest) (sym (outside_same a.event at a.allowed)) k.newest);
         one = λ e. sweep_goes_on w at to (a.event ∷ []) here (a.can_be, tt) (outside_alone a.event at a.allowed) refl
             (k.one (ap (λ (x : Acting). x.policy.activity) (sym a.acting) ∙ e));
+        stood = λ e. sweep_goes_on w at to (a.event ∷ []) here (a.can_be, tt) (outside_alone a.event at a.allowed) refl
+            (k.stood (ap (λ (x : Acting). x.policy.written.stands) (sym a.acting) ∙ e));
       }
 
   quiet_known : QuietTurn at d d' → Known w d'
@@ -191,6 +194,8 @@ module _ (w : Managing) (d d' : Deciding) (k : Known w d) (stays : d'.seat ≡ d
             (all_newest d.acting.newest t.leads.events at t.leads.quiet k.newest));
         one = λ e. sweep_goes_on w at t.to t.leads.events here t.leads.can_be (quiet_alone t.leads.events at t.leads.quiet) t.leads.leads
             (k.one (subst (NoMore d.acting.policy.activity) e t.calm.activity));
+        stood = λ e. sweep_goes_on w at t.to t.leads.events here t.leads.can_be (quiet_alone t.leads.events at t.leads.quiet) t.leads.leads
+            (k.stood (t.calm.stands e));
       }
 
   sweep_known : SweepTurn at d d' → Known w d'
@@ -213,6 +218,17 @@ module _ (w : Managing) (d d' : Deciding) (k : Known w d) (stays : d'.seat ≡ d
       let begun : IsNewestTo n (swept_by n v).manager =
       cond_both (is_none (begin_fault up.manager)) (after_begin_sweep up.manager) up.manager (IsNewestTo n)
       (λ e. begun_newest n up.manager (omega arith) raised (nothing (is_none-none (begin_fault up.manager) e))) (λ _. raised) in
+      let its : d'.acting.policy.activity ≡ Sweeps → OneSweep w t.to = λ e. record {
+        before = (k.events ++ first) ++ managing.Raise n ∷ [];
+        between = later;
+        before_can = up_can;
+        between_can = subst (λ s. AllByRecursion (CanBe s) later) there t.goes_on.can_be;
+        sweep_begins = subst (λ (x : Managing). begin_fault x.manager ≡ None) (sym up_to) (t.begins e);
+        knew_nothing = subst (λ (x : Managing). cells_of x.manager.store ≡ []) (sym up_to) (nothing (t.begins e));
+        alone = subst (λ (x : Managing). AreNoSweeps later (after_manager_event x managing.Begin)) (sym up_to)
+            (quiet_alone later (swept_by n v) t.goes_on.quiet);
+        leads = ap (λ (x : Managing). after_manager_events later (after_manager_event x managing.Begin)) up_to ∙ t.goes_on.leads;
+      } in
       record {
         seat = stays ∙ k.seat;
         events = ((k.events ++ first) ++ managing.Raise n ∷ []) ++ managing.Begin ∷ later;
@@ -222,17 +238,8 @@ module _ (w : Managing) (d d' : Deciding) (k : Known w d) (stays : d'.seat ≡ d
         stands = t.stands;
         newest = subst (λ m. IsNewestTo m t.to.manager) (sym t.newest)
             (subst (λ (x : Managing). IsNewestTo n x.manager) t.goes_on.leads (all_newest n later (swept_by n v) t.goes_on.quiet begun));
-        one = λ e. record {
-          before = (k.events ++ first) ++ managing.Raise n ∷ [];
-          between = later;
-          before_can = up_can;
-          between_can = subst (λ s. AllByRecursion (CanBe s) later) there t.goes_on.can_be;
-          sweep_begins = subst (λ (x : Managing). begin_fault x.manager ≡ None) (sym up_to) (t.begins e);
-          knew_nothing = subst (λ (x : Managing). cells_of x.manager.store ≡ []) (sym up_to) (nothing (t.begins e));
-          alone = subst (λ (x : Managing). AreNoSweeps later (after_manager_event x managing.Begin)) (sym up_to)
-              (quiet_alone later (swept_by n v) t.goes_on.quiet);
-          leads = ap (λ (x : Managing). after_manager_events later (after_manager_event x managing.Begin)) up_to ∙ t.goes_on.leads;
-        };
+        one = its;
+        stood = λ e. its (t.stood e);
       }
 
   write_known : WriteTurn at d d' → Known w d'
@@ -258,6 +265,9 @@ module _ (w : Managing) (d d' : Deciding) (k : Known w d) (stays : d'.seat ≡ d
         newest = subst (λ x. IsNewestTo x t.to.manager) (sym t.newest)
             (subst (λ (x : Managing). IsNewestTo n x.manager) t.goes_on.leads (all_newest n later (written_by v) t.goes_on.quiet begun));
         one = λ e. let no = sym t.writes ∙ e in absurd (cc);
+        stood = λ _. sweep_goes_on w v t.to (managing.Write ∷ later) there (tt, t.goes_on.can_be) (tt, quiet_alone later (written_by v) t.goes_on.quiet)
+            t.goes_on.leads
+            (sweep_goes_on w at v first here t.leads.can_be (quiet_alone first at t.leads.quiet) t.leads.leads (k.one t.swept));
       }
 
   pub step_known : Step IsOutside at d d' → Known w d'
@@ -290,6 +300,7 @@ begins_known d new =
       };
       newest = subst (λ (a : Acting). IsNewestTo a.newest a.manager) (sym acting) (record { knows = knows_nothing new.newest; sweep = tt });
       one = λ e. let no = sym (ap (λ (a : Acting). a.policy.activity) acting) ∙ e in absurd (cc);
+      stood = λ e. let no = sym (ap (λ (a : Acting). a.policy.written.stands) acting) ∙ e in absurd (cc);
     }
 
 pub runs_known : (w : Managing) (d : Deciding) (events : List DecidingEvent) → AllByRecursion (CanDecide w.seat) events → Known w d
@@ -311,7 +322,7 @@ no_writing was Writes more e =
     let parts = and_parts (not (is_writing was)) true e in let no = sym (ap (λ x. not (is_writing x)) more) ∙ parts.0 in cc
 
 -- a sweep that has every answer, by what the manager says of it
-whole_so : (s : Sweep) → is_whole_by (if is_done s then Done s.unanswered s.too_far else Running s.unanswered s.too_far) (Some s.silent_managers) ≡ true
+pub whole_so : (s : Sweep) → is_whole_by (if is_done s then Done s.unanswered s.too_far else Running s.unanswered s.too_far) (Some s.silent_managers) ≡ true
     → IsWhole s
 whole_so s e = by_done (is_done s) refl e
   where

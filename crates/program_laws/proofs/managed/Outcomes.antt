@@ -35,6 +35,7 @@ use Rattle.acting_manager.specs.Planned.{comparison_of, planned}
 use Rattle.acting_manager.specs.declared.note.Note.{Note}
 use Rattle.acting_manager.specs.declared.note.Note.TheVariants.{Did, Refused, Settled, Swept, Wrote}
 use Rattle.acting_manager.specs.Working.{Told, is_writing}
+use Rattle.program_laws.proofs.lasting.Standing.{StandsOn, judged_on, swept_on}
 use Rattle.program_laws.proofs.managed.Calm.{Calm, NoMore, SameCourse, as_before}
 use Rattle.program_laws.proofs.managed.Going.{Goes, IsAllowed, calls as going_by, cases, same, still as going_still}
 
@@ -118,24 +119,41 @@ sweep_decides now is_so rival p =
     (IsAfterSweep is_so) (λ _. record { rests = refl; next = tt })
     (λ _. in_state p.state now is_so rival (ended now is_so rival p) (ended_over now is_so rival p))
 
+record IsOnCourse (p : Policy) (d : Decision) : Type 0 where
+  activity : d.policy.activity ≡ p.activity
+  gaps : d.policy.gaps ≡ p.gaps
+  timing : d.policy.timing ≡ p.timing
+
 -- the judgement of a plan changes neither what the manager is about, nor how often in a row its sweeps lacked answers
 pub record IsJudged (p : Policy) (d : Decision) : Type 0 where
   pub course : SameCourse p d.policy
 
 pub judges_plan : (now : ℕ) (comparison : Comparison) (ports : Ports) (p : Policy) → IsJudged p (judged now comparison ports p)
-judges_plan now NoPlan ports p = record { course = record { activity = refl; gaps = refl; timing = refl } }
-judges_plan now Differs ports p = record { course = record { activity = refl; gaps = refl; timing = refl } }
-judges_plan now Same ports p =
-    let writes : Decision = record { policy = once_more now ports p; act = act.Write } in
-    let settles : Decision = record { policy = settled ports p; act = act.Settle } in
-    cond_both p.written.stands (stood now ports p) (anew p) (IsJudged p)
-    (λ _. cond_both (may_bring_up ports p || may_take now ports p) writes settles (IsJudged p)
-    (λ _. cond_both (nat_lt 0 ports.foreign) (taking now p) p
-    (λ (q : Policy). IsJudged p (record { policy = record q { written = record p.written { repeats = one_more p.written.repeats } }; act = act.Write }))
-    (λ _. record { course = record { activity = refl; gaps = refl; timing = refl } })
-    (λ _. record { course = record { activity = refl; gaps = refl; timing = refl } }))
-    (λ _. record { course = record { activity = refl; gaps = refl; timing = refl } }))
-    (λ _. record { course = record { activity = refl; gaps = refl; timing = refl } })
+judges_plan now comparison ports p = by_comparison comparison (judged_on now comparison ports p)
+  where
+    by_comparison : (c : Comparison) → StandsOn p (judged now c ports p).policy → IsJudged p (judged now c ports p)
+    by_comparison NoPlan stands = record { course = record { activity = refl; gaps = refl; timing = refl; stands = stands } }
+    by_comparison Differs stands = record { course = record { activity = refl; gaps = refl; timing = refl; stands = stands } }
+    by_comparison Same stands =
+        let d = same_course in
+        record { course = record { activity = d.activity; gaps = d.gaps; timing = d.timing; stands = stands } }
+      where
+        writes : Decision
+        writes = record { policy = once_more now ports p; act = act.Write }
+
+        settles : Decision
+        settles = record { policy = settled ports p; act = act.Settle }
+
+        same_course : IsOnCourse p (judged now Same ports p)
+        same_course =
+            cond_both p.written.stands (stood now ports p) (anew p) (IsOnCourse p)
+            (λ _. cond_both (may_bring_up ports p || may_take now ports p) writes settles (IsOnCourse p)
+            (λ _. cond_both (nat_lt 0 ports.foreign) (taking now p) p
+            (λ (q : Policy). IsOnCourse p (record { policy = record q { written = record p.written { repeats = one_more p.written.repeats } }; act = act.Write }))
+            (λ _. record { activity = refl; gaps = refl; timing = refl })
+            (λ _. record { activity = refl; gaps = refl; timing = refl }))
+            (λ _. record { activity = refl; gaps = refl; timing = refl }))
+            (λ _. record { activity = refl; gaps = refl; timing = refl })
 
 -- outcomes -----------------------------------------------------------------------------------------
 
@@ -147,6 +165,7 @@ pub record BeginsASweep (r c : Acting) : Type 0 where
   pub ready : r.ready ≡ c.ready
   pub begins : c.policy.activity ≡ Sweeps → begin_fault (after_raise_floor r.manager (one_more r.newest)) ≡ None
   pub no_writing : is_writing c.policy.activity ≡ false
+  pub stands : c.policy.written.stands ≡ true → c.policy.activity ≡ Sweeps
 
 -- the manager, which swept, began to write, as it may
 pub record BeginsToWrite (r c : Acting) : Type 0 where
@@ -176,14 +195,15 @@ at_rest was now e = subst (NoMore was) (sym e) tt
 
 module _ (what : Told) where
   stays : (r c : Acting) → r.manager ≡ c.manager → r.newest ≡ c.newest → r.window ≡ c.window → r.ready ≡ c.ready
-      → NoMore r.policy.activity c.policy.activity → Outcome what r c
-  stays r c manager newest window ready no_more =
-      Quietly (going_still what r c manager newest window ready) (record { activity = no_more; newest = sym newest })
+      → NoMore r.policy.activity c.policy.activity → StandsOn r.policy c.policy → Outcome what r c
+  stays r c manager newest window ready no_more stands =
+      Quietly (going_still what r c manager newest window ready) (record { activity = no_more; newest = sym newest; stands = stands })
 
   calls : (r c : Acting) (call : Call) → IsAllowed what call → after_call r.manager call ≡ c.manager → r.newest ≡ c.newest
-      → r.window ≡ c.window → r.ready ≡ c.ready → NoMore r.policy.activity c.policy.activity → Outcome what r c
-  calls r c call allowed manager newest window ready no_more =
-      Quietly (going_by what r c call allowed manager newest (same what r c window ready)) (record { activity = no_more; newest = sym newest })
+      → r.window ≡ c.window → r.ready ≡ c.ready → NoMore r.policy.activity c.policy.activity → StandsOn r.policy c.policy → Outcome what r c
+  calls r c call allowed manager newest window ready no_more stands =
+      Quietly (going_by what r c call allowed manager newest (same what r c window ready))
+      (record { activity = no_more; newest = sym newest; stands = stands })
 
   module _ (r : Acting) where
     -- `r` with other notes and another policy
@@ -191,9 +211,9 @@ module _ (what : Told) where
     with notes p = record r { notes = notes; policy = p }
 
     hands_by : (call : Call) → IsAllowed what call → (w : Act) (fault : Option ManagerFault) (notes : List Note) (p : Policy)
-        → Outcome what r (handed_by w call fault (with notes p))
-    hands_by call allowed w fault notes p =
-        calls r (handed_by w call fault (with notes p)) call allowed refl refl refl refl (by_fault fault)
+        → StandsOn r.policy p → Outcome what r (handed_by w call fault (with notes p))
+    hands_by call allowed w fault notes p stands =
+        calls r (handed_by w call fault (with notes p)) call allowed refl refl refl refl (by_fault fault) stands
       where
         by_fault : (o : Option ManagerFault) → NoMore r.policy.activity (if is_none o then Hands else Rests)
         by_fault None = tt
@@ -201,7 +221,7 @@ module _ (what : Told) where
 
     -- the plan is judged
     module _ (swept_so : r.policy.activity ≡ Sweeps) (cause : WriteCause) (notes : List Note) (p : Policy) (rests : p.activity ≡ Rests)
-        (may : MayPlan (is_whole r.manager) p) where
+        (may : MayPlan (is_whole r.manager) p) (stands : StandsOn r.policy p) where
       writes_by : (plan : PlanValue) (fault : Option ManagerFault) → writing_fault r.manager ≡ fault
           → Outcome what r (writing_with fault cause plan (with notes p))
       writes_by plan None e = Writing (record {
@@ -217,47 +237,48 @@ module _ (what : Told) where
       writes_by plan (Some why) e =
           stays r (writing_with (Some why) cause plan (with notes p))
           (sym (ap (λ o. if is_none o then after_write_steps r.manager else r.manager) e)) refl refl refl tt
+          (λ h. let wrong : true ≡ false = sym h in absurd (cc))
 
       about : (w : Act) (plan : Option PlanValue) → Outcome what r (about_plan w cause plan (with notes p))
       about act.Write (Some plan) = writes_by plan (writing_fault r.manager) refl
-      about act.Write None = stays r (with notes p) refl refl refl refl (at_rest r.policy.activity p.activity rests)
-      about act.Settle plan = hands_by Call.Handover tt act.HandOver (handover_fault r.manager) (notes ++ Settled r.reads.ports ∷ []) p
-      about act.Wait plan = stays r (with notes p) refl refl refl refl (at_rest r.policy.activity p.activity rests)
-      about act.Poll plan = stays r (with notes p) refl refl refl refl (at_rest r.policy.activity p.activity rests)
-      about act.Announce plan = stays r (with notes p) refl refl refl refl (at_rest r.policy.activity p.activity rests)
-      about act.Sweep plan = stays r (with notes p) refl refl refl refl (at_rest r.policy.activity p.activity rests)
-      about act.Rediscover plan = stays r (with notes p) refl refl refl refl (at_rest r.policy.activity p.activity rests)
-      about act.HandOver plan = stays r (with notes p) refl refl refl refl (at_rest r.policy.activity p.activity rests)
-      about act.Yield plan = stays r (with notes p) refl refl refl refl (at_rest r.policy.activity p.activity rests)
-      about act.Judge plan = stays r (with notes p) refl refl refl refl (at_rest r.policy.activity p.activity rests)
+      about act.Write None = stays r (with notes p) refl refl refl refl (at_rest r.policy.activity p.activity rests) stands
+      about act.Settle plan = hands_by Call.Handover tt act.HandOver (handover_fault r.manager) (notes ++ Settled r.reads.ports ∷ []) p stands
+      about act.Wait plan = stays r (with notes p) refl refl refl refl (at_rest r.policy.activity p.activity rests) stands
+      about act.Poll plan = stays r (with notes p) refl refl refl refl (at_rest r.policy.activity p.activity rests) stands
+      about act.Announce plan = stays r (with notes p) refl refl refl refl (at_rest r.policy.activity p.activity rests) stands
+      about act.Sweep plan = stays r (with notes p) refl refl refl refl (at_rest r.policy.activity p.activity rests) stands
+      about act.Rediscover plan = stays r (with notes p) refl refl refl refl (at_rest r.policy.activity p.activity rests) stands
+      about act.HandOver plan = stays r (with notes p) refl refl refl refl (at_rest r.policy.activity p.activity rests) stands
+      about act.Yield plan = stays r (with notes p) refl refl refl refl (at_rest r.policy.activity p.activity rests) stands
+      about act.Judge plan = stays r (with notes p) refl refl refl refl (at_rest r.policy.activity p.activity rests) stands
 
     judges_so : r.policy.activity ≡ Sweeps → (notes : List Note) (p : Policy) → p.activity ≡ Rests → MayPlan (is_whole r.manager) p
-        → (plan : Option PlanValue) → Outcome what r (judging_of plan (with notes p))
-    judges_so swept_so notes p rests may None =
+        → StandsOn r.policy p → (plan : Option PlanValue) → Outcome what r (judging_of plan (with notes p))
+    judges_so swept_so notes p rests may stands None =
         about swept_so (cause_of NoPlan r.reads.ports p) (notes ++ Refused act.Judge ∷ []) (waited_longer r.time p) rests
-        (record { may = may.may; whole = may.whole }) act.Wait None
-    judges_so swept_so notes p rests may (Some plan) =
+        (record { may = may.may; whole = may.whole }) stands act.Wait None
+    judges_so swept_so notes p rests may stands (Some plan) =
         let comparison = comparison_of r.kept (Some plan) in
         let d = judged r.time comparison r.reads.ports p in
         let course = (judges_plan r.time comparison r.reads.ports p).course in
         about swept_so (cause_of comparison r.reads.ports p) notes d.policy (course.activity ∙ rests)
-        (may_still p d.policy course.gaps course.timing (is_whole r.manager) (is_whole r.manager) refl may) d.act (Some plan)
+        (may_still p d.policy course.gaps course.timing (is_whole r.manager) (is_whole r.manager) refl may) (λ e. stands (course.stands e)) d.act (Some plan)
 
     -- what is decided after a sweep is done
     does_next : r.policy.activity ≡ Sweeps → (notes : List Note) (p : Policy) → p.activity ≡ Rests → (w : Act) → IsNext (is_whole r.manager) p w
-        → Outcome what r (done_by w (with notes p))
-    does_next swept_so notes p rests act.Wait next = stays r (with notes p) refl refl refl refl (at_rest r.policy.activity p.activity rests)
-    does_next swept_so notes p rests act.Announce next =
-        stays r (with (notes ++ Did act.Announce ∷ []) p) refl refl refl refl (at_rest r.policy.activity p.activity rests)
-    does_next swept_so notes p rests act.Rediscover next =
-        calls r (rediscovering (with notes p)) Call.Rediscover tt refl refl refl refl (at_rest r.policy.activity p.activity rests)
-    does_next swept_so notes p rests act.HandOver next = hands_by Call.Handover tt act.HandOver (handover_fault r.manager) notes p
-    does_next swept_so notes p rests act.Yield next = hands_by Call.Yield tt act.Yield (yield_fault r.manager) notes p
-    does_next swept_so notes p rests act.Judge next = judges_so swept_so notes p rests next (planned r.manager)
-    does_next swept_so notes p rests act.Poll next = absurd next
-    does_next swept_so notes p rests act.Sweep next = absurd next
-    does_next swept_so notes p rests act.Write next = absurd next
-    does_next swept_so notes p rests act.Settle next = absurd next
+        → StandsOn r.policy p → Outcome what r (done_by w (with notes p))
+    does_next swept_so notes p rests act.Wait next stands = stays r (with notes p) refl refl refl refl (at_rest r.policy.activity p.activity rests) stands
+    does_next swept_so notes p rests act.Announce next stands =
+        stays r (with (notes ++ Did act.Announce ∷ []) p) refl refl refl refl (at_rest r.policy.activity p.activity rests) stands
+    does_next swept_so notes p rests act.Rediscover next stands =
+        calls r (rediscovering (with notes p)) Call.Rediscover tt refl refl refl refl (at_rest r.policy.activity p.activity rests) stands
+    does_next swept_so notes p rests act.HandOver next stands = hands_by Call.Handover tt act.HandOver (handover_fault r.manager) notes p stands
+    does_next swept_so notes p rests act.Yield next stands = hands_by Call.Yield tt act.Yield (yield_fault r.manager) notes p stands
+    does_next swept_so notes p rests act.Judge next stands = judges_so swept_so notes p rests next stands (planned r.manager)
+    does_next swept_so notes p rests act.Poll next stands = absurd next
+    does_next swept_so notes p rests act.Sweep next stands = absurd next
+    does_next swept_so notes p rests act.Write next stands = absurd next
+    does_next swept_so notes p rests act.Settle next stands = absurd next
 
     -- a sweep is asked for
     sweeps_by : (notes : List Note) (p : Policy) → p.activity ≡ Sweeps → (fault : Option ManagerFault)
@@ -269,6 +290,7 @@ module _ (what : Told) where
       ready = refl;
       begins = λ _. e;
       no_writing = ap is_writing sweeps;
+      stands = λ _. sweeps;
     })
     sweeps_by notes p sweeps (Some why) e = Sweeping (record {
       manager = refl;
@@ -277,18 +299,19 @@ module _ (what : Told) where
       ready = refl;
       begins = λ s. absurd (cc);
       no_writing = refl;
+      stands = λ h. let wrong : true ≡ false = sym h in absurd (cc);
     })
 
     -- what a manager that rests decides
-    polls : r.policy.activity ≡ Rests → (p : Policy) → p.activity ≡ r.policy.activity → Outcome what r (polling (with r.notes p))
-    polls rests p same_activity =
+    polls : r.policy.activity ≡ Rests → (p : Policy) → p.activity ≡ r.policy.activity → StandsOn r.policy p → Outcome what r (polling (with r.notes p))
+    polls rests p same_activity on =
         let m = r.manager in
         cases (is_none (poll_fault m None)) p (polled false p)
         (λ (q : Policy). Outcome what r (record r { manager = after_call m (Call.Poll None); policy = q }))
         (calls r (record r { manager = after_call m (Call.Poll None); policy = p }) (Call.Poll None) tt refl refl refl refl
-        (as_before r.policy.activity p.activity same_activity))
+        (as_before r.policy.activity p.activity same_activity) on)
         (calls r (record r { manager = after_call m (Call.Poll None); policy = polled false p }) (Call.Poll None) tt refl refl refl refl
-        (as_before r.policy.activity p.activity same_activity))
+        (as_before r.policy.activity p.activity same_activity) on)
 
     rests_on : r.policy.activity ≡ Rests → Outcome what r (decided (rested r.time r.policy) r)
     rests_on rests =
@@ -298,12 +321,12 @@ module _ (what : Told) where
         let announce : Decision = record { policy = record p { next_call = later_by announced_every now }; act = act.Announce } in
         let sweep : Decision = record { policy = sweeping now p; act = act.Sweep } in
         let no_poll : Decision = if is_due now (call_due p) then announce else if is_due now (sweep_due p) then sweep else still p in
-        cases (is_due now (poll_due p)) poll no_poll (λ d. Outcome what r (decided d r)) (polls rests poll.policy refl)
+        cases (is_due now (poll_due p)) poll no_poll (λ d. Outcome what r (decided d r)) (polls rests poll.policy refl (λ e. e))
         (cases (is_due now (call_due p)) announce (if is_due now (sweep_due p) then sweep else still p) (λ d. Outcome what r (decided d r))
-        (stays r (decided announce r) refl refl refl refl (as_before p.activity p.activity refl))
+        (stays r (decided announce r) refl refl refl refl (as_before p.activity p.activity refl) (λ e. e))
         (cases (is_due now (sweep_due p)) sweep (still p) (λ d. Outcome what r (decided d r))
         (sweeps_by r.notes sweep.policy refl (begin_fault (after_raise_floor r.manager (one_more r.newest))) refl)
-        (stays r r refl refl refl refl (as_before p.activity p.activity refl))))
+        (stays r r refl refl refl refl (as_before p.activity p.activity refl) (λ e. e))))
 
     -- what a manager decides whose sweep is over
     sweeps_on : r.policy.activity ≡ Sweeps → Outcome what r (sweep_over r)
@@ -312,6 +335,7 @@ module _ (what : Told) where
         let d = swept r.time so (rival_seen r.manager) r.policy in
         let after = sweep_decides r.time so (rival_seen r.manager) r.policy in
         does_next swept_so (r.notes ++ Swept so ∷ []) d.policy after.rests d.act after.next
+        (swept_on r.time so (rival_seen r.manager) r.policy)
 
     -- what a manager decides whose writing is over
     writes_on : Outcome what r (writing_over r)
@@ -320,20 +344,20 @@ module _ (what : Told) where
         let notes = r.notes ++ Wrote written ∷ [] in
         let hand_over : Decision = record { policy = record r.policy { activity = Rests; is_wanted = true }; act = act.HandOver } in
         cases written hand_over (still (failed r.time r.policy)) (λ d. Outcome what r (decided d (noted (Wrote written) r)))
-        (hands_by Call.Handover tt act.HandOver (handover_fault r.manager) notes hand_over.policy)
-        (stays r (with notes (failed r.time r.policy)) refl refl refl refl tt)
+        (hands_by Call.Handover tt act.HandOver (handover_fault r.manager) notes hand_over.policy (λ e. e))
+        (stays r (with notes (failed r.time r.policy)) refl refl refl refl tt (λ h. let wrong : true ≡ false = sym h in absurd (cc)))
 
     acts_in : (activity : Activity) → r.policy.activity ≡ activity → Outcome what r (acted_in activity r)
     acts_in Rests e = rests_on e
     acts_in Sweeps e = sweeps_on e
     acts_in Writes e = writes_on
-    acts_in Hands e = stays r (handing_on r) refl refl refl refl tt
+    acts_in Hands e = stays r (handing_on r) refl refl refl refl tt (λ h. h)
 
     leaves_in : (activity : Activity) → r.policy.activity ≡ activity → Outcome what r (left_in activity r)
-    leaves_in Rests e = stays r r refl refl refl refl (as_before r.policy.activity r.policy.activity refl)
-    leaves_in Sweeps e = hands_by Call.Yield tt act.Yield (yield_fault r.manager) r.notes r.policy
-    leaves_in Writes e = stays r r refl refl refl refl (as_before r.policy.activity r.policy.activity refl)
-    leaves_in Hands e = stays r (handing_on r) refl refl refl refl tt
+    leaves_in Rests e = stays r r refl refl refl refl (as_before r.policy.activity r.policy.activity refl) (λ h. h)
+    leaves_in Sweeps e = hands_by Call.Yield tt act.Yield (yield_fault r.manager) r.notes r.policy (λ h. h)
+    leaves_in Writes e = stays r r refl refl refl refl (as_before r.policy.activity r.policy.activity refl) (λ h. h)
+    leaves_in Hands e = stays r (handing_on r) refl refl refl refl tt (λ h. h)
 
     -- what a manager does when it acts
     pub acts : Outcome what r (acted r)

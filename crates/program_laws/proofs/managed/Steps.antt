@@ -53,7 +53,7 @@ module _ (P : ManagerEvent → Type 0) (w : Managing) (d : Deciding) (s : Stands
     to = w;
     leads = record { events = []; can_be = tt; quiet = tt; leads = refl; seat = refl };
     stands = s;
-    calm = calmly d.acting d.acting refl refl;
+    calm = calmly d.acting d.acting refl refl (λ e. e);
   }))
 
   heard_one : (time which : ℕ) (there : Option Handed) → slice_get w.scene.handed which ≡ there → Step P w d (hearing_at time there d)

@@ -54,6 +54,7 @@ pub record SweepTurn (w : Managing) (d d' : Deciding) : Type 0 where
   pub newest : d'.acting.newest ≡ one_more d.acting.newest
   pub begins : d'.acting.policy.activity ≡ Sweeps → begin_fault (after_raise_floor at.manager (one_more d.acting.newest)) ≡ None
   pub no_writing : is_writing d'.acting.policy.activity ≡ false
+  pub stood : d'.acting.policy.written.stands ≡ true → d'.acting.policy.activity ≡ Sweeps
 
 abbrev pub written_by : Managing → Managing
 written_by w = after_manager_event w managing.Write
@@ -171,6 +172,7 @@ module _ (what : Told) (which : ℕ) where
             activity = ap (λ p. p.activity) out.policy ∙ up.course.activity;
             gaps = ap (λ p. p.gaps) out.policy ∙ up.course.gaps;
             timing = ap (λ p. p.timing) out.policy ∙ up.course.timing;
+            stands = λ e. up.course.stands (sym (ap (λ p. p.written.stands) out.policy) ∙ e);
           };
           manager = out.manager ∙ up.manager;
           newest = out.newest ∙ up.newest;
@@ -184,14 +186,14 @@ module _ (what : Told) (which : ℕ) where
         let g = going.thus what a r b (λ h. first) goes s.newest in
         let (to, leads, stands) = follows w t a b s g in
         let so = calm.thus a r b ready_calm calm_so in
-        Quietly (record { to = to; leads = leads; stands = stands; calm = record { activity = so.activity; newest = so.newest } })
+        Quietly (record { to = to; leads = leads; stands = stands; calm = record { activity = so.activity; newest = so.newest; stands = so.stands } })
 
     -- it acted
     by_outcome : (c : Acting) → Outcome what r c → Turn w d (told_by (finished c))
     by_outcome c (Outcome.Quietly goes calm_so) =
         let end = after_finish c in
         quiet_turn (finished c) (going.thus what r c (finished c) goes (finishes c))
-        (calm.thus r c (finished c) calm_so (calmly c (finished c) end.course.activity end.newest))
+        (calm.thus r c (finished c) calm_so (calmly c (finished c) end.course.activity end.newest end.course.stands))
     by_outcome c (Outcome.Sweeping o) =
         let end = after_finish c in
         let few : c.newest < 2 ^ 32 = subst (λ n. n < 2 ^ 32) o.newest (omega arith) in
@@ -210,6 +212,7 @@ module _ (what : Told) (which : ℕ) where
           begins = λ e. subst (λ n. begin_fault (after_raise_floor ready.manager (one_more n)) ≡ None) same
               (ap (λ m. begin_fault (after_raise_floor m (one_more r.newest))) ready_stands.manager ∙ o.begins (sym end.course.activity ∙ e));
           no_writing = ap is_writing end.course.activity ∙ o.no_writing;
+          stood = λ e. end.course.activity ∙ o.stands (end.course.stands e);
         })
     by_outcome c (Outcome.Writing o) =
         let end = after_finish c in
@@ -241,4 +244,4 @@ module _ (what : Told) (which : ℕ) where
         by_idle true e = by_outcome (acted r) (acts what r)
         by_idle false e =
             let out = calm.sends r in
-            quiet_turn (sent r) (sends what r) (calmly r (sent r) (ap (λ p. p.activity) out.policy) out.newest)
+            quiet_turn (sent r) (sends what r) (calmly r (sent r) (ap (λ p. p.activity) out.policy) out.newest (λ e. sym (ap (λ p. p.written.stands) out.policy) ∙ e))

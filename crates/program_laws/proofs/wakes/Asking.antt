@@ -43,7 +43,7 @@ use Rattle.manager_laws.proofs.Followed.{HasAskedAll, SeenBySweeps, asks, asks_a
 use Rattle.manager_laws.proofs.Follows.{handed_keeps, polled_keeps, request_keeps, served_keeps}
 use Rattle.manager_laws.proofs.Generations.{floor_small, newest_small}
 use Rattle.manager_laws.proofs.Goes.{Goes}
-use Rattle.manager_laws.proofs.Held.{starting}
+use Rattle.manager_laws.proofs.SweepBegins.{starting}
 use Rattle.manager_laws.proofs.OneSweep.{first_begins, first_of}
 use Rattle.manager_laws.proofs.Rests.{new_managers_sweep_first}
 use Rattle.manager_laws.proofs.Swept as swept

@@ -51,7 +51,7 @@ use Rattle.program_laws.proofs.wakes.Settled.{settled_given}
 
 -- where requests wait -----------------------------------------------------------------------------------
 
-abbrev AnyOut : ℕ → List Out → Type 0
+abbrev pub AnyOut : ℕ → List Out → Type 0
 AnyOut t [] = ⊥
 AnyOut t (out ∷ outs) = Asks t out.request ⊎ AnyOut t outs
 
@@ -64,18 +64,18 @@ out_right : (t : ℕ) (xs ys : List Out) → AnyOut t ys → AnyOut t (xs ++ ys)
 out_right t [] ys any = any
 out_right t (x ∷ xs) ys any = inr (out_right t xs ys any)
 
-abbrev InWindow : ℕ → Window → Type 0
+abbrev pub InWindow : ℕ → Window → Type 0
 InWindow t w = AnyAsks t w.queued ⊎ AnyOut t w.outs
 
-abbrev Awaited : Acting → ℕ → Type 0
+abbrev pub Awaited : Acting → ℕ → Type 0
 Awaited a t = AnyAsks t a.manager.outgoing ⊎ InWindow t a.window
 
 -- for each request of the sweep that is out, a request waits, is out, or was just queued
-record IsCovered (a : Acting) : Type 0 where
-  newest : a.newest < 2 ^ 32
-  knows : KnowsSmall a.manager.store
-  good : Good (Awaited a) a.manager.sweep
-  steps : Steps (Awaited a) a.manager
+pub record IsCovered (a : Acting) : Type 0 where
+  pub newest : a.newest < 2 ^ 32
+  pub knows : KnowsSmall a.manager.store
+  pub good : Good (Awaited a) a.manager.sweep
+  pub steps : Steps (Awaited a) a.manager
 
 as_is : (a b : Acting) → b.manager ≡ a.manager → b.window ≡ a.window → b.newest ≡ a.newest → IsCovered a → IsCovered b
 as_is a b manager window newest c =
@@ -115,7 +115,7 @@ ends P a w m c turn steps moves =
     waits t (inl h) = elim h.0 [ inl any ↦ inl (turn.keeps t any) | inr there ↦ inr (moves t h.1 there) ]
     waits t (inr any) = inl any
 
-abbrev AnyOther : ℕ → Type 0
+abbrev pub AnyOther : ℕ → Type 0
 AnyOther t = Unit {0}
 
 calls : (a : Acting) (call : Call) → IsCovered a → Turn (Awaited a) AnyOther a.manager (after_call a.manager call)
@@ -150,7 +150,7 @@ removes request a w c split =
 times_out : (request : Outgoing) (a : Acting) → IsCovered a → IsCovered (timed_out request a)
 times_out request a c = removes request a a.window c (λ t there. inr there)
 
-abbrev Keeps : (Acting → Acting) → Type 0
+abbrev pub Keeps : (Acting → Acting) → Type 0
 Keeps step = (a : Acting) → IsCovered a → IsCovered (step a)
 
 repeats : (n : ℕ) (step : Acting → Acting) → Keeps step → Keeps (repeated n step)
@@ -159,19 +159,20 @@ repeats (suc n) step each a c = each (repeated n step a) (repeats n step each a 
 
 -- catching up -------------------------------------------------------------------------------------------------
 
+pub still_awaited : (a : Acting) (t : ℕ) → Awaited a t → Awaited (collected a) t
+still_awaited a t (inl any) = inr (inl (any_right t a.window.queued _ (any_request t a.manager.outgoing any)))
+still_awaited a t (inr (inl queued)) = inr (inl (any_left t a.window.queued _ queued))
+still_awaited a t (inr (inr out)) = inr (inr out)
+
 collects : Keeps collected
 collects a c =
     record {
       newest = c.newest;
       knows = c.knows;
-      good = good_more (Awaited a) (Awaited (collected a)) (λ t big. waits t) a.manager.sweep c.good;
-      steps = steps_emptied (Awaited (collected a)) a.manager (steps_more (Awaited a) (Awaited (collected a)) a.manager waits c.steps);
+      good = good_more (Awaited a) (Awaited (collected a)) (λ t big. still_awaited a t) a.manager.sweep c.good;
+      steps = steps_emptied (Awaited (collected a)) a.manager
+          (steps_more (Awaited a) (Awaited (collected a)) a.manager (still_awaited a) c.steps);
     }
-  where
-    waits : (t : ℕ) → Awaited a t → Awaited (collected a) t
-    waits t (inl any) = inr (inl (any_right t a.window.queued _ (any_request t a.manager.outgoing any)))
-    waits t (inr (inl queued)) = inr (inl (any_left t a.window.queued _ queued))
-    waits t (inr (inr out)) = inr (inr out)
 
 looks : Keeps looked
 looks a c =
@@ -183,12 +184,12 @@ catches_up a c = looks (collected a) (collects a c)
 -- late requests -----------------------------------------------------------------------------------------------------
 
 -- the request that is given up, if one is
-abbrev IsGone : ℕ → Option Late → Type 0
+abbrev pub IsGone : ℕ → Option Late → Type 0
 IsGone t None = ⊥
 IsGone t (Some (Again request)) = ⊥
 IsGone t (Some (GivenUp request)) = Asks t request
 
-late_keeps : (limits : Limits) (time t : ℕ) (outs : List Out) → AnyOut t outs
+pub late_keeps : (limits : Limits) (time t : ℕ) (outs : List Out) → AnyOut t outs
     → IsGone t (late_in limits time outs).late ⊎ AnyOut t (late_in limits time outs).outs
 late_keeps limits time t [] any = absurd any
 late_keeps limits time t (out ∷ outs) any =
@@ -269,7 +270,7 @@ stops a c =
 
 -- sending ---------------------------------------------------------------------------------------------------------------
 
-sent_keeps : (time t : ℕ) (w : Window) (queue : List Outgoing) → w.queued ≡ queue → InWindow t w → InWindow t (sent_of time w queue).window
+pub sent_keeps : (time t : ℕ) (w : Window) (queue : List Outgoing) → w.queued ≡ queue → InWindow t w → InWindow t (sent_of time w queue).window
 sent_keeps time t w [] e there = there
 sent_keeps time t w (request ∷ rest) e there =
     let out = out_at w.limits time 1 request in
@@ -302,11 +303,11 @@ sends a c =
 -- packets -----------------------------------------------------------------------------------------------------------------
 
 -- the request that was taken out, if one was
-abbrev IsGiven : ℕ → Option Outgoing → Type 0
+abbrev pub IsGiven : ℕ → Option Outgoing → Type 0
 IsGiven t None = ⊥
 IsGiven t (Some request) = Asks t request
 
-taken_keeps : (test : Out → Bool) (t : ℕ) (outs : List Out) → AnyOut t outs
+pub taken_keeps : (test : Out → Bool) (t : ℕ) (outs : List Out) → AnyOut t outs
     → IsGiven t (first_out test outs).request ⊎ AnyOut t (first_out test outs).outs
 taken_keeps test t [] any = absurd any
 taken_keeps test t (out ∷ outs) any =
@@ -319,7 +320,7 @@ taken_keeps test t (out ∷ outs) any =
     ])
 
 -- the packet has the request's TransactionID and, if the request is directed, so is the packet
-abbrev IsAnswered : List ℕ → Option Outgoing → Type 0
+abbrev pub IsAnswered : List ℕ → Option Outgoing → Type 0
 IsAnswered packet None = Unit {0}
 IsAnswered packet (Some request) =
     (number_in transaction_id packet ≡ number_in transaction_id request.packet)
@@ -330,7 +331,7 @@ of_class true b e f = refl
 of_class false true e f = e
 of_class false false e f = f
 
-taken_alike : (packet : List ℕ) (outs : List Out) → IsAnswered packet (first_out (answers packet) outs).request
+pub taken_alike : (packet : List ℕ) (outs : List Out) → IsAnswered packet (first_out (answers packet) outs).request
 taken_alike packet [] = tt
 taken_alike packet (out ∷ outs) =
     cond_both (answers packet out) (record { outs = outs; request = Some out.request }) (kept_behind out (first_out (answers packet) outs))
@@ -415,7 +416,7 @@ takes (Told.Packet bytes from) stays a c = hears_by bytes from (fault_of bytes) 
 takes Told.Look stays a c = as_is a (taken Told.Look a) refl refl refl c
 takes Told.Leave stays a c = absurd stays
 
-tells_time : (time : ℕ) → Keeps (told_time time)
+pub tells_time : (time : ℕ) → Keeps (told_time time)
 tells_time time a c =
     cond_both _ _ _ IsCovered (λ _. as_is a _ refl refl refl c) (λ _. as_is a _ refl refl refl c)
 
@@ -501,7 +502,7 @@ acts_if_idle a c =
 
 -- lines -------------------------------------------------------------------------------------------------------------------
 
-before : (line : Line) → IsNoLeave line.1 → Keeps (before_deciding line)
+pub before : (line : Line) → IsNoLeave line.1 → Keeps (before_deciding line)
 before line stays a c =
     let b = taken line.1 (told_time line.0 a) in
     let heard = takes line.1 stays (told_time line.0 a) (tells_time line.0 a c) in
@@ -517,7 +518,7 @@ all_lines : (lines : List Line) → NoneLeaves lines → Keeps (after_lines line
 all_lines [] stays a c = c
 all_lines (line ∷ lines) stays a c = all_lines lines stays.1 (after_line line a) (a_line line stays.0 a c)
 
-has_covered : (a : Acting) (h : HasDecided a) → h.newest < 2 ^ 32 → NoneLeaves h.lines → IsCovered a
+pub has_covered : (a : Acting) (h : HasDecided a) → h.newest < 2 ^ 32 → NoneLeaves h.lines → IsCovered a
 has_covered a h few stays =
     subst IsCovered h.are (all_lines h.lines stays
     (new_acting (new_manager h.port_guid h.port h.priority h.conduct h.planning) h.timing h.limits h.newest)
@@ -525,7 +526,7 @@ has_covered a h few stays =
 
 -- where nothing is left ---------------------------------------------------------------------------------------------------
 
-none_waits : (t : ℕ) (queued : List Outgoing) (outs : List Out) → are_none queued outs ≡ true → AnyAsks t queued ⊎ AnyOut t outs → ⊥
+pub none_waits : (t : ℕ) (queued : List Outgoing) (outs : List Out) → are_none queued outs ≡ true → AnyAsks t queued ⊎ AnyOut t outs → ⊥
 none_waits t [] [] idle (inl none) = none
 none_waits t [] [] idle (inr none) = none
 none_waits t [] (out ∷ outs) idle any = absurd (cc)

@@ -103,7 +103,7 @@ record Went (m after : Manager) : Type 0 where
   sum : m.counter + sets_to_come m ≤ after.counter + sets_to_come after
   asks : after.counter ≤ 2 ^ 32 → (p : Pending) → Contains (only_in after m) p → is_step p ≡ true → AnyAsks p.number after.outgoing
 
-no_step : (ps : List Pending) (counter : ℕ) (p : Pending) → Rising counter ps → Contains ps p → is_step p ≡ true → how_many is_step ps ≡ 0 → ⊥
+pub no_step : (ps : List Pending) (counter : ℕ) (p : Pending) → Rising counter ps → Contains ps p → is_step p ≡ true → how_many is_step ps ≡ 0 → ⊥
 no_step ps counter p rising there step none =
     let over = steps_over counter ps p rising there in
     let one = ap one_if step in
@@ -191,32 +191,42 @@ went m call rising (inl h) = idle_went m call rising h.0 h.1 (after_call m call)
 went m call rising (inr h) = running_went m h.0 h.1 call
 
 -- what of the steps that wait is over
-module _ (W P : ℕ → Type 0) (m : Manager) (call : Call) (s : Steps W m) where
+module _ (W P : ℕ → Type 0) (m : Manager) (call : Call) where
   abbrev after : Manager
   after = after_call m call
 
-  -- those that still wait have P
-  abbrev pub StillHave : Type 0
-  StillHave = HasNumbers m → (p : Pending) → Contains m.pending p → is_step p ≡ true → Contains (after_call m call).pending p → P p.number
-
-  pub steps_turn : StillHave → Steps (λ t. (W t × P t) ⊎ AnyAsks t (after_call m call).outgoing) (after_call m call)
-  steps_turn still =
+  -- a step that waits after the call had W before and has P, or its Set was just queued
+  pub waits_turn : Rising m.counter m.pending → m.counter ≤ 2 ^ 32 → IsGoing m
+      → ((p : Pending) → Contains m.pending p → is_step p ≡ true → W p.number)
+      → ((p : Pending) → Contains m.pending p → is_step p ≡ true → Contains (after_call m call).pending p → P p.number)
+      → (p : Pending) → Contains (after_call m call).pending p → is_step p ≡ true
+      → (W p.number × P p.number) ⊎ AnyAsks p.number (after_call m call).outgoing
+  waits_turn rising few going waits still p there step =
       let t = turn m call in
-      let gone = went m call s.rising s.going in
-      let fits = calls_fit (call ∷ []) m s.few in
-      record {
-        rising = turn_rises m call after t s.rising;
-        few = fits;
-        going = gone.going;
-        waits = λ numbers p there step.
-            let sum = gone.sum in
-            let before : HasNumbers m = omega (arith, sum, numbers) in
-            elim (Contains-append_cases (kept t.gone m.pending) t.more p (subst (λ ps. Contains ps p) t.is there)) [
-              | inl old ↦ let in_m = kept_in t.gone m.pending p old in
-                  inl (s.waits before p in_m step, still before p in_m step there)
-              | inr new ↦ inr (gone.asks fits p (subst (λ ps. Contains ps p) (sym (came_by m call after t s.rising)) new) step)
-            ];
-      }
+      elim (Contains-append_cases (kept t.gone m.pending) t.more p (subst (λ ps. Contains ps p) t.is there)) [
+        | inl old ↦ let in_m = kept_in t.gone m.pending p old in inl (waits p in_m step, still p in_m step there)
+        | inr new ↦
+            inr ((went m call rising going).asks (calls_fit (call ∷ []) m few) p
+            (subst (λ ps. Contains ps p) (sym (came_by m call after t rising)) new) step)
+      ]
+
+  module _ (s : Steps W m) where
+    -- those that still wait have P
+    abbrev pub StillHave : Type 0
+    StillHave = HasNumbers m → (p : Pending) → Contains m.pending p → is_step p ≡ true → Contains (after_call m call).pending p → P p.number
+
+    pub steps_turn : StillHave → Steps (λ t. (W t × P t) ⊎ AnyAsks t (after_call m call).outgoing) (after_call m call)
+    steps_turn still =
+        let gone = went m call s.rising s.going in
+        record {
+          rising = turn_rises m call after (turn m call) s.rising;
+          few = calls_fit (call ∷ []) m s.few;
+          going = gone.going;
+          waits = λ numbers.
+              let sum = gone.sum in
+              let before : HasNumbers m = omega (arith, sum, numbers) in
+              waits_turn s.rising s.few s.going (s.waits before) (still before);
+        }
 
 -- a step that is over ---------------------------------------------------------------------------------------------
 
@@ -342,14 +352,18 @@ some_waits ps e = by_steps (filter is_step ps) refl
         let of = contains-from_filter is_step ps p (subst (λ xs. Contains xs p) (sym is) (contains_here p steps)) in
         (p, of.0, of.1)
 
--- where nothing is awaited, the writing is over
-pub writing_over : (W : ℕ → Type 0) (m : Manager) → Steps W m → HasNumbers m → ((t : ℕ) → W t → ⊥) → IsOver m
-writing_over W m s numbers none = by_waits (no_step_waits m.pending) refl
+-- if no step waits, the writing is over
+pub over_where_none : (m : Manager) → IsGoing m → ((p : Pending) → Contains m.pending p → is_step p ≡ true → ⊥) → IsOver m
+over_where_none m going none = by_waits (no_step_waits m.pending) refl
   where
     to_send : no_step_waits m.pending ≡ true → IsGoing m → steps_to_come m.writing ≡ []
     to_send e (inl h) = none_long (steps_to_come m.writing) h.1
     to_send e (inr h) = ap steps_to_come h.1.writing ∙ h.1.idle e
 
     by_waits : (b : Bool) → no_step_waits m.pending ≡ b → IsOver m
-    by_waits true e = record { none_waits = e; none_to_come = to_send e s.going }
-    by_waits false e = let p = some_waits m.pending e in absurd (none p.0.number (s.waits numbers p.0 p.1 p.2))
+    by_waits true e = record { none_waits = e; none_to_come = to_send e going }
+    by_waits false e = let p = some_waits m.pending e in absurd (none p.0 p.1 p.2)
+
+-- where nothing is awaited, the writing is over
+pub writing_over : (W : ℕ → Type 0) (m : Manager) → Steps W m → HasNumbers m → ((t : ℕ) → W t → ⊥) → IsOver m
+writing_over W m s numbers none = over_where_none m s.going (λ p there step. none p.number (s.waits numbers p there step))

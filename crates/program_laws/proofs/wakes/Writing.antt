@@ -46,14 +46,19 @@ use Rattle.program_laws.proofs.wakes.Waking.{looked_manager, looked_window}
 
 -- how a manager comes to write --------------------------------------------------------------------------
 
-abbrev Writes : Acting → Type 0
+abbrev pub Writes : Acting → Type 0
 Writes a = is_writing a.policy.activity ≡ true
 
--- its writing begins, and nothing else happens
-record WritesNow (x z : Acting) : Type 0 where
-  may : writing_fault x.manager ≡ None
-  manager : z.manager ≡ after_write_steps x.manager
-  window : z.window ≡ x.window
+-- its writing of the plan begins, which is kept, and nothing else happens
+pub record WritesPlan (plan : Option PlanValue) (x z : Acting) : Type 0 where
+  pub may : writing_fault x.manager ≡ None
+  pub manager : z.manager ≡ after_write_steps x.manager
+  pub window : z.window ≡ x.window
+  pub kept : z.kept ≡ plan
+
+-- it is the plan of the manager's facts
+abbrev pub WritesNow : Acting → Acting → Type 0
+WritesNow x z = WritesPlan (planned x.manager) x z
 
 never : {X : Type 0} → true ≡ false → X
 never e = absurd (cc)
@@ -63,15 +68,16 @@ handing_never true = refl
 handing_never false = refl
 
 about_writes : (what : Act) (cause : WriteCause) (plan : Option PlanValue) (y : Acting) → is_writing y.policy.activity ≡ false
-    → Writes (about_plan what cause plan y) → WritesNow y (about_plan what cause plan y)
+    → Writes (about_plan what cause plan y) → WritesPlan plan y (about_plan what cause plan y)
 about_writes act.Write cause (Some plan) y quiet h = by_fault (writing_fault y.manager) refl
   where
-    by_fault : (o : Option ManagerFault) → writing_fault y.manager ≡ o → WritesNow y (about_plan act.Write cause (Some plan) y)
+    by_fault : (o : Option ManagerFault) → writing_fault y.manager ≡ o → WritesPlan (Some plan) y (about_plan act.Write cause (Some plan) y)
     by_fault None e =
         record {
           may = e;
           manager = cond-true (is_none (writing_fault y.manager)) (after_write_steps y.manager) y.manager (ap is_none e);
           window = refl;
+          kept = cond-true (is_none (writing_fault y.manager)) (Some plan) y.kept (ap is_none e);
         }
     by_fault (Some why) e =
         never (sym h ∙ ap (λ (p : Policy). is_writing p.activity)
@@ -117,6 +123,7 @@ done_writes act.Judge y quiet h =
       may = ap writing_fault (sym (unplanned_manager plan y)) ∙ now.may;
       manager = now.manager ∙ ap after_write_steps (unplanned_manager plan y);
       window = now.window ∙ unplanned_window plan y;
+      kept = now.kept;
     }
 done_writes act.Write y quiet h = never (sym h ∙ quiet)
 done_writes act.Settle y quiet h = never (sym h ∙ quiet)
@@ -128,16 +135,16 @@ rested_quiet now p rests =
     (λ _. cond_both (is_due now (call_due p)) _ _ (λ (d : Decision). is_writing d.policy.activity ≡ false) (λ _. ap is_writing rests)
     (λ _. cond_both (is_due now (sweep_due p)) _ _ (λ (d : Decision). is_writing d.policy.activity ≡ false) (λ _. refl) (λ _. ap is_writing rests)))
 
-acted_writes : (what : Activity) (x : Acting) → x.policy.activity ≡ what → Writes (acted_in what x) → WritesNow x (acted_in what x)
+pub acted_writes : (what : Activity) (x : Acting) → x.policy.activity ≡ what → Writes (acted_in what x) → WritesNow x (acted_in what x)
 acted_writes activity.Rests x e h =
     let d = rested x.time x.policy in
     let now = done_writes d.act (record x { policy = d.policy }) (rested_quiet x.time x.policy e) h in
-    record { may = now.may; manager = now.manager; window = now.window }
+    record { may = now.may; manager = now.manager; window = now.window; kept = now.kept }
 acted_writes activity.Sweeps x e h =
     let d = swept x.time (is_whole x.manager) (rival_seen x.manager) x.policy in
     let now = done_writes d.act (record (noted (Swept (is_whole x.manager)) x) { policy = d.policy })
     (ap is_writing (swept_rests x.time (is_whole x.manager) (rival_seen x.manager) x.policy)) h in
-    record { may = now.may; manager = now.manager; window = now.window }
+    record { may = now.may; manager = now.manager; window = now.window; kept = now.kept }
 acted_writes activity.Writes x e h = never (sym h ∙ writing_past is_writing refl refl x)
 acted_writes activity.Hands x e h = never (sym h)
 

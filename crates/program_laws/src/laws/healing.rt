@@ -71,8 +71,10 @@ pub fn standing_pings_arrive()
 /// `heals_in_time`, whatever it is about at first: at some moment until then, each ping from an end port that its seat
 /// is joined to, for each LID of the plan of its last writing, reaches the end port that owns the LID, if five
 /// conditions hold: at the very first no packet is on its way, GUIDs differ, and the manager is new; its shell is
-/// faithful, and no cable moves; all goes well for it, as in `heals_in_time`; it was strict when its last writing
-/// began; since then each Set that an agent took is one of the writing's own or carries the plan's values.
+/// faithful, and no cable moves; all goes well for it, as in `heals_in_time`, but it need not be asked that its plan
+/// counts as written: it is enough that it does not give up what it writes, as one does that stood still or is no
+/// longer master; it was strict when its last writing began; since then each Set that an agent took is one of the
+/// writing's own or carries the plan's values.
 pub fn heals_at_seat()
     ensures { HealsAtSeat }
 {}
