@@ -1,3 +1,4 @@
+pub mod alone
 pub mod serve
 pub mod lasting
 pub mod managed

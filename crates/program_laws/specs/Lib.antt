@@ -4,6 +4,7 @@ pub mod LivePings
 pub mod Says
 pub mod ServeLaws
 pub mod Told
+pub mod Alone
 pub mod AlwaysAsks
 pub mod AnsweredWritings
 pub mod AnsweredPings
@@ -13,6 +14,8 @@ pub mod FreshWork
 pub mod Healing
 pub mod HealingAtSeat
 pub mod InTurn
+pub mod Leading
+pub mod LoneHealing
 pub mod NextSweep
 pub mod RestTime
 pub mod StandingPings

@@ -192,13 +192,13 @@ no_request_out [] (r ∷ outstanding) e = absurd (cc)
 no_request_out (q ∷ queued) (r ∷ outstanding) e = absurd (cc)
 
 -- so it takes no reply, and gives up nothing
-takes_none : (s : Sweep) (bytes : List ℕ) (answer : Answer) → is_running (Some s) ≡ false → judged s bytes ≡ Ok answer → ⊥
+pub takes_none : (s : Sweep) (bytes : List ℕ) (answer : Answer) → is_running (Some s) ≡ false → judged s bytes ≡ Ok answer → ⊥
 takes_none s bytes answer rests taken =
     let a = accepted s bytes answer taken in
     let there = (found_there (belongs s.generation bytes) s.outstanding a.request a.belongs).0 in
     contains_none a.request (subst (λ (rs : List Request). Contains rs a.request) (no_request_out s.queued s.outstanding rests) there)
 
-ends_none : (s : Sweep) (transaction : ℕ) → is_running (Some s) ≡ false → timeout_fault s transaction ≡ None → ⊥
+pub ends_none : (s : Sweep) (transaction : ℕ) → is_running (Some s) ≡ false → timeout_fault s transaction ≡ None → ⊥
 ends_none s transaction rests e =
     let none : timeout_fault s transaction ≡ Some NotOutstanding =
     ap (λ (rs : List Request). cond (is_some (request_with s.generation transaction rs)) None (Some NotOutstanding)) (no_request_out s.queued s.outstanding rests) in

@@ -168,11 +168,11 @@ line_told late line a h room stays_on about prompt = by_idle (is_idle a.window) 
 
 -- what a manager is about, other than a rest -----------------------------------------------------------------------------
 
-abbrev is_handing : Activity → Bool
+abbrev pub is_handing : Activity → Bool
 is_handing activity.Hands = true
 is_handing what = false
 
-hands_past : (what : Activity) (a : Acting) → is_handing what ≡ true → is_handing (acted_in what a).policy.activity ≡ false
+pub hands_past : (what : Activity) (a : Acting) → is_handing what ≡ true → is_handing (acted_in what a).policy.activity ≡ false
 hands_past activity.Hands a e = refl
 hands_past activity.Rests a e = absurd (cc)
 hands_past activity.Sweeps a e = absurd (cc)
@@ -454,7 +454,7 @@ no_writing_rests activity.Rests e = absurd (cc)
 no_writing_rests activity.Sweeps e = absurd (cc)
 no_writing_rests activity.Hands e = absurd (cc)
 
-no_handing_rests : (what : Activity) → is_handing what ≡ true → is_resting what ≡ false
+pub no_handing_rests : (what : Activity) → is_handing what ≡ true → is_resting what ≡ false
 no_handing_rests activity.Hands e = refl
 no_handing_rests activity.Rests e = absurd (cc)
 no_handing_rests activity.Sweeps e = absurd (cc)

@@ -58,12 +58,12 @@ no_call Standby (Some rival) next e = absurd (cc)
 no_call NotActive master next e = absurd (cc)
 
 -- a time at which a sweep is due, at `by` at the latest
-record HasDue (by : ℕ) (due : Option ℕ) : Type 0 where
-  time : ℕ
-  is : due ≡ Some time
-  soon : time ≤ by
+pub record HasDue (by : ℕ) (due : Option ℕ) : Type 0 where
+  pub time : ℕ
+  pub is : due ≡ Some time
+  pub soon : time ≤ by
 
-sweep_soon : (by : ℕ) (p : Policy) → IsDueSoon by p → sweeps_in p.state p.master ≡ true → HasDue by (sweep_due p)
+pub sweep_soon : (by : ℕ) (p : Policy) → IsDueSoon by p → sweeps_in p.state p.master ≡ true → HasDue by (sweep_due p)
 sweep_soon by p h e = by_state p.state p.master p.is_wanted p.earliest p.next_sweep e h.earliest h.regular
   where
     by_state : (state : SmState) (master : Option Rival) (is_wanted : Bool) (earliest next : ℕ) → sweeps_in state master ≡ true → earliest ≤ by
@@ -76,13 +76,13 @@ sweep_soon by p h e = by_state p.state p.master p.is_wanted p.earliest p.next_sw
     by_state Master master false earliest next e soon regular =
         let late = regular refl refl in record { time = max earliest next; is = refl; soon = omega (arith, soon, late) }
 
-rest_is : (now : ℕ) (p : Policy) → sweeps_in p.state p.master ≡ true
+pub rest_is : (now : ℕ) (p : Policy) → sweeps_in p.state p.master ≡ true
     → rested now p ≡ cond (is_due now (sweep_due p)) (record { policy = sweeping now p; act = act.Sweep }) (still p)
 rest_is now p e =
     cond-false (is_due now (poll_due p)) _ _ (ap (is_due now) (no_poll p.state p.master p.next_poll e))
     ∙ cond-false (is_due now (call_due p)) _ _ (ap (is_due now) (no_call p.state p.master p.next_call e))
 
-rest_due_is : (p : Policy) → sweeps_in p.state p.master ≡ true → rest_due p ≡ sweep_due p
+pub rest_due_is : (p : Policy) → sweeps_in p.state p.master ≡ true → rest_due p ≡ sweep_due p
 rest_due_is p e =
     ap (λ o. earlier o (earlier (call_due p) (sweep_due p))) (no_poll p.state p.master p.next_poll e)
     ∙ ap (λ o. earlier None (earlier o (sweep_due p))) (no_call p.state p.master p.next_call e)
@@ -93,7 +93,7 @@ rest_due_is p e =
 
 -- the manager has caught up: its policy knows its state ------------------------------------------------------------------
 
-abbrev KnowsState : Acting → Type 0
+abbrev pub KnowsState : Acting → Type 0
 KnowsState a = (number_of_state a.manager.standing.state == number_of_state a.policy.state) ≡ true
 
 same_number : (state : SmState) → (number_of_state state == number_of_state state) ≡ true
@@ -102,17 +102,17 @@ same_number state = eq-eqb (number_of_state state) (number_of_state state) refl
 moved_state : (now : ℕ) (state : SmState) (p : Policy) → (moved now state p).state ≡ state
 moved_state now state p = cond_both (sweeps_first state p.activity) _ _ (λ (q : Policy). q.state ≡ state) (λ _. refl) (λ _. refl)
 
-looked_knows : (a : Acting) → KnowsState (looked a)
+pub looked_knows : (a : Acting) → KnowsState (looked a)
 looked_knows a =
     cond_both (number_of_state a.manager.standing.state == number_of_state a.policy.state) a (entered a.manager.standing.state a) KnowsState (λ e. e)
     (λ _. subst (λ (s : SmState). (number_of_state a.manager.standing.state == number_of_state s) ≡ true)
     (sym (moved_state a.time a.manager.standing.state a.policy)) (same_number a.manager.standing.state))
 
 -- once something was told, before the manager decides
-knows_state : (line : Line) (a : Acting) → KnowsState (before_deciding line a)
+pub knows_state : (line : Line) (a : Acting) → KnowsState (before_deciding line a)
 knows_state line a = looked_knows (collected (all_overdue (stopped (caught_up (taken line.1 (told_time line.0 a))))))
 
-looked_still : (a : Acting) → KnowsState a → looked a ≡ a
+pub looked_still : (a : Acting) → KnowsState a → looked a ≡ a
 looked_still a e = cond-true (number_of_state a.manager.standing.state == number_of_state a.policy.state) a (entered a.manager.standing.state a) e
 
 -- nothing more waits for its turn

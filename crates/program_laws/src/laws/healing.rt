@@ -3,6 +3,8 @@ ghost use Rattle.program_laws.specs.FreshWork.{WorksAgainInTime};
 ghost use Rattle.program_laws.specs.Healing.{HealsInTime, SomeManagerHeals};
 ghost use Rattle.program_laws.specs.HealingAtSeat.{HealsAtSeat};
 ghost use Rattle.program_laws.specs.InTurn.{WorksInTurn};
+ghost use Rattle.program_laws.specs.Leading.{LoneManagersLeadInTime};
+ghost use Rattle.program_laws.specs.LoneHealing.{LoneManagersHeal};
 ghost use Rattle.program_laws.specs.NextSweep.{SweepsAgainInTime};
 ghost use Rattle.program_laws.specs.RestTime.{RestsEndInTime};
 ghost use Rattle.program_laws.specs.StandingPings.{StandingPingsArrive};
@@ -75,4 +77,21 @@ pub fn standing_pings_arrive()
 /// writing's own or carries the plan's values.
 pub fn heals_at_seat()
     ensures { HealsAtSeat }
+{}
+
+/// A manager that decides by itself is master at some moment at most seventeen longest waits and `20 * (n + 4)` turns
+/// later, and from then on, whatever it is about at first, if four conditions hold: no packet that it is told is a word
+/// of another manager; no other manager has disabled it; a generation is left for each of its sweeps; its shell is at
+/// most two seconds late. A word is a Set of SMInfo, or an answer of SMInfo to a poll or a control, or one to a sweep by
+/// a manager that outranks this one. All else is as in `sweeps_again_in_time`.
+pub fn lone_managers_lead_in_time()
+    ensures { LoneManagersLeadInTime }
+{}
+
+/// A manager that decides by itself has swept anew, and has its plan written, as in `heals_in_time`, after at most
+/// nineteen longest waits and `26 * (n + 4)` turns, whatever it is about at first, if five conditions hold: it is
+/// alone, as in `lone_managers_lead_in_time`; it gives no request up; when its sweep is over, no path led too far; each
+/// end port finds a LID then, and its writing is not refused; when its writing is over, the plan counts as written.
+pub fn lone_managers_heal()
+    ensures { LoneManagersHeal }
 {}

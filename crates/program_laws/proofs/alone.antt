@@ -1,0 +1,16 @@
+pub mod Acts
+pub mod After
+pub mod Calm
+pub mod Hearing
+pub mod InfoOnly
+pub mod Leading
+pub mod LoneHealing
+pub mod Moves
+pub mod Needs
+pub mod Polling
+pub mod Polls
+pub mod Quiet
+pub mod Rests
+pub mod Runs
+pub mod Steady
+pub mod SweepEnds
