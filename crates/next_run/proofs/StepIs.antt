@@ -1,8 +1,8 @@
 -- The text and the line that were written are those of the step from the facts, the held tables and the plan.
-use Rattle.std.proofs.Common.{◌≡◌, ◌∙◌, ◌==◌, ◌↔◌, ◌++◌, ℕ, Bool, List, [], ◌∷◌, Option, None, Result, Ok, Err, IsTrue, length, ap, inl, inr, refl, subst, sym}
+use Rattle.std.proofs.Common.{◌≡◌, ◌∙◌, ◌==◌, ◌↔◌, ◌++◌, ℕ, Bool, List, [], ◌∷◌, Option, None, Result, Ok, Err, IsTrue, length, ap, arith, inl, inr, refl, subst, sym}
 use Rattle.std.proofs.lemmas.Bool.{eqb-true}
 use Rattle.std.proofs.lemmas.List.{nil_from_length}
-use Rattle.std.specs.Prelude.{◌⊎◌, IfErr, OnErr, OnOk}
+use Rattle.std.specs.Prelude.{◌⊎◌, IfErr, OnErr, OnOk, Vec}
 use Rattle.std.specs.Result.{IsErrAnd}
 use Rattle.std.specs.Io.KnownBytes.{Appends}
 use Rattle.byte_io.specs.declared.sink.WriteFault.{WriteFault}
@@ -22,11 +22,30 @@ use Rattle.next_tables.specs.declared.step_fault.StepFault.TheVariants as steps
 use Rattle.sm_cli.proofs.Plans.{has_room}
 use Rattle.next_run.specs.LoopText.{loop_text}
 use Rattle.next_run.specs.NextRun.{IsMade, IsSaid, IsStep, StopsBy, StopsStep, fault_of_step}
+use Rattle.audit_channels.specs.declared.order.ChannelOrder.{ChannelOrder}
+use Rattle.audit_channels.specs.declared.order.ChannelOrder.TheVariants.{Rises}
+use Rattle.audit_channels.specs.ChannelOrders.{IsOrder}
+use Rattle.audit_channels.specs.Waiting.{channel_count}
+use Rattle.audit_channels.proofs.Orders.{can_rise}
+use Rattle.step_loops.specs.StepOrder.{WaitsFor}
 use Rattle.next_run.specs.StepLoops.{IsLoopInStep}
 use Rattle.next_run.specs.StepOrderText.{step_order_text}
 
 pub is_empty : (xs : List ℕ) → IsTrue (length xs == 0) ↔ (xs ≡ [])
 is_empty xs = (λ t. nil_from_length xs (eqb-true _ _ t), λ e. ap (λ ys. length ys == 0) e)
+
+-- no loop was found
+pub no_loop : (cells : Cells) (held next : HeldPlan) (found : ChannelOrder) (numbers : Vec ℕ) (channels lids : List ℕ)
+    → IsOrder (WaitsFor cells held next) (channel_count cells) found → found ≡ Rises numbers → channels ≡ [] → lids ≡ []
+    → IsLoopInStep cells held next channels lids
+no_loop cells held next found numbers channels lids order is none no_lids =
+    let rise = can_rise (WaitsFor cells held next) (channel_count cells) numbers.items (subst (IsOrder (WaitsFor cells held next) (channel_count cells)) is order) in
+    let blank : IsLoopInStep cells held next [] [] = record {
+      waits = rise;
+      shortest = λ other waiting. omega arith;
+      lids_are = record { as_many = refl; each = λ i less. absurd (omega (arith, less)) };
+    } in
+    subst (λ (x : List ℕ × List ℕ). IsLoopInStep cells held next x.0 x.1) (λ i. (sym none i, sym no_lids i)) blank
 
 -- a text was written, or that has failed
 pub was_said : {W : Type 0} (written : W → Option (List ℕ)) (has_failed : W → Bool) (result : Result (Unit {0}) WriteFault) (old new : W) (text : List ℕ)

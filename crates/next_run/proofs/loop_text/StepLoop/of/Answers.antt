@@ -1,31 +1,15 @@
--- No loop, or a loop with its LIDs.
-use Rattle.std.proofs.Common.{List, ℕ, [], refl, subst, arith}
+-- A loop was found, with its LIDs.
+use Rattle.std.proofs.Common.{List, ℕ, subst}
 use Rattle.fact_store.specs.View.{cells_of}
-use Rattle.audit_channels.specs.declared.order.ChannelOrder.{ChannelOrder}
 use Rattle.audit_channels.specs.ChannelOrders.{IsOrder, IsShortest}
 use Rattle.audit_channels.specs.Waiting.{channel_count}
-use Rattle.audit_channels.proofs.Orders.{can_rise, cycle_there}
+use Rattle.audit_channels.proofs.Orders.{cycle_there}
 use Rattle.step_loops.specs.LidsInLoop.{AreLoopLids}
 use Rattle.step_loops.specs.StepOrder.{WaitsFor}
-use Rattle.next_run.specs.StepLoops.{IsLoopInStep}
 use Rattle.next_run.proofs.loop_text.StepLoop.of.Goals as goal
 
-pub returns-in-Rises : goal.returns-in-Rises
-returns-in-Rises c =
-    let cells = cells_of c.args.held.now.facts in
-    let held = c.args.held.now.held in
-    let next = c.args.next.now.held in
-    let F = WaitsFor cells held next in
-    let order = subst (IsOrder F (channel_count cells)) c.in-Rises.is c.in_ok-step_order.ensures.order in
-    let none : IsLoopInStep cells held next [] [] = record {
-      waits = can_rise F (channel_count cells) _ order;
-      shortest = λ other is. omega arith;
-      lids_are = record { as_many = refl; each = λ i less. absurd (omega (arith, less)) };
-    } in
-    ?
-
-pub returns-in-Cycle : goal.returns-in-Cycle
-returns-in-Cycle c =
+pub returns : goal.returns
+returns c =
     let cells = cells_of c.args.held.now.facts in
     let held = c.args.held.now.held in
     let next = c.args.next.now.held in
