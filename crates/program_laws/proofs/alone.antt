@@ -4,6 +4,7 @@ pub mod Calm
 pub mod Hearing
 pub mod InfoOnly
 pub mod Leading
+pub mod LoneAtSeat
 pub mod LoneHealing
 pub mod Moves
 pub mod Needs
@@ -14,3 +15,4 @@ pub mod Rests
 pub mod Runs
 pub mod Steady
 pub mod SweepEnds
+pub mod Voids

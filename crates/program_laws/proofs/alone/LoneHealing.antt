@@ -1,14 +1,19 @@
 -- A manager that is alone, with nothing in its way, sweeps and has its plan written in time.
-use Rattle.std.proofs.Common.{◌≡◌, ◌∙◌, inl, inr, ℕ, ◌+◌, ◌*◌, ◌<◌, ◌≤◌, true, false, List, [], ◌∷◌, ◌++◌, sym, ap, subst, arith}
+use Rattle.std.proofs.Common.{◌≡◌, ◌∙◌, inl, inr, ℕ, ◌+◌, ◌*◌, ◌<◌, ◌≤◌, Bool, true, false, ◌&&◌, ◌||◌, not, List, [], ◌∷◌, ◌++◌, refl, sym, ap, subst, arith}
 use Rattle.std.proofs.lemmas.List.{append_assoc}
+use Rattle.std.specs.Prelude.{max}
 use Rattle.sm_state.specs.declared.state.SmState.TheVariants.{Master}
 use Rattle.sm_policy.specs.PolicyLaws.{longest_wait}
 use Rattle.sm_policy.specs.declared.timing.Timing.{Timing}
 use Rattle.request_window.specs.declared.limits.Limits.{Limits}
-use Rattle.acting_manager.specs.Acting.{Acting}
+use Rattle.sm_policy.specs.Policy.{is_master}
+use Rattle.sm_policy.specs.declared.activity.Activity.{Activity}
+use Rattle.acting_manager.specs.Acting.{Acting, caught_up}
+use Rattle.acting_manager.specs.Working.{is_given_up, is_writing, taken}
+use Rattle.program_laws.specs.AnsweredWritings.{KeepsWriting}
 use Rattle.program_laws.specs.FreshWork.{works}
-use Rattle.program_laws.specs.Healing.{AllGoWell, GoesWell, Heals, IsUndisturbed}
-use Rattle.program_laws.specs.LoneHealing.{IsFree, LoneManagersHeal, StaysFree}
+use Rattle.program_laws.specs.Healing.{AllGoWellBy, EndsWritten, GoesWellBy, Heals, IsUndisturbedBy}
+use Rattle.program_laws.specs.LoneHealing.{AllEndWritten, IsFree, LoneManagersHeal, StaysFree}
 use Rattle.program_laws.specs.ManagedEnds.{StaysAbout}
 use Rattle.program_laws.specs.NextSweep.{begins_sweep}
 use Rattle.program_laws.specs.RestTime.{sweeps_in}
@@ -19,75 +24,153 @@ use Rattle.program_laws.proofs.alone.Calm.{IsCalm, calm_later, calm_line, info_i
 use Rattle.program_laws.proofs.alone.InfoOnly.{InfoOnly}
 use Rattle.program_laws.proofs.alone.Leading.{found_in_time, has_known, line_knows, lone_calm}
 use Rattle.program_laws.proofs.alone.Needs.{IsLed, led_lasts}
-use Rattle.program_laws.proofs.alone.Quiet.{lasts_quietly}
+use Rattle.program_laws.proofs.alone.Quiet.{LastsQuietly, hears_quietly, lasts_quietly, told_is}
 use Rattle.program_laws.proofs.alone.Steady.{knows_then}
 use Rattle.program_laws.proofs.alone.SweepEnds.{saw_none}
+use Rattle.program_laws.proofs.alone.Voids.{KeepsOn, heard_void, line_keeps_on}
 use Rattle.program_laws.proofs.lasting.Healing.{heals_in_time}
 use Rattle.program_laws.proofs.wakes.AtSeats.{lines_both}
 use Rattle.program_laws.proofs.wakes.FreshWork.{GoesOn}
+use Rattle.program_laws.proofs.wakes.Load.{moved_about}
 
-free_later : (some rest : List Line) (a : Acting) → StaysFree (some ++ rest) a → StaysFree rest (after_lines some a)
+pub free_later : (some rest : List Line) (a : Acting) → StaysFree (some ++ rest) a → StaysFree rest (after_lines some a)
 free_later [] rest a free = free
 free_later (line ∷ some) rest a free = free_later some rest (after_line line a) free.1
 
+-- it is so at each line
+abbrev AllSo : (Line → Acting → Type 0) → List Line → Acting → Type 0
+AllSo Writes [] a = Unit {0}
+AllSo Writes (line ∷ lines) a = Writes line a × AllSo Writes lines (after_line line a)
+
+all_later : (Writes : Line → Acting → Type 0) (some rest : List Line) (a : Acting) → AllSo Writes (some ++ rest) a → AllSo Writes rest (after_lines some a)
+all_later Writes [] rest a all = all
+all_later Writes (line ∷ some) rest a all = all_later Writes some rest (after_line line a) all.1
+
+all_written : (lines : List Line) (a : Acting) → AllEndWritten lines a → AllSo EndsWritten lines a
+all_written [] a all = tt
+all_written (line ∷ lines) a all = (all.0, all_written lines (after_line line a) all.1)
+
+-- what the manager is about stays the same until it decides
+about_lasts : (what : Activity) → LastsQuietly (λ m p. p.activity ≡ what)
+about_lasts what =
+    record {
+      gives = λ m p h. h;
+      hears = λ m p bytes from quiet h. h;
+      gives_up = λ m p transaction h. h;
+      wants = λ m p h. h;
+      enters = λ m p now other h. moved_about now m.standing.state p ∙ h;
+    }
+
 module _ (n late : ℕ) (timing : Timing) (limits : Limits) where
-  -- all goes well for a master that is alone
-  goes_well : (line : Line) (rest : List Line) (a : Acting) → IsCalm n late timing limits (line ∷ rest) a → IsFree line a → IsLed a.manager a.policy
-      → GoesWell line a
-  goes_well line rest a c free led =
-      record {
-        none_lost = free.none_lost;
-        to_sweep = record {
-          may = λ rests idle. record { itself = itself x master_x; unrefused = may_begin n late timing limits line rest a c rests idle };
-          itself = λ _ _. itself b (line_knows line a ∙ led_b.master);
-        };
-        swept = λ idle sweeps.
-            let lets = free.swept idle sweeps in
-            record {
-              master = master_x;
-              alone = saw_none x.manager led_x.clean;
-              near = lets.near;
-              fresh = led_x.fresh;
-              plan = lets.plan;
-              is_planned = lets.is_planned;
-              unrefused = lets.unrefused;
+  abbrev Calm : List Line → Acting → Type 0
+  Calm lines a = IsCalm n late timing limits lines a
+
+  -- a master that is alone
+  module _ (line : Line) (rest : List Line) (a : Acting) (c : Calm (line ∷ rest) a) (led : IsLed a.manager a.policy) where
+    g : GoesOn a (line ∷ [])
+    g = line_goes n late timing limits line rest a c
+
+    led_x : IsLed (before_deciding line a).manager (before_deciding line a).policy
+    led_x =
+        (lasts_quietly (λ m p. InfoOnly m × IsLed m p) led_lasts line a g.none_leaves.0 (line_quiet n late timing limits line rest a c)
+        (line_awake n late timing limits line rest a c) (info_is n late timing limits (line ∷ rest) a c, led)).1
+
+    led_b : IsLed (after_line line a).manager (after_line line a).policy
+    led_b =
+        line_led line a g (line_quiet n late timing limits line rest a c) (line_awake n late timing limits line rest a c)
+        (info_is n late timing limits (line ∷ rest) a c) led
+
+    itself : (d : Acting) → d.policy.state ≡ Master → sweeps_in d.policy.state d.policy.master ≡ true
+    itself d e = ap (λ s. sweeps_in s d.policy.master) e
+
+    -- all goes well for it
+    goes_well : (Writes : Line → Acting → Type 0) → IsFree line a → Writes line a → GoesWellBy Writes line a
+    goes_well Writes free so =
+        record {
+          none_lost = free.none_lost;
+          to_sweep = record {
+            may = λ rests idle. record {
+              itself = itself (before_deciding line a) (knows_then line a ∙ led_x.master);
+              unrefused = may_begin n late timing limits line rest a c rests idle;
             };
-        wrote = free.wrote;
-      }
-    where
-      x : Acting
-      x = before_deciding line a
+            itself = λ _ _. itself (after_line line a) (line_knows line a ∙ led_b.master);
+          };
+          swept = λ idle sweeps.
+              let lets = free.swept idle sweeps in
+              record {
+                master = knows_then line a ∙ led_x.master;
+                alone = saw_none (before_deciding line a).manager led_x.clean;
+                near = lets.near;
+                fresh = led_x.fresh;
+                plan = lets.plan;
+                is_planned = lets.is_planned;
+                unrefused = lets.unrefused;
+              };
+          writes = so;
+        }
 
-      b : Acting
-      b = after_line line a
+    -- it does not give up what it writes
+    keeps_writing : KeepsOn a → KeepsWriting line a
+    keeps_writing keeps =
+        subst (λ (t : Acting). is_given_up (caught_up (taken line.1 t)) ≡ false) (sym (told_is line a (line_awake n late timing limits line rest a c)))
+        (by_writing (is_writing y.policy.activity) refl)
+      where
+        y : Acting
+        y = caught_up (taken line.1 (record a { time = max line.0 a.time }))
 
-      g : GoesOn a (line ∷ [])
-      g = line_goes n late timing limits line rest a c
+        about : y.policy.activity ≡ a.policy.activity
+        about =
+            hears_quietly (λ m p. p.activity ≡ a.policy.activity) (about_lasts a.policy.activity) line a g.none_leaves.0
+            (line_quiet n late timing limits line rest a c) refl
 
-      led_x : IsLed x.manager x.policy
-      led_x =
-          (lasts_quietly (λ m p. InfoOnly m × IsLed m p) led_lasts line a g.none_leaves.0 (line_quiet n late timing limits line rest a c)
-          (line_awake n late timing limits line rest a c) (info_is n late timing limits (line ∷ rest) a c, led)).1
+        master : y.manager.standing.state ≡ Master
+        master =
+            (hears_quietly (λ m p. InfoOnly m × IsLed m p) led_lasts line a g.none_leaves.0 (line_quiet n late timing limits line rest a c)
+            (info_is n late timing limits (line ∷ rest) a c, led)).1.master
 
-      led_b : IsLed b.manager b.policy
-      led_b =
-          line_led line a g (line_quiet n late timing limits line rest a c) (line_awake n late timing limits line rest a c)
-          (info_is n late timing limits (line ∷ rest) a c) led
+        void : y.is_void ≡ a.is_void
+        void =
+            ap (λ (t : Acting). (caught_up (taken line.1 t)).is_void) (sym (told_is line a (line_awake n late timing limits line rest a c)))
+            ∙ heard_void line a g.none_leaves.0 (line_awake n late timing limits line rest a c)
 
-      master_x : x.policy.state ≡ Master
-      master_x = knows_then line a ∙ led_x.master
+        by_writing : (b : Bool) → is_writing y.policy.activity ≡ b → is_given_up y ≡ false
+        by_writing false e = ap (λ w. w && (y.is_void || not (is_master y.manager.standing.state))) e
+        by_writing true e =
+            (λ i. e i && ((void ∙ keeps (ap is_writing (sym about) ∙ e)) i || not (is_master (master i))))
 
-      itself : (d : Acting) → d.policy.state ≡ Master → sweeps_in d.policy.state d.policy.master ≡ true
-      itself d e = ap (λ s. sweeps_in s d.policy.master) e
-
-  all_go_well : (lines : List Line) (a : Acting) → IsCalm n late timing limits lines a → StaysFree lines a → IsLed a.manager a.policy → AllGoWell lines a
-  all_go_well [] a c free led = tt
-  all_go_well (line ∷ rest) a c free led = (
-    goes_well line rest a c free.0 led,
-    all_go_well rest (after_line line a) (calm_line n late timing limits line rest a c) free.1
-        (line_led line a (line_goes n late timing limits line rest a c) (line_quiet n late timing limits line rest a c)
-        (line_awake n late timing limits line rest a c) (info_is n late timing limits (line ∷ rest) a c) led),
+  pub all_go_well : (Writes : Line → Acting → Type 0) (lines : List Line) (a : Acting) → Calm lines a → StaysFree lines a → AllSo Writes lines a
+      → IsLed a.manager a.policy → AllGoWellBy Writes lines a
+  all_go_well Writes [] a c free all led = tt
+  all_go_well Writes (line ∷ rest) a c free all led = (
+    goes_well line rest a c led Writes free.0 all.0,
+    all_go_well Writes rest (after_line line a) (calm_line n late timing limits line rest a c) free.1 all.1 (led_b line rest a c led),
   )
+
+  pub all_keep_writing : (lines : List Line) (a : Acting) → Calm lines a → IsLed a.manager a.policy → KeepsOn a → AllSo KeepsWriting lines a
+  all_keep_writing [] a c led keeps = tt
+  all_keep_writing (line ∷ rest) a c led keeps = (
+    keeps_writing line rest a c led keeps,
+    all_keep_writing rest (after_line line a) (calm_line n late timing limits line rest a c) (led_b line rest a c led)
+        (line_keeps_on line a (line_goes n late timing limits line rest a c) (line_awake n late timing limits line rest a c) keeps),
+  )
+
+  -- from then on nothing disturbs it
+  abbrev pub undisturbed : (Writes : Line → Acting → Type 0) (lines : List Line) (a : Acting) → Calm lines a → StaysFree lines a → AllSo Writes lines a
+      → IsLed a.manager a.policy → IsUndisturbedBy Writes n a lines
+  undisturbed Writes lines a c free all led =
+      record {
+        decided = c.goes.decided;
+        generations = c.generations;
+        none_left = c.none_left;
+        first = λ _ _. ap (λ s. sweeps_in s a.policy.master) (has_known a c.goes.decided ∙ led.master);
+        well = all_go_well Writes lines a c free all led;
+        few = c.few;
+        tries = c.goes.tries;
+        outstanding = c.goes.outstanding;
+        stays_on = c.goes.stays_on;
+        none_leaves = c.goes.none_leaves;
+        time = c.time;
+      }
 
 -- after some lines
 heals_later : (some rest lines : List Line) (a : Acting) → lines ≡ some ++ rest → Heals rest (after_lines some a) → Heals lines a
@@ -109,8 +192,16 @@ heals_later some rest lines a is h =
     first : after_lines (some ++ h.before) a ≡ after_lines h.before (after_lines some a)
     first = lines_both some h.before a
 
+-- time for another sweep and writing is left
+pub in_time : (t u end end' m w d w' d' : ℕ) → u ≤ t + 17 * w + (20 * (m + 4)) * d → w' ≡ w → d' ≡ d → end ≡ end'
+    → t + 19 * w + (26 * (m + 4)) * d < end → u + 2 * w' + (6 * (m + 3)) * d' < end'
+in_time t u end end' m w d w' d' soon same turn is long = let e = ap (λ i. m * i) turn in omega (arith, soon, same, turn, is, long, e)
+
+pub too_soon : (t end m w d : ℕ) → t + 19 * w + (26 * (m + 4)) * d < end → end ≤ t + 17 * w + (20 * (m + 4)) * d → ⊥
+too_soon t end m w d long few = omega (arith, long, few)
+
 pub lone_managers_heal : LoneManagersHeal
-lone_managers_heal n a lines r free late short prompt long =
+lone_managers_heal n a lines r free written late short prompt long =
     elim (found_in_time n late a lines r short prompt) [
       | inl f ↦
           let timing = r.decided.timing in
@@ -118,34 +209,14 @@ lone_managers_heal n a lines r free late short prompt long =
           let b = after_lines f.first a in
           let c = calm_later n late timing limits f.first f.later a
           (subst (λ ls. IsCalm n late timing limits ls a) f.are (lone_calm n late a lines r short prompt)) in
-          let well = all_go_well n late timing limits f.later b c
-          (free_later f.first f.later a (subst (λ ls. StaysFree ls a) f.are free)) f.led in
-          let undisturbed : IsUndisturbed n b f.later = record {
-            decided = c.goes.decided;
-            generations = c.generations;
-            none_left = c.none_left;
-            first = λ _ _. ap (λ s. sweeps_in s b.policy.master) (has_known b c.goes.decided ∙ f.led.master);
-            well = well;
-            few = c.few;
-            tries = c.goes.tries;
-            outstanding = c.goes.outstanding;
-            stays_on = c.goes.stays_on;
-            none_leaves = c.goes.none_leaves;
-            time = c.time;
-          } in
+          let w = undisturbed n late timing limits EndsWritten f.later b c
+          (free_later f.first f.later a (subst (λ ls. StaysFree ls a) f.are free))
+          (all_later EndsWritten f.first f.later a (subst (λ ls. AllSo EndsWritten ls a) f.are (all_written lines a written))) f.led in
           heals_later f.first f.later lines a f.are
-          (heals_in_time n b f.later undisturbed late c.prompt
+          (heals_in_time n b f.later w late c.prompt
           (in_time a.time b.time (after_lines lines a).time (after_lines f.later b).time n (longest_wait timing) (longest_turn late limits)
-          (longest_wait c.goes.decided.timing) (longest_turn late b.window.limits)
+          (longest_wait w.decided.timing) (longest_turn late b.window.limits)
           f.soon (ap longest_wait c.timing_is) (ap (longest_turn late) c.limits_is)
           (ap (λ (z : Acting). z.time) (ap (λ ls. after_lines ls a) f.are ∙ lines_both f.first f.later a)) long))
       | inr few ↦ absurd (too_soon a.time (after_lines lines a).time n (longest_wait r.decided.timing) (longest_turn late a.window.limits) long few)
     ]
-  where
-    in_time : (t u end end' m w d w' d' : ℕ) → u ≤ t + 17 * w + (20 * (m + 4)) * d → w' ≡ w → d' ≡ d → end ≡ end'
-        → t + 19 * w + (26 * (m + 4)) * d < end → u + 2 * w' + (6 * (m + 3)) * d' < end'
-    in_time t u end end' m w d w' d' soon same turn is long =
-        let e = ap (λ i. m * i) turn in omega (arith, soon, same, turn, is, long, e)
-
-    too_soon : (t end m w d : ℕ) → t + 19 * w + (26 * (m + 4)) * d < end → end ≤ t + 17 * w + (20 * (m + 4)) * d → ⊥
-    too_soon t end m w d long few = omega (arith, long, few)

@@ -27,6 +27,7 @@ use Rattle.program_laws.proofs.alone.Rests.RestEnds.{Begins, Fails, Polls, Waits
 use Rattle.program_laws.proofs.alone.Steady.{AtRest, IsReady, IsResting, heard_then, ready, rest_told}
 use Rattle.program_laws.proofs.alone.SweepEnds.{SweepEnds, sweep_ends}
 use Rattle.program_laws.proofs.alone.SweepEnds.SweepEnds.{Leads, Rests}
+use Rattle.program_laws.proofs.alone.Voids.{KeepsOn, decided_on}
 use Rattle.program_laws.proofs.wakes.AtSeats.{lines_both}
 use Rattle.program_laws.proofs.wakes.Deciding.{decides_past, sent_about, sweeps_past}
 use Rattle.program_laws.proofs.wakes.FreshWork.{GoesOn, goes_first}
@@ -41,6 +42,7 @@ pub record Found (by : ℕ) (lines : List Line) (a : Acting) : Type 0 where
   pub later : List Line
   pub are : lines ≡ first ++ later
   pub led : IsLed (after_lines first a).manager (after_lines first a).policy
+  pub keeps_on : KeepsOn (after_lines first a)
   pub soon : (after_lines first a).time ≤ by
 
 pub found_on : (by : ℕ) (some rest : List Line) (a : Acting) → Found by rest (after_lines some a) → Found by (some ++ rest) a
@@ -50,6 +52,7 @@ found_on by some rest a f =
       later = f.later;
       are = ap (λ ls. some ++ ls) f.are ∙ sym (append_assoc some f.first f.later);
       led = subst (λ (b : Acting). IsLed b.manager b.policy) (sym (lines_both some f.first a)) f.led;
+      keeps_on = subst KeepsOn (sym (lines_both some f.first a)) f.keeps_on;
       soon = subst (λ (b : Acting). b.time ≤ by) (sym (lines_both some f.first a)) f.soon;
     }
 
@@ -59,7 +62,14 @@ FoundBy by lines a = Found by lines a ⊎ ((after_lines lines a).time ≤ by)
 
 pub found_by : (by end : ℕ) (lines : List Line) (a : Acting) → by ≤ end → FoundBy by lines a → FoundBy end lines a
 found_by by end lines a less (inl f) =
-    inl (record { first = f.first; later = f.later; are = f.are; led = f.led; soon = let soon = f.soon in omega (arith, soon, less) })
+    inl (record {
+      first = f.first;
+      later = f.later;
+      are = f.are;
+      led = f.led;
+      keeps_on = f.keeps_on;
+      soon = let soon = f.soon in omega (arith, soon, less);
+    })
 found_by by end lines a less (inr h) = inr (omega (arith, h, less))
 
 -- after some lines
@@ -211,16 +221,17 @@ module _ (n late : ℕ) (timing : Timing) (limits : Limits) where
                     lasts_quietly (IsSweep j) (sweep_lasts j) line d g.none_leaves.0 (line_quiet n late timing limits line rest d v)
                     (line_awake n late timing limits line rest d v) (sweeps_on j some (line ∷ rest) a w about stays s)
 
-                by_end : SweepEnds j line d → FoundBy (a.time + (n + 3) * turn + (j * cycle + j * wait)) (some ++ line ∷ rest) a
-                by_end (Leads led) =
+                by_end : is_idle x.window ≡ true → SweepEnds j line d → FoundBy (a.time + (n + 3) * turn + (j * cycle + j * wait)) (some ++ line ∷ rest) a
+                by_end idle (Leads led) =
                     inl (found_on (a.time + (n + 3) * turn + (j * cycle + j * wait)) some (line ∷ rest) a (record {
                       first = line ∷ [];
                       later = rest;
                       are = refl;
                       led = led;
+                      keeps_on = decided_on line d g idle;
                       soon = let now = b_time in omega (arith, now);
                     }))
-                by_end (Rests r) =
+                by_end idle (Rests r) =
                     let by = a.time + (n + 3) * turn + (j * cycle + j * wait) in
                     let now = b_time in
                     found_then by some (line ∷ rest) a
@@ -230,7 +241,7 @@ module _ (n late : ℕ) (timing : Timing) (limits : Limits) where
 
                 by_idle : (i : Bool) → is_idle x.window ≡ i → FoundBy (a.time + (n + 3) * turn + (j * cycle + j * wait)) (some ++ line ∷ rest) a
                 by_idle true idle =
-                    by_end (sweep_ends j line d g idle (over_then n late timing limits line rest d v idle)
+                    by_end idle (sweep_ends j line d g idle (over_then n late timing limits line rest d v idle)
                     (sweep_is x.policy.activity (ap is_sweeping fell.about ∙ about_d)) ready_x)
                 by_idle false busy =
                     let after : is_sweeping b.policy.activity ≡ true =

@@ -31,7 +31,7 @@ given_up_same : (a b : Acting) → b.policy.activity ≡ a.policy.activity → b
     → is_master b.manager.standing.state ≡ is_master a.manager.standing.state → is_given_up b ≡ is_given_up a
 given_up_same a b about void master = λ i. is_writing (about i) && (void i || not (master i))
 
-looked_void : (a : Acting) → (looked a).is_void ≡ a.is_void
+pub looked_void : (a : Acting) → (looked a).is_void ≡ a.is_void
 looked_void a = cond_both _ a (entered a.manager.standing.state a) (λ (b : Acting). b.is_void ≡ a.is_void) (λ _. refl) (λ _. refl)
 
 pub looked_manager : (a : Acting) → (looked a).manager ≡ a.manager

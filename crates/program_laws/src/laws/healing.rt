@@ -4,7 +4,7 @@ ghost use Rattle.program_laws.specs.Healing.{HealsInTime, SomeManagerHeals};
 ghost use Rattle.program_laws.specs.HealingAtSeat.{HealsAtSeat};
 ghost use Rattle.program_laws.specs.InTurn.{WorksInTurn};
 ghost use Rattle.program_laws.specs.Leading.{LoneManagersLeadInTime};
-ghost use Rattle.program_laws.specs.LoneHealing.{LoneManagersHeal};
+ghost use Rattle.program_laws.specs.LoneHealing.{LoneManagersHeal, LoneManagersHealAtSeat};
 ghost use Rattle.program_laws.specs.NextSweep.{SweepsAgainInTime};
 ghost use Rattle.program_laws.specs.RestTime.{RestsEndInTime};
 ghost use Rattle.program_laws.specs.StandingPings.{StandingPingsArrive};
@@ -94,4 +94,14 @@ pub fn lone_managers_lead_in_time()
 /// end port finds a LID then, and its writing is not refused; when its writing is over, the plan counts as written.
 pub fn lone_managers_heal()
     ensures { LoneManagersHeal }
+{}
+
+/// A manager that decides by itself, at its seat on a fabric, serves its subnet, as in `heals_at_seat`, after at most
+/// nineteen longest waits and `26 * (n + 4)` turns, whatever it is about at first, if seven conditions hold: it is
+/// alone, as in `lone_managers_lead_in_time`; it gives no request up; when its sweep is over, no path led too far; each
+/// end port finds a LID then, and its writing is not refused; at the very first no packet is on its way, GUIDs differ,
+/// and the manager is new; it was strict when its last writing began; since then each Set that an agent took is one of
+/// the writing's own or carries the plan's values. Its shell is faithful, and no cable moves.
+pub fn lone_managers_heal_at_seat()
+    ensures { LoneManagersHealAtSeat }
 {}
