@@ -73,7 +73,7 @@ IsNamed (command.Show name what) = IsName name
 IsNamed (command.ShowDecider name what) = ⊥
 IsNamed (command.Pause name) = IsName name
 IsNamed (command.Resume name) = IsName name
-IsNamed (command.Wait time most) = (time ≤ 0xFFFFFFFF) × (most ≤ 1000000)
+IsNamed (command.Wait time most) = (time ≤ 0xFFFFFFFF) × (most ≤ 10000)
 IsNamed (command.Packet which fate) = IsWhich which
 IsNamed (command.Drain most) = most ≤ 1000000
 IsNamed (command.Cut p) = IsPort p
@@ -215,7 +215,7 @@ ping_range port lid =
 wait_range : (time most : List ℕ) → IfSome (wait time most) IsNamed
 wait_range time most =
     then_some (λ n. n ≤ 0xFFFFFFFF) IsNamed (number_up_to 0xFFFFFFFF time) _ (number_range 0xFFFFFFFF time) (λ t h.
-    mapped (λ n. n ≤ 1000000) IsNamed (number_up_to 1000000 most) _ (number_range 1000000 most) (λ n g. (h, g)))
+    mapped (λ n. n ≤ 10000) IsNamed (number_up_to 10000 most) _ (number_range 10000 most) (λ n g. (h, g)))
 
 two_range : (word one other : List ℕ) → IfSome (of_two word one other) IsNamed
 two_range word one other =
@@ -422,7 +422,7 @@ named_in (command.Resume name) is = rw (manager_read name is) refl
 named_in (command.Wait time most) is =
     let h = is.0 in
     let k = is.1 in
-    rw (number_read 0xFFFFFFFF time (omega arith) h, number_read 1000000 most (omega arith) k) refl
+    rw (number_read 0xFFFFFFFF time (omega arith) h, number_read 10000 most (omega arith) k) refl
 named_in (command.Packet Last Deliver) is = refl
 named_in (command.Packet Last Lose) is = refl
 named_in (command.Packet Last Repeat) is = refl

@@ -126,10 +126,10 @@ plug one other = option_and_then (λ p. option_map (command.Plug p) (port_name o
 abbrev pub ping : List ℕ → List ℕ → Option NamedCommand
 ping port lid = option_and_then (λ p. option_map (command.Ping p) (lid_of lid)) (port_name port)
 
--- `wait` with a number of milliseconds, below 2^32, and a number of steps, at most 1,000,000; None for other words
+-- `wait` with a number of milliseconds, below 2^32, and a number of turns, at most 10,000; None for other words
 abbrev pub wait : List ℕ → List ℕ → Option NamedCommand
 wait time most =
-    option_and_then (λ t. option_map (command.Wait t) (number_up_to 1000000 most)) (number_up_to 0xFFFFFFFF time)
+    option_and_then (λ t. option_map (command.Wait t) (number_up_to 10000 most)) (number_up_to 0xFFFFFFFF time)
 
 -- any command of three words; None if they are not a command
 abbrev pub of_two : List ℕ → List ℕ → List ℕ → Option NamedCommand

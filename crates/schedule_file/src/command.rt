@@ -27,7 +27,7 @@ pub enum Command<M, P> {
     Pause(M),
     /// Makes a manager that decides by itself go on.
     Resume(M),
-    /// Lets so many milliseconds pass, with at most so many steps, which is at most 1,000,000. In each step the packet in
+    /// Lets so many milliseconds pass, with at most so many turns, which is at most 10,000. In each turn the packet in
     /// flight with the least serial number takes a step or, if none is in flight, a manager that decides by itself is
     /// told the time.
     Wait(u32, u32),

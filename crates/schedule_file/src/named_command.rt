@@ -183,7 +183,7 @@ fn wait(time: &[u8], most: &[u8]) -> Option<NamedCommand>
     ensures { result ≡ wait time.now most.now }
 {
     let time = number_up_to(time, u32::MAX)?;
-    Some(Command::Wait(time, number_up_to(most, 1_000_000)?))
+    Some(Command::Wait(time, number_up_to(most, 10_000)?))
 }
 
 /// Parses `word` as the name of a packet in flight: `last`, or a 64-bit serial number in decimal. Returns `None` for

@@ -206,7 +206,7 @@ pub(crate) fn new_seat(
 /// | `facts NAME`, `plan NAME`, `progress NAME`, `silent NAME`, `written NAME`, `state NAME` | |
 /// | `merge NAME NAME` | |
 /// | `pause NAME`, `resume NAME` | |
-/// | `wait MILLISECONDS COUNT` | milliseconds 0 to 4,294,967,295, count 0 to 1,000,000 |
+/// | `wait MILLISECONDS COUNT` | milliseconds 0 to 4,294,967,295, count 0 to 10,000 |
 /// | `deliver PACKET`, `lose PACKET`, `repeat PACKET` | `last`, or a 64-bit serial number |
 /// | `drain COUNT` | 0 to 1,000,000 |
 /// | `cut "node"[port]`, `plug "node"[port] "node"[port]` | port 0 to 255 |
