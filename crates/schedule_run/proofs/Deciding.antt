@@ -9,13 +9,19 @@ use Rattle.serve_run.specs.Acting.{Acting}
 use Rattle.serve_run.specs.Acting.{value_of as acting_value}
 use Rattle.serve_run.specs.Working.{Told, after_told, given_away}
 use Rattle.serve_run.specs.ActingManagerType.{ActingManager}
+use Rattle.fabric_sim.specs.Called.{Called}
+use Rattle.fabric_sim.specs.Changes.{after_seat}
+use Rattle.fabric_sim.specs.Simulation.{Simulation}
+use Rattle.fabric_sim.specs.declared.fabric_fault.FabricFault.{FabricFault}
+use Rattle.schedule_file.specs.declared.command.Shown.{Shown}
 use Rattle.schedule_lines.specs.Outcome.{Outcome, quiet}
 use Rattle.schedule_lines.specs.Prints.{PrintsUnless}
 use Rattle.schedule_lines.specs.declared.run_fault.RunFault.{RunFault}
 use Rattle.schedule_lines.specs.declared.run_fault.RunFault.TheVariants.{Memory}
 use Rattle.schedule_lines.proofs.Printing.{ends_unprinted, failed_with, prints_nothing, prints_same}
-use Rattle.schedule_run.specs.Deciders.{after_deciding, after_giving, after_telling, at_decider, with_decider}
-use Rattle.schedule_run.specs.World.{DeciderValue, Does, WorldValue, decider_value, seated_value, value_of}
+use Rattle.schedule_run.specs.Deciders.{after_deciding, after_decider_line, after_giving, after_pause_line, after_telling, at_decider}
+use Rattle.schedule_run.specs.Deciders.{decider_shown, decider_shown_at, with_decider}
+use Rattle.schedule_run.specs.World.{DeciderValue, Does, WorldValue, after_fabric_call, decider_value, fabric_line, seated_value, value_of}
 use Rattle.schedule_run.specs.declared.world.Decider.{Decider}
 use Rattle.schedule_run.specs.declared.world.World.{World}
 use Rattle.schedule_run.proofs.Doing.{does_same}
@@ -103,3 +109,74 @@ module _ {W : Type 0} (written : W → Option (List ℕ)) (has_failed : W → Bo
           } in
           does_same written has_failed old new result sink sink' _ _ told_so
           (record { managers = ap length same; leaves = leaves_so new result are sends gives; prints = prints })
+
+-- a decider that is woken up, or stands still
+abbrev pub with_awake : Decider → Bool → Decider
+with_awake d is_awake = record { seat = d.seat; acting = d.acting; is_awake = is_awake }
+
+module _ (old : World) (index : ℕ) (d : Decider) (within : index < length old.deciders.items) (is : d ≡ get_or old.deciders.items index d) where
+  -- nothing is another but the fabric and whether this decider is awake
+  awake_is : (new : World) (fabric : Simulation) (is_awake : Bool) → new.fabric ≡ fabric → new.managers.items ≡ old.managers.items
+      → new.deciders.items ≡ set old.deciders.items index (with_awake d is_awake) → new.time ≡ old.time
+      → value_of new ≡ record (with_decider (value_of old) index (record (decider_value d) { is_awake = is_awake })) { fabric = fabric }
+  awake_is new fabric is_awake left same changed now =
+      λ i. record {
+        fabric = left i;
+        managers = map seated_value (same i);
+        deciders = (ap (map decider_value) changed ∙ map-set decider_value old.deciders.items index (with_awake d is_awake)) i;
+        time = now i;
+      }
+
+  pub paused_is : (new : World) (is_awake : Bool) → new.fabric ≡ old.fabric → new.managers.items ≡ old.managers.items
+      → new.deciders.items ≡ set old.deciders.items index (with_awake d is_awake) → new.time ≡ old.time
+      → value_of new ≡ (after_pause_line (value_of old) index is_awake).now
+  unfolding after_pause_line
+  paused_is new is_awake left same changed now =
+      awake_is new old.fabric is_awake left same changed now
+      ∙ ap (λ r. r.now) (sym (at_decider_is (value_of old) old.deciders.items index d refl within is
+      (λ d. quiet (with_decider (value_of old) index (record d { is_awake = is_awake })))))
+
+  module _ {W : Type 0} (written : W → Option (List ℕ)) (has_failed : W → Bool) where
+    abbrev called : Called (Unit {0})
+    called = after_seat old.fabric d.seat.now.at
+
+    abbrev seats : DeciderValue → Outcome WorldValue
+    seats d = after_fabric_call (with_decider (value_of old) index (record d { is_awake = true })) (after_seat old.fabric d.at)
+
+    leaves_seated : (new : World) (result : Result (Unit {0}) RunFault) → value_of new ≡ (seats (decider_value d)).now
+        → OnOk result (value_of new ≡ (seats (decider_value d)).now)
+    leaves_seated new (Ok u) e = e
+    leaves_seated new (Err fault) e = tt
+
+    pub seats_does : (new : World) (r : Result (Unit {0}) FabricFault) → new.fabric ≡ called.fabric → r ≡ called.result
+        → new.managers.items ≡ old.managers.items → new.deciders.items ≡ set old.deciders.items index (with_awake d true) → new.time ≡ old.time
+        → (result : Result (Unit {0}) RunFault) (sink sink' : W) → PrintsUnless written has_failed result sink sink' (fabric_line r)
+        → Does written has_failed old new result sink sink' (after_decider_line (value_of old) index)
+    unfolding after_decider_line
+    seats_does new r left told same changed now result sink sink' prints =
+        does_same written has_failed old new result sink sink' _ _
+        (sym (at_decider_is (value_of old) old.deciders.items index d refl within is seats))
+        (record {
+          managers = ap length same;
+          leaves = leaves_seated new result (awake_is new called.fabric true left same changed now);
+          prints = prints_same written has_failed result sink sink' (fabric_line r) (fabric_line called.result) (ap fabric_line told) prints;
+        })
+
+-- there is no such decider
+pub nobody_paused : (old : World) (index : ℕ) (is_awake : Bool) → length old.deciders.items ≤ index
+    → value_of old ≡ (after_pause_line (value_of old) index is_awake).now
+unfolding after_pause_line
+nobody_paused old index is_awake past =
+    ap (λ r. r.now) (sym (at_nobody (value_of old) old.deciders.items index refl past
+    (λ d. quiet (with_decider (value_of old) index (record d { is_awake = is_awake })))))
+
+pub nobody_shown : (old : World) (index : ℕ) (what : Shown) → length old.deciders.items ≤ index → decider_shown (value_of old) index what ≡ []
+unfolding decider_shown
+nobody_shown old index what past = ap (λ o. option_map_or (decider_shown_at what) o []) (none_decides old.deciders.items index past)
+
+-- and nothing is printed
+pub pause_quiet : (w : WorldValue) (index : ℕ) (is_awake : Bool) → (after_pause_line w index is_awake).text ≡ []
+unfolding after_pause_line
+pause_quiet w index is_awake =
+    elim (slice_get w.deciders index) as
+    (λ o. (option_map_or (λ d. quiet (with_decider w index (record d { is_awake = is_awake }))) o (quiet w)).text ≡ []) [ None ↦ refl | Some d ↦ refl ]

@@ -1,6 +1,6 @@
 -- Turns of a wait: the next one, and those that are left; and the deciders that come first.
 use Rattle.std.proofs.Common.{◌≡◌, ◌∙◌, ◌∷◌, ℕ, zero, suc, ◌+◌, ◌-◌, ◌<◌, ◌≤◌, Bool, cond, List, [], map, length, get_or, drop, None, Some, Option, add-one, refl, sym, ap, arith}
-use Rattle.std.specs.Prelude.{nat_lt, position}
+use Rattle.std.specs.Prelude.{nat_lt, not, position}
 use Rattle.std.specs.List.{position_or_len}
 use Rattle.std.specs.Option.{option_map_or}
 use Rattle.std.proofs.Math.ListN.{drop_of_length-le}
@@ -34,7 +34,7 @@ turn_end w until most i h = let none : most - i ≡ 0 = omega arith in ap (after
 -- the first of the mapped ones
 first_of_mapped : {X Y : Type 0} (f : X → Y) (p : Y → Bool) (xs : List X) → position_or_len p (map f xs) ≡ position_or_len (λ x. p (f x)) xs
 first_of_mapped f p [] = refl
-first_of_mapped f p (x ∷ xs) = ap (λ n. cond (p (f x)) 0 (1 + n)) (first_of_mapped f p xs)
+first_of_mapped f p (x ∷ xs) = ap (λ n. cond (not (p (f x))) (1 + n) 0) (first_of_mapped f p xs)
 
 pub position_mapped : {X Y : Type 0} (f : X → Y) (p : Y → Bool) (xs : List X) → position p (map f xs) ≡ position (λ x. p (f x)) xs
 position_mapped f p xs =

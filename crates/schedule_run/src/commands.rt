@@ -72,11 +72,11 @@ impl World<'_> {
             Command::Show(seat, what) => self.show(seat, what, sink),
             Command::ShowDecider(index, what) => self.show_decider(index, what, sink),
             Command::Pause(index) => {
-                self.pause(index, false);
+                self.pause(index);
                 Ok(())
             }
             Command::Resume(index) => {
-                self.pause(index, true);
+                self.resume(index);
                 Ok(())
             }
             Command::Wait(wait, most) => self.wait(wait, most, sink),

@@ -1,12 +1,11 @@
 //! Managers that decide by themselves: what they are told, and what they then print and send.
-ghost use Rattle.std.specs.Prelude.{◌≡◌, [], OnOk, Some};
+ghost use Rattle.std.specs.Prelude.{◌≡◌, [], OnOk, Some, false, true};
 ghost use Rattle.serve_run.specs.Acting.{value_of as acting_value};
 ghost use Rattle.serve_run.specs.Working.{Told, given_away};
-ghost use Rattle.fabric_sim.specs.Simulation.{Simulation};
 ghost use Rattle.schedule_lines.specs.Prints.{PrintsUnless};
 ghost use Rattle.schedule_run.specs.Deciders.{after_decider_line, after_giving, after_hearing, after_pause_line};
-ghost use Rattle.schedule_run.specs.Deciders.{after_telling, decider_at, decider_shown};
-ghost use Rattle.schedule_run.specs.World.{Does, after_inject_all, value_of};
+ghost use Rattle.schedule_run.specs.Deciders.{after_telling, decider_at, decider_shown, is_awake_at};
+ghost use Rattle.schedule_run.specs.World.{Does, after_inject_all, decider_value, value_of};
 
 use crate::world::{Decider, World, send_one};
 use byte_io::Sink;
@@ -19,7 +18,6 @@ use serve_run::{ActingManager, note_all};
 impl World<'_> {
     /// Seats the decider at `index` at its port, and wakes it up. If the fabric refuses the call, prints the refusal.
     /// Does nothing if there is no such decider.
-    #[tactic(auto, unfolding(crate::specs::Deciders::after_decider_line))]
     pub(crate) fn seat_decider<W: Sink>(
         &mut self,
         index: usize,
@@ -31,16 +29,33 @@ impl World<'_> {
         if index >= self.deciders.len() {
             return Ok(());
         }
-        self.deciders[index].is_awake = true;
-        match self.fabric.seat(self.deciders[index].seat.at) {
+        let decider = &mut self.deciders[index];
+        decider.is_awake = true;
+        match self.fabric.seat(decider.seat.at) {
             Ok(()) => Ok(()),
             Err(fault) => refuse_fabric(sink, fault),
         }
     }
 
+    /// Lets the decider at `index` stand still. Does nothing if there is no such decider.
+    pub(crate) fn pause(&mut self, index: usize)
+        ensures managers { self.new.managers ≡ self.old.managers }
+        ensures leaves { value_of self.new ≡ (after_pause_line (value_of self.old) index false).now }
+    {
+        self.set_awake(index, false);
+    }
+
+    /// Wakes the decider at `index` up again. Does nothing if there is no such decider.
+    pub(crate) fn resume(&mut self, index: usize)
+        ensures managers { self.new.managers ≡ self.old.managers }
+        ensures leaves { value_of self.new ≡ (after_pause_line (value_of self.old) index true).now }
+    {
+        self.set_awake(index, true);
+    }
+
     /// Wakes the decider at `index` up, or lets it stand still if `is_awake` is `false`. Does nothing if there is no such
     /// decider.
-    pub(crate) fn pause(&mut self, index: usize, is_awake: bool)
+    fn set_awake(&mut self, index: usize, is_awake: bool)
         ensures managers { self.new.managers ≡ self.old.managers }
         ensures leaves { value_of self.new ≡ (after_pause_line (value_of self.old) index is_awake).now }
     {
@@ -69,6 +84,7 @@ impl World<'_> {
 
     /// Tells `packet` to the decider that is awake at `port`, and lets it give out what it then has to. Drops the packet
     /// if there is none.
+    #[tactic(auto, unfolding(crate::specs::Deciders::after_hearing))]
     pub(crate) fn hear<W: Sink>(
         &mut self,
         port: &NodePort,
@@ -88,9 +104,12 @@ impl World<'_> {
     fn decider_at(&self, port: &NodePort) -> Option<usize>
         ensures { result ≡ decider_at (value_of self.now) port.now }
     {
-        self.deciders
-            .iter()
-            .position(|decider| decider.is_awake && decider.seat.at == *port)
+        for (index, decider) in self.deciders.iter().enumerate() {
+            if decider.is_awake_at(port) {
+                return Some(index);
+            }
+        }
+        None
     }
 
     /// Tells the decider at `index` that `packet` came to its port, and lets it give out what it then has to. Does
@@ -124,6 +143,15 @@ impl World<'_> {
         let Decider { seat, acting, .. } = &mut self.deciders[index];
         acting.handle_time(self.time)?;
         give_out(&mut self.fabric, seat, acting, sink)
+    }
+}
+
+impl Decider<'_> {
+    /// Returns whether the decider is awake and sits at `port`.
+    fn is_awake_at(&self, port: &NodePort) -> bool
+        ensures { result ≡ is_awake_at port.now (decider_value self.now) }
+    {
+        self.is_awake && self.seat.at == *port
     }
 }
 

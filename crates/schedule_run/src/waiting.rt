@@ -82,9 +82,7 @@ impl World<'_> {
         ensures { result ≡ due_at (value_of self.now) }
     {
         let now = self.time;
-        self.deciders
-            .iter()
-            .position(|decider| has_come(now, decider.wake_at()))
+        self.deciders.iter().position(|decider| decider.is_due(now))
     }
 
     /// Returns the next time, not after `until`, at which a decider is to be told the time, or `None` if there is none.
@@ -107,6 +105,13 @@ impl World<'_> {
 }
 
 impl Decider<'_> {
+    /// Returns whether the decider is to be told the time by `now`.
+    fn is_due(&self, now: u64) -> bool
+        ensures { result ≡ has_come now (wake_at (decider_value self.now)) }
+    {
+        has_come(now, self.wake_at())
+    }
+
     /// Returns when the decider is to be told the time next, or `None` if it is not awake, or waits for packets alone.
     fn wake_at(&self) -> Option<u64>
         ensures { result ≡ wake_at (decider_value self.now) }

@@ -1,14 +1,15 @@
 //! A simulated fabric and the managers that sit in it.
 ghost use Rattle.std.specs.Prelude.{◌≡◌, ◌+◌, ◌<◌, true, All, IfOk, IfSome, OnOk, Some, length};
-ghost use Rattle.std.specs.Prelude.{option_map, slice_get};
+ghost use Rattle.std.specs.Prelude.{map, option_map, slice_get};
 ghost use Rattle.schedule_file.specs.Resolve.{is_seat};
 ghost use Rattle.fabric_sim.specs.Changes.{after_inject};
-ghost use Rattle.schedule_run.specs.Commands.{world_of};
+ghost use Rattle.schedule_run.specs.Commands.{manager_of, new_decider, new_seated, world_of};
 ghost use Rattle.schedule_run.specs.Delivery.{seat_at};
 ghost use Rattle.schedule_run.specs.NamedPackets.{packet_out};
 ghost use Rattle.schedule_lines.specs.Prints.{PrintsUnless};
 ghost use Rattle.sm_manager.specs.Manager.{emptied};
-ghost use Rattle.schedule_run.specs.World.{after_fabric, after_send, after_inject_all, value_of, Does};
+ghost use Rattle.schedule_run.specs.World.{Does, after_fabric, after_inject_all, after_send, decider_value};
+ghost use Rattle.schedule_run.specs.World.{seated_value, value_of};
 
 use byte_io::Sink;
 use fabric_model::NodePort;
