@@ -225,7 +225,7 @@ found_at w p seat s sits there same before =
     sym (ap (λ b. if b then position (λ s. is_same_port s.at p) w.managers else None) sits
     ∙ ap (λ n. cond (nat_lt n (length w.managers)) (Some n) None) first ∙ ap (λ b. cond b (Some seat) None) (lt-ltb seat (length w.managers) within))
 
-no_index : {X : Type 0} (p : X → Bool) (xs : List X) → ((k : ℕ) (d : X) → k < length xs → p (get_or xs k d) ≡ false) → position p xs ≡ None
+pub no_index : {X : Type 0} (p : X → Bool) (xs : List X) → ((k : ℕ) (d : X) → k < length xs → p (get_or xs k d) ≡ false) → position p xs ≡ None
 no_index p [] none = refl
 no_index p (x ∷ xs) none =
     let n = length (x ∷ xs) in

@@ -1,11 +1,13 @@
 -- Turns of a wait: the next one, and those that are left; and the deciders that come first.
-use Rattle.std.proofs.Common.{◌≡◌, ◌∙◌, ◌∷◌, ℕ, zero, suc, ◌+◌, ◌-◌, ◌<◌, ◌≤◌, Bool, cond, List, [], map, length, get_or, drop, None, Some, Option, add-one, refl, sym, ap, arith}
-use Rattle.std.specs.Prelude.{nat_lt, not, position}
+use Rattle.std.proofs.Common.{◌≡◌, ◌∙◌, ◌∷◌, ℕ, zero, suc, ◌+◌, ◌-◌, ◌<◌, ◌≤◌, Bool, true, false, cond, List, [], map, length, get_or, drop, None, Some, Option, add-one, refl, sym, ap, arith}
+use Rattle.std.specs.Prelude.{nat_lt, position, slice_get}
 use Rattle.std.specs.List.{position_or_len}
 use Rattle.std.specs.Option.{option_map_or}
 use Rattle.std.proofs.Math.ListN.{drop_of_length-le}
 use Rattle.std.proofs.Math.Seq.{drop-cons}
-use Rattle.std.proofs.lemmas.List.{length-map}
+use Rattle.std.proofs.lemmas.Bool.{lt-ltb}
+use Rattle.std.proofs.lemmas.List.Sums.{position_or_len_is}
+use Rattle.std.proofs.lemmas.Option.{get_or_from_slice_get, slice_get_within}
 use Rattle.schedule_lines.specs.Outcome.{and_then, quiet}
 use Rattle.schedule_run.specs.Waiting.{after_turn, after_turns, earlier, first_wake, next_turn, wake_at}
 use Rattle.schedule_run.specs.World.{DeciderValue, WorldValue, decider_value}
@@ -31,14 +33,14 @@ turn_none w until most i h there =
 pub turn_end : (w : WorldValue) (until most i : ℕ) → most ≤ i → after_turns w until (most - i) ≡ quiet w
 turn_end w until most i h = let none : most - i ≡ 0 = omega arith in ap (after_turns w until) none
 
--- the first of the mapped ones
-first_of_mapped : {X Y : Type 0} (f : X → Y) (p : Y → Bool) (xs : List X) → position_or_len p (map f xs) ≡ position_or_len (λ x. p (f x)) xs
-first_of_mapped f p [] = refl
-first_of_mapped f p (x ∷ xs) = ap (λ n. cond (not (p (f x))) (1 + n) 0) (first_of_mapped f p xs)
-
-pub position_mapped : {X Y : Type 0} (f : X → Y) (p : Y → Bool) (xs : List X) → position p (map f xs) ≡ position (λ x. p (f x)) xs
-position_mapped f p xs =
-    (λ i. cond (nat_lt (first_of_mapped f p xs i) (length-map xs f i)) (Some (first_of_mapped f p xs i)) None)
+-- the first that passes, and none before it
+pub index_found : {X : Type 0} (p : X → Bool) (xs : List X) (i : ℕ) (x : X) → slice_get xs i ≡ Some x → p x ≡ true
+    → ((k : ℕ) (d : X) → k < i → p (get_or xs k d) ≡ false) → Some i ≡ position p xs
+index_found p xs i x there passes before =
+    let within = slice_get_within xs i x there in
+    let first : position_or_len p xs ≡ i = position_or_len_is p xs i x (omega arith) (λ k h. before k x h)
+    (λ h. ap p (get_or_from_slice_get xs i x x there) ∙ passes) in
+    sym (ap (λ n. cond (nat_lt n (length xs)) (Some n) None) first ∙ ap (λ b. cond b (Some i) None) (lt-ltb i (length xs) within))
 
 -- the earliest so far, and those that are left
 pub wake_next : (items : List Decider) (i : ℕ) (d : Decider) (first : Option ℕ) → i < length items → d ≡ get_or items i d

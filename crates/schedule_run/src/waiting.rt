@@ -81,8 +81,12 @@ impl World<'_> {
     fn due_at(&self) -> Option<usize>
         ensures { result ≡ due_at (value_of self.now) }
     {
-        let now = self.time;
-        self.deciders.iter().position(|decider| decider.is_due(now))
+        for (index, decider) in self.deciders.iter().enumerate() {
+            if decider.is_due(self.time) {
+                return Some(index);
+            }
+        }
+        None
     }
 
     /// Returns the next time, not after `until`, at which a decider is to be told the time, or `None` if there is none.
