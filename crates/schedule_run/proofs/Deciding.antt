@@ -1,11 +1,10 @@
 -- Managers that decide by themselves, in their seats: what they are told, and what they then give out.
-use Rattle.std.proofs.Common.{◌≡◌, ◌∙◌, ℕ, ◌<◌, ◌≤◌, Bool, true, List, [], map, length, get_or, Option, None, Some, Result, Ok, Err, refl, sym, ap, subst, arith}
+use Rattle.std.proofs.Common.{◌≡◌, ◌∙◌, ℕ, ◌<◌, ◌≤◌, Bool, true, List, [], map, length, get_or, Option, None, Some, Result, Ok, Err, refl, sym, ap, arith}
 use Rattle.std.specs.Prelude.{option_map, slice_get, OnOk}
 use Rattle.std.specs.Option.{option_map_or}
 use Rattle.std.proofs.Math.ListN.{set}
 use Rattle.std.proofs.lemmas.List.{length-map, map-set}
 use Rattle.std.proofs.lemmas.Option.{slice_get-map, slice_get_past, slice_get_read}
-use Rattle.serve_run.specs.Acting.{Acting}
 use Rattle.serve_run.specs.Acting.{value_of as acting_value}
 use Rattle.serve_run.specs.Working.{Told, after_told, given_away}
 use Rattle.serve_run.specs.ActingManagerType.{ActingManager}

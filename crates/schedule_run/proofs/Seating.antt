@@ -4,11 +4,10 @@ use Rattle.std.specs.Prelude.{false, option_map, slice_get}
 use Rattle.std.specs.Option.{option_map_or}
 use Rattle.std.proofs.lemmas.List.{map-append, take_more}
 use Rattle.topo_file.specs.declared.node.Node.{Node}
-use Rattle.schedule_file.specs.Manner.{newest_of, sm_key_of}
+use Rattle.schedule_file.specs.Manner.{newest_of}
 use Rattle.schedule_file.specs.declared.schedule.Seat.{Seat}
 use Rattle.lft_blocks.specs.Planning.{Planning}
-use Rattle.sm_state.specs.Conduct.{conduct_with}
-use Rattle.sm_manager.specs.Manager.{Manager, new_manager}
+use Rattle.sm_manager.specs.Manager.{Manager}
 use Rattle.serve_run.specs.Acting.{Acting, new_acting}
 use Rattle.schedule_run.specs.Commands.{guid_at, manager_of, new_decider, new_seated, usual_limits, usual_timing}
 use Rattle.schedule_run.specs.World.{DeciderValue, SeatedValue}

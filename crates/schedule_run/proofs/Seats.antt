@@ -25,7 +25,6 @@ use Rattle.schedule_lines.specs.Outcome.{and_then, quiet}
 use Rattle.schedule_run.specs.World.{at_seat, decider_value, seated_value, value_of, with_manager}
 use Rattle.schedule_lines.specs.Refusals.{manager_line}
 use Rattle.schedule_lines.specs.declared.run_fault.RunFault.{RunFault}
-use Rattle.schedule_lines.specs.declared.run_fault.RunFault.TheVariants.{Memory}
 use Rattle.schedule_run.specs.declared.world.Seated.{Seated}
 use Rattle.schedule_run.specs.declared.world.World.{World}
 use Rattle.schedule_lines.proofs.Refused.{Refuses, IsMemory, refusal_leaves, refusal_prints, refuses}

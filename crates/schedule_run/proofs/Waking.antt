@@ -1,5 +1,5 @@
 -- Turns of a wait: the next one, and those that are left; and the deciders that come first.
-use Rattle.std.proofs.Common.{◌≡◌, ◌∙◌, ◌∷◌, ℕ, zero, suc, ◌+◌, ◌-◌, ◌<◌, ◌≤◌, Bool, true, false, cond, List, [], map, length, get_or, drop, None, Some, Option, add-one, refl, sym, ap, arith}
+use Rattle.std.proofs.Common.{◌≡◌, ◌∙◌, ◌∷◌, ℕ, suc, ◌+◌, ◌-◌, ◌<◌, ◌≤◌, Bool, true, false, cond, List, map, length, get_or, drop, None, Some, Option, add-one, sym, ap, arith}
 use Rattle.std.specs.Prelude.{nat_lt, position, slice_get}
 use Rattle.std.specs.List.{position_or_len}
 use Rattle.std.specs.Option.{option_map_or}
@@ -10,7 +10,7 @@ use Rattle.std.proofs.lemmas.List.Sums.{position_or_len_is}
 use Rattle.std.proofs.lemmas.Option.{get_or_from_slice_get, slice_get_within}
 use Rattle.schedule_lines.specs.Outcome.{and_then, quiet}
 use Rattle.schedule_run.specs.Waiting.{after_turn, after_turns, earlier, first_wake, next_turn, wake_at}
-use Rattle.schedule_run.specs.World.{DeciderValue, WorldValue, decider_value}
+use Rattle.schedule_run.specs.World.{WorldValue, decider_value}
 use Rattle.schedule_run.specs.declared.waiting.WaitTurn.{WaitTurn}
 use Rattle.schedule_run.specs.declared.world.Decider.{Decider}
 

@@ -1,5 +1,5 @@
 -- Managers that decide by themselves in a simulated fabric: what they are told, and what they then print and send.
-use Rattle.std.specs.Prelude.{ℕ, Bool, true, ◌&&◌, List, [], ◌++◌, slice_get, slice_set, position, Option, None, Some}
+use Rattle.std.specs.Prelude.{ℕ, Bool, true, ◌&&◌, List, [], slice_get, slice_set, position, Option, Some}
 use Rattle.std.specs.List.{flat_map}
 use Rattle.std.specs.Option.{option_map_or}
 use Rattle.fabric_model.specs.Cables.{is_same_port}
