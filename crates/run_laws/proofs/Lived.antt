@@ -333,6 +333,7 @@ module _ (plan : PlanValue) (own : OwnSets) (name : List ℕ) (time : ℕ) where
   command_lives nodes m (command.Ask (suc seat) (ask.Poll lid)) is = rests m _
   command_lives nodes m (command.Timeout seat) is = timeout_lives m _ seat
   command_lives nodes m (command.Show seat what) is = rests m _
+  command_lives nodes m (command.ShowDecider index what) is = rests m _
   command_lives nodes m (command.Packet which fate.Deliver) is = deliver_lives m which
   command_lives nodes m (command.Packet which fate.Lose) is = by_serial (serial_of m.scene.fabric.flights which)
     where

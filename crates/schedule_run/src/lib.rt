@@ -15,3 +15,4 @@ mod waiting;
 mod world;
 
 pub use run::run_schedule;
+pub use waiting::WaitTurn;

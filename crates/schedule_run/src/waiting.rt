@@ -11,7 +11,7 @@ use sm_policy::later_by;
 
 /// What comes next while time passes.
 #[derive(Clone, Copy, Debug, PartialEq, Eq)]
-pub(crate) enum WaitTurn {
+pub enum WaitTurn {
     /// The packet in flight with this serial number takes a step.
     Deliver(u64),
     /// It becomes this time, and the first decider that is to be told the time by then is told it.
