@@ -28,7 +28,7 @@ DecisionsArePrinted =
     (a : Acting) (line : ManageLine) →
     let now = (after_manage a line).now in
     (decided a line).text
-    ≡ (after_manage a line).text ++ (flat_map note_line now.notes ++ flat_map send_line now.ready)
+    ≡ (after_manage a line).text ++ (flat_map (note_line None) now.notes ++ flat_map send_line now.ready)
     ++ (wake_line (wake_of now) ++ end_line)
 
 -- `written` prints `yes` exactly when the manager's plan counts as written

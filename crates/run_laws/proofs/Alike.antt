@@ -53,7 +53,8 @@ told_behind nodes w accounts (command ∷ later) lines = told_behind nodes (afte
 
 pub later_lines_come_behind : LaterLinesComeBehind
 unfolding script_text
-later_lines_come_behind planning topology script lines = text_behind topology.nodes (world_of planning topology script.seats) script.commands lines
+later_lines_come_behind planning topology script lines =
+    text_behind topology.nodes (world_of planning topology script.seats script.deciders) script.commands lines
 
 -- managers that know the same ----------------------------------------------------------------------------
 
@@ -173,7 +174,7 @@ module _ (planning : Planning) (topology : Layout) (script : Script) (seat other
 
   accounts_then : account_after planning topology (and_lines script (Merge seat other ∷ Merge other seat ∷ [])) ≡ second
   accounts_then =
-      told_behind topology.nodes (world_of planning topology script.seats) opened script.commands (Merge seat other ∷ Merge other seat ∷ [])
+      told_behind topology.nodes (world_of planning topology script.seats script.deciders) opened script.commands (Merge seat other ∷ Merge other seat ∷ [])
       ∙ ap (λ accounts. told_by_command merged_once accounts (Merge other seat)) by_first ∙ by_second
 
   -- each has what both took in

@@ -21,43 +21,43 @@ use Rattle.manager_laws.specs.Written.{AllKeep, plan_at}
 use Rattle.manager_laws.proofs.Generations.{nothing_found, nothing_newest}
 use Rattle.manager_laws.proofs.Rests.{new_managers_rest}
 use Rattle.schedule_run.specs.Commands.{after_ask_line, after_command, after_commands}
-use Rattle.schedule_run.specs.World.{SeatedValue, WorldValue, after_manager_call, after_send}
+use Rattle.schedule_run.specs.World.{DeciderValue, SeatedValue, WorldValue, after_manager_call, after_send}
 use Rattle.run_laws.specs.OneManager.{BringsUpAlone, IsOnly, KeepsLines, RunsOfOneAreReached, at_end, at_first_steps, at_writing}
 use Rattle.run_laws.specs.Reached.{EachPingSaysReached}
 use Rattle.run_laws.proofs.Lived.{Lives, as_world, commands_live, goes_on, managing_of, seated_as, sends_live}
 use Rattle.run_laws.proofs.Printed.{written_plans_are_reached}
 use Rattle.run_laws.proofs.WrittenLines.{written_lines_tell}
 
-abbrev world_with : WorldValue → List SeatedValue → WorldValue
-world_with w managers = record w { managers = managers }
+abbrev world_with : WorldValue → List SeatedValue → List DeciderValue → WorldValue
+world_with w managers deciders = record w { managers = managers; deciders = deciders }
 
 -- the one manager of a world
-manager_is : (name : List ℕ) (m : Managing) (w : WorldValue) (s : SeatedValue) (manager : Manager) → as_world name m ≡ w → IsOnly w s manager
+manager_is : (name : List ℕ) (time : ℕ) (m : Managing) (w : WorldValue) (s : SeatedValue) (manager : Manager) → as_world name time m ≡ w → IsOnly w s manager
     → m.manager ≡ manager
-manager_is name m w s manager same only =
+manager_is name time m w s manager same only =
     let both : seated_as name m ∷ [] ≡ record s { manager = manager } ∷ [] = ap (λ (x : WorldValue). x.managers) same ∙ only in
     let one : seated_as name m ≡ record s { manager = manager } = cc in
     ap (λ (x : SeatedValue). x.manager) one
 
-module _ (nodes : List Node) (name : List ℕ) (m : Managing) where
+module _ (nodes : List Node) (name : List ℕ) (time : ℕ) (m : Managing) where
   -- the line `sweep`
   sweep_line : begin_fault m.manager ≡ None
-      → (after_command nodes (as_world name m) (command.Ask 0 ask.Sweep)).now ≡ (after_send (as_world name (after_manager_event m Begin)) 0).now
+      → (after_command nodes (as_world name time m) (command.Ask 0 ask.Sweep)).now ≡ (after_send (as_world name time (after_manager_event m Begin)) 0).now
   unfolding after_ask_line
   sweep_line none =
-      ap (λ (o : Option ManagerFault). (after_manager_call (λ now. after_send now 0) (as_world name m) 0 (seated_as name m) o
+      ap (λ (o : Option ManagerFault). (after_manager_call (λ now. after_send now 0) (as_world name time m) 0 (seated_as name m) o
       (after_begin_sweep m.manager)).now) none
-      ∙ ap (λ (o : Option ManagerFault). (after_send (as_world name (managing_of m.scene m.seat (cond (is_none o)
+      ∙ ap (λ (o : Option ManagerFault). (after_send (as_world name time (managing_of m.scene m.seat (cond (is_none o)
       (after_begin_sweep m.manager) m.manager) m.out)) 0).now) (sym none)
 
   -- the line `write`
   write_line : writing_fault m.manager ≡ None
-      → (after_command nodes (as_world name m) (command.Ask 0 ask.Write)).now ≡ (after_send (as_world name (after_manager_event m Write)) 0).now
+      → (after_command nodes (as_world name time m) (command.Ask 0 ask.Write)).now ≡ (after_send (as_world name time (after_manager_event m Write)) 0).now
   unfolding after_ask_line
   write_line none =
-      ap (λ (o : Option ManagerFault). (after_manager_call (λ now. after_send now 0) (as_world name m) 0 (seated_as name m) o
+      ap (λ (o : Option ManagerFault). (after_manager_call (λ now. after_send now 0) (as_world name time m) 0 (seated_as name m) o
       (after_write_steps m.manager)).now) none
-      ∙ ap (λ (o : Option ManagerFault). (after_send (as_world name (managing_of m.scene m.seat (cond (is_none o)
+      ∙ ap (λ (o : Option ManagerFault). (after_send (as_world name time (managing_of m.scene m.seat (cond (is_none o)
       (after_write_steps m.manager) m.manager) m.out)) 0).now) (sym none)
 
 module _ (nodes : List Node) (w : WorldValue) (s : SeatedValue) (between after : List SeatCommand) (b : BringsUpAlone nodes w s between after) where
@@ -70,8 +70,8 @@ module _ (nodes : List Node) (w : WorldValue) (s : SeatedValue) (between after :
   abbrev start : Managing
   start = managing_of (record { fabric = w.fabric; handed = [] }) s.at (new_manager b.port_guid s.at.port b.priority b.conduct b.planning) []
 
-  starts_so : as_world s.name start ≡ w
-  starts_so = ap (λ (ms : List SeatedValue). world_with w ms) (sym b.only)
+  starts_so : as_world s.name w.time start ≡ w
+  starts_so = λ i. world_with w (sym b.only i) (sym b.none_decides i)
 
   begun : begin_fault start.manager ≡ None
   begun = ap (λ n. if n == 2 ^ 32 - 1 then Some GenerationsSpent else None) nothing_newest
@@ -81,30 +81,30 @@ module _ (nodes : List Node) (w : WorldValue) (s : SeatedValue) (between after :
   abbrev m1 : Managing
   m1 = after_manager_event start Begin
 
-  abbrev sent1 : Lives plan own s.name m1 (Unit {0}) (after_send (as_world s.name m1) 0).now
-  sent1 = sends_live plan own s.name m1 (Unit {0})
+  abbrev sent1 : Lives plan own s.name w.time m1 (Unit {0}) (after_send (as_world s.name w.time m1) 0).now
+  sent1 = sends_live plan own s.name w.time m1 (Unit {0})
 
   abbrev then1 : Managing
   then1 = after_manager_events sent1.events m1
 
-  abbrev swept : Lives plan own s.name m1 (KeepsLines plan own nodes (as_world s.name then1) between) (after_commands nodes (as_world s.name then1) between).now
+  abbrev swept : Lives plan own s.name w.time m1 (KeepsLines plan own nodes (as_world s.name w.time then1) between) (after_commands nodes (as_world s.name w.time then1) between).now
   swept =
-      goes_on plan own s.name m1 (Unit {0}) (KeepsLines plan own nodes (as_world s.name then1) between) (KeepsLines plan own nodes
-      (as_world s.name then1) between)
-      (after_send (as_world s.name m1) 0).now (after_commands nodes (as_world s.name then1) between).now sent1
-      (commands_live plan own s.name nodes then1 between b.between_lines) (λ h. tt) (λ h. h)
+      goes_on plan own s.name w.time m1 (Unit {0}) (KeepsLines plan own nodes (as_world s.name w.time then1) between) (KeepsLines plan own nodes
+      (as_world s.name w.time then1) between)
+      (after_send (as_world s.name w.time m1) 0).now (after_commands nodes (as_world s.name w.time then1) between).now sent1
+      (commands_live plan own s.name w.time nodes then1 between b.between_lines) (λ h. tt) (λ h. h)
 
   abbrev m2 : Managing
   m2 = after_manager_events swept.events m1
 
-  sweep_so : as_world s.name then1 ≡ (after_command nodes w (command.Ask 0 ask.Sweep)).now
-  sweep_so = sent1.ends ∙ sym (sweep_line nodes s.name start begun) ∙ ap (λ x. (after_command nodes x (command.Ask 0 ask.Sweep)).now) starts_so
+  sweep_so : as_world s.name w.time then1 ≡ (after_command nodes w (command.Ask 0 ask.Sweep)).now
+  sweep_so = sent1.ends ∙ sym (sweep_line nodes s.name w.time start begun) ∙ ap (λ x. (after_command nodes x (command.Ask 0 ask.Sweep)).now) starts_so
 
-  writing_so : as_world s.name m2 ≡ at_writing nodes w between
+  writing_so : as_world s.name w.time m2 ≡ at_writing nodes w between
   writing_so = swept.ends ∙ ap (λ x. (after_commands nodes x between).now) sweep_so
 
   swept_is : m2.manager ≡ b.swept
-  swept_is = manager_is s.name m2 (at_writing nodes w between) s b.swept writing_so b.only_then
+  swept_is = manager_is s.name w.time m2 (at_writing nodes w between) s b.swept writing_so b.only_then
 
   begins : writing_fault m2.manager ≡ None
   begins = ap writing_fault swept_is ∙ b.begins
@@ -114,32 +114,32 @@ module _ (nodes : List Node) (w : WorldValue) (s : SeatedValue) (between after :
   abbrev m3 : Managing
   m3 = after_manager_event m2 Write
 
-  abbrev sent3 : Lives plan own s.name m3 (Unit {0}) (after_send (as_world s.name m3) 0).now
-  sent3 = sends_live plan own s.name m3 (Unit {0})
+  abbrev sent3 : Lives plan own s.name w.time m3 (Unit {0}) (after_send (as_world s.name w.time m3) 0).now
+  sent3 = sends_live plan own s.name w.time m3 (Unit {0})
 
   abbrev then3 : Managing
   then3 = after_manager_events sent3.events m3
 
-  abbrev wrote : Lives plan own s.name m3 (KeepsLines plan own nodes (as_world s.name then3) after) (after_commands nodes (as_world s.name then3) after).now
+  abbrev wrote : Lives plan own s.name w.time m3 (KeepsLines plan own nodes (as_world s.name w.time then3) after) (after_commands nodes (as_world s.name w.time then3) after).now
   wrote =
-      goes_on plan own s.name m3 (Unit {0}) (KeepsLines plan own nodes (as_world s.name then3) after) (KeepsLines plan own nodes (as_world s.name then3) after)
-      (after_send (as_world s.name m3) 0).now (after_commands nodes (as_world s.name then3) after).now sent3
-      (commands_live plan own s.name nodes then3 after b.after_lines) (λ h. tt) (λ h. h)
+      goes_on plan own s.name w.time m3 (Unit {0}) (KeepsLines plan own nodes (as_world s.name w.time then3) after) (KeepsLines plan own nodes (as_world s.name w.time then3) after)
+      (after_send (as_world s.name w.time m3) 0).now (after_commands nodes (as_world s.name w.time then3) after).now sent3
+      (commands_live plan own s.name w.time nodes then3 after b.after_lines) (λ h. tt) (λ h. h)
 
   abbrev m4 : Managing
   m4 = after_manager_events wrote.events m3
 
-  steps_so : as_world s.name then3 ≡ at_first_steps nodes w between
-  steps_so = sent3.ends ∙ sym (write_line nodes s.name m2 begins) ∙ ap (λ x. (after_command nodes x (command.Ask 0 ask.Write)).now) writing_so
+  steps_so : as_world s.name w.time then3 ≡ at_first_steps nodes w between
+  steps_so = sent3.ends ∙ sym (write_line nodes s.name w.time m2 begins) ∙ ap (λ x. (after_command nodes x (command.Ask 0 ask.Write)).now) writing_so
 
-  end_so : as_world s.name m4 ≡ at_end nodes w between after
+  end_so : as_world s.name w.time m4 ≡ at_end nodes w between after
   end_so = wrote.ends ∙ ap (λ x. (after_commands nodes x after).now) steps_so
 
   seated_then : slice_get (at_end nodes w between after).managers 0 ≡ Some (record s { manager = b.writer })
   seated_then = ap (λ (ms : List SeatedValue). slice_get ms 0) b.only_at_end
 
   writer_is : m4.manager ≡ b.writer
-  writer_is = manager_is s.name m4 (at_end nodes w between after) s b.writer end_so b.only_at_end
+  writer_is = manager_is s.name w.time m4 (at_end nodes w between after) s b.writer end_so b.only_at_end
 
   keeps : AllKeep (plan_at m2) (IsOwnSet (fabric_of w.fabric) s.at (phases_by m2.manager m2.manager.sweep)) wrote.events m3
   keeps =

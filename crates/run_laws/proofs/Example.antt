@@ -33,7 +33,8 @@ use Rattle.manager_laws.proofs.Computed.{sweep_in, told_by_agents}
 use Rattle.manager_laws.proofs.NewManagers.{HasSwept, by_known, cells_by, may_begin, may_write, phases_so, phases_then, sweep_is, sweeper}
 use Rattle.manager_laws.proofs.ExampleFabric.{distinct_by, is_alone, nodes, port, with_own_seat}
 use Rattle.manager_laws.proofs.Generations.{nothing_newest}
-use Rattle.schedule_run.specs.Commands.{after_ask_line, after_commands, after_hand_up, after_packet_line, after_step, after_take_and_send}
+use Rattle.schedule_run.specs.Commands.{after_ask_line, after_commands, after_packet_line}
+use Rattle.schedule_run.specs.Delivery.{after_hand_up, after_step, after_take_and_send}
 use Rattle.schedule_run.specs.World.{SeatedValue, WorldValue, after_manager_call, after_send}
 use Rattle.run_laws.specs.OneManager.{BringsUpAlone, KeepsLines, KeepsStep, KeepsSteps, SomeRunOfOne, after_first, at_end, at_first_steps, at_writing, first_serial}
 use Rattle.run_laws.proofs.WrittenLines.{written_lines_tell}
@@ -45,7 +46,7 @@ abbrev seated_with : Manager → SeatedValue
 seated_with m = record { name = 65 ∷ []; at = port 0 1; manager = m }
 
 abbrev world_with : Simulation → Manager → WorldValue
-world_with fabric m = record { fabric = fabric; managers = seated_with m ∷ [] }
+world_with fabric m = record { fabric = fabric; managers = seated_with m ∷ []; deciders = []; time = 0 }
 
 abbrev new : Manager
 new = new_manager 17 1 0 Plain in_pairs
@@ -104,6 +105,16 @@ unfolding after_send after_packet_line after_take_and_send after_hand_up after_s
     cabled_at fresh_agent after_inject after_lose after_repeat after_deliver outcome_of after_answer get_of set_of changed_port with_bytes
 alone_then = alone swept_world.managers refl
 
+none_then : swept_world.deciders ≡ []
+unfolding after_send after_packet_line after_take_and_send after_hand_up after_step manager_in
+    cabled_at fresh_agent after_inject after_lose after_repeat after_deliver outcome_of after_answer get_of set_of changed_port with_bytes
+none_then = refl
+
+no_time : swept_world.time ≡ 0
+unfolding after_send after_packet_line after_take_and_send after_hand_up after_step manager_in
+    cabled_at fresh_agent after_inject after_lose after_repeat after_deliver outcome_of after_answer get_of set_of changed_port with_bytes
+no_time = refl
+
 -- it was told this by the agents
 has_swept : HasSwept in_pairs told_by_agents swept
 unfolding after_send after_packet_line after_take_and_send after_hand_up after_step manager_in
@@ -132,8 +143,8 @@ write_line fabric m ps none are =
     ap (λ (o : Option ManagerFault). (after_manager_call (λ now. after_send now 0) (world_with fabric m) 0 (seated_with m) o (after_write_steps m)).now) none
     ∙ ap (λ (x : List Phase). (after_send (world_with fabric (begun_with m x)) 0).now) are
 
-as_world : (w : WorldValue) (m : Manager) → w.managers ≡ seated_with m ∷ [] → w ≡ world_with w.fabric m
-as_world w m e = ap (λ (ms : List SeatedValue). record w { managers = ms }) e
+as_world : (w : WorldValue) (m : Manager) → w.managers ≡ seated_with m ∷ [] → w.deciders ≡ [] → w.time ≡ 0 → w ≡ world_with w.fabric m
+as_world w m e none begin = λ i. record { fabric = w.fabric; managers = e i; deciders = none i; time = begin i }
 
 -- the world when the first steps are sent
 abbrev writing : WorldValue
@@ -144,7 +155,7 @@ its_phases = phases_so in_pairs told_by_agents swept has_swept
 
 writes : (after_ask_line swept_world 0 ask.Write).now ≡ writing
 writes =
-    ap (λ (w : WorldValue). (after_ask_line w 0 ask.Write).now) (as_world swept_world swept alone_then)
+    ap (λ (w : WorldValue). (after_ask_line w 0 ask.Write).now) (as_world swept_world swept alone_then none_then no_time)
     ∙ write_line swept_world.fabric swept phases may_write_then its_phases
 
 abbrev written_world : WorldValue
@@ -221,6 +232,7 @@ brings_up =
       planning = in_pairs;
       few = omega arith;
       only = refl;
+      none_decides = refl;
       fabric = is_alone;
       no_packets = refl;
       distinct = distinct_by (fabric_of with_own_seat) refl;

@@ -13,7 +13,7 @@ use Rattle.schedule_file.specs.declared.command.Command.TheVariants as command
 use Rattle.schedule_file.specs.declared.command.Fate.TheVariants as fate
 use Rattle.schedule_file.specs.declared.command.Which.{Which}
 use Rattle.fabric_sim.specs.FabricFault.{fabric_fault_name}
-use Rattle.fabric_sim.specs.Changes.{after_cut, after_plug}
+use Rattle.fabric_sim.specs.Changes.{after_cut, after_plug, after_seat}
 use Rattle.fabric_sim.specs.Delivery.{after_deliver}
 use Rattle.fabric_sim.specs.Simulation.{across}
 use Rattle.fabric_sim.specs.declared.delivered.Delivered.{Delivered}
@@ -26,6 +26,9 @@ use Rattle.fact_store.specs.Merge.{merge}
 use Rattle.fact_store.specs.View.{view_at}
 use Rattle.fact_store.proofs.Views.{raised_is_merge}
 use Rattle.lft_blocks.specs.Planning.{Planning}
+use Rattle.schedule_run.specs.Working.{Told, after_told}
+use Rattle.schedule_run.specs.Working as told
+use Rattle.sm_policy.specs.Policy.{later_by}
 use Rattle.sm_manager.specs.declared.fault.ManagerFault.{ManagerFault}
 use Rattle.sm_manager.specs.CallLists as calls
 use Rattle.sm_manager.specs.CallLists.{sightings_of_call}
@@ -37,17 +40,23 @@ use Rattle.sm_manager.specs.PlanFaults.{writing_fault}
 use Rattle.sm_manager.specs.Writing.{after_write_steps}
 use Rattle.sm_manager.proofs.Refusals.{packet_leaves}
 use Rattle.sm_manager.proofs.Lives.{Keeps, handing_keeps, planning_stays, polling_keeps, takes_call, timeout_keeps}
-use Rattle.schedule_run.specs.Commands.{after_arrival, after_ask_line, after_change, after_command, after_commands, after_cut_line, after_drain_line}
-use Rattle.schedule_run.specs.Commands.{after_parting, after_resend, after_resends, after_tell, after_tell_ends, after_traps_line, heard_text}
-use Rattle.schedule_run.specs.Commands.{after_fate, after_floor_line, after_give_up, after_giving_up, after_hand_up, after_manager_line, after_merge_line}
-use Rattle.schedule_run.specs.Commands.{after_packet_line, after_plug_line, after_step, after_take, after_take_and_send, after_timeout_line}
-use Rattle.schedule_run.specs.Commands.{seat_at, world_of}
+use Rattle.schedule_run.specs.Commands.{after_ask_line, after_change, after_command, after_commands, after_cut_line, after_drain_line, after_fate}
+use Rattle.schedule_run.specs.Commands.{after_floor_line, after_give_up, after_giving_up, after_manager_line, after_merge_line, after_packet_line}
+use Rattle.schedule_run.specs.Commands.{after_parting, after_plug_line, after_resend, after_resends, after_tell, after_tell_ends, after_timeout_line}
+use Rattle.schedule_run.specs.Commands.{after_traps_line, world_of}
+use Rattle.schedule_run.specs.Delivery.{after_arrival, after_hand_up, after_step, after_take, after_take_and_send, heard_text, seat_at}
+use Rattle.schedule_run.specs.Deciders.{after_deciding, after_decider_line, after_hearing, after_pause_line, after_telling, decider_at}
+use Rattle.schedule_run.specs.Deciders.{with_decider}
 use Rattle.schedule_run.specs.NamedPackets.{serial_of}
+use Rattle.schedule_run.specs.Waiting.{after_turn, after_turns, due_at, next_turn}
+use Rattle.schedule_run.specs.declared.waiting.WaitTurn.{WaitTurn}
+use Rattle.schedule_run.specs.declared.waiting.WaitTurn.TheVariants.{Deliver, Wake}
 use Rattle.schedule_lines.specs.Refusals.{refusal_line}
 use Rattle.schedule_lines.specs.Outcome.{Outcome, and_then, quiet, shows}
-use Rattle.schedule_run.specs.World.{SeatedValue, WorldValue, after_ask, at_seat, after_manager_call, after_fabric_call, after_send, after_send_by, with_manager}
+use Rattle.schedule_run.specs.World.{DeciderValue, SeatedValue, WorldValue, after_ask, at_seat, after_manager_call, after_fabric_call, after_send, after_send_by, with_manager}
 use Rattle.run_laws.specs.Accounts.{Account, Accounts, RunsAreAccountedFor, account_after, world_after, opened, told_at, told_by_command}
 use Rattle.run_laws.specs.Accounts.{told_by_commands, told_by_deliver, told_by_delivery, told_by_drain, told_by_merge, told_by_packet, told_by_step}
+use Rattle.run_laws.specs.Accounts.{told_by_turn, told_by_turns}
 use Rattle.run_laws.specs.Accounts.{with_more}
 use Rattle.run_laws.proofs.Seats.{AreKnown, all_new, at_seat_is, called_is, grown, kept, nobody, repeated}
 
@@ -120,6 +129,58 @@ module _ (count : ℕ) (planning : Planning) where
       at_seat_is w seat _ (λ x. AreKnown count planning x.managers (with_more accounts seat more)) (nobody count planning w.managers accounts seat more known)
       (λ s there. grown count planning w accounts known seat s (after_raise_floor s.manager floor) more there refl (raised_is_merge s.manager.store floor))
 
+  same_known : (managers : List SeatedValue) (w : WorldValue) (accounts : Accounts) → managers ≡ w.managers → AreKnown count planning w.managers accounts
+      → AreKnown count planning managers accounts
+  same_known managers w accounts same known = subst (λ ms. AreKnown count planning ms accounts) (sym same) known
+
+  -- managers that decide by themselves ------------------------------------------------------------------
+
+  telling_same : (w : WorldValue) (index : ℕ) (what : Told) → (after_telling w index what).now.managers ≡ w.managers
+  unfolding after_telling
+  telling_same w index what = by_decider (slice_get w.deciders index)
+    where
+      by_decider : (o : Option DeciderValue)
+          → (option_map_or (λ d. after_deciding w index d (after_told w.time what d.acting)) o (quiet w)).now.managers ≡ w.managers
+      by_decider None = refl
+      by_decider (Some d) = refl
+
+  hearing_same : (w : WorldValue) (p : NodePort) (packet : Packet) → (after_hearing w p packet).now.managers ≡ w.managers
+  unfolding after_hearing
+  hearing_same w p packet = by_index (decider_at w p)
+    where
+      by_index : (o : Option ℕ)
+          → (option_map_or (λ index. after_telling w index (told.Packet packet.bytes (Some packet.slid))) o (quiet w)).now.managers ≡ w.managers
+      by_index None = refl
+      by_index (Some index) = telling_same w index (told.Packet packet.bytes (Some packet.slid))
+
+  waking_same : (w : WorldValue) (time : ℕ) → (after_turn w (Wake time)).now.managers ≡ w.managers
+  unfolding after_turn
+  waking_same w time = by_index (due_at (record w { time = time }))
+    where
+      by_index : (o : Option ℕ)
+          → (option_map_or (λ index. after_telling (record w { time = time }) index told.Time) o (quiet (record w { time = time }))).now.managers ≡ w.managers
+      by_index None = refl
+      by_index (Some index) = telling_same (record w { time = time }) index told.Time
+
+  decider_same : (w : WorldValue) (index : ℕ) → (after_decider_line w index).now.managers ≡ w.managers
+  unfolding after_decider_line
+  decider_same w index = by_decider (slice_get w.deciders index)
+    where
+      by_decider : (o : Option DeciderValue)
+          → (option_map_or (λ d. after_fabric_call (with_decider w index (record d { is_awake = true })) (after_seat w.fabric d.at)) o (quiet w)).now.managers
+          ≡ w.managers
+      by_decider None = refl
+      by_decider (Some d) = refl
+
+  pause_same : (w : WorldValue) (index : ℕ) (is_awake : Bool) → (after_pause_line w index is_awake).now.managers ≡ w.managers
+  unfolding after_pause_line
+  pause_same w index is_awake = by_decider (slice_get w.deciders index)
+    where
+      by_decider : (o : Option DeciderValue)
+          → (option_map_or (λ d. quiet (with_decider w index (record d { is_awake = is_awake }))) o (quiet w)).now.managers ≡ w.managers
+      by_decider None = refl
+      by_decider (Some d) = refl
+
   -- packets ------------------------------------------------------------------------------------------------
 
   taken_known : (w : WorldValue) (accounts : Accounts) (seat : ℕ) (packet : Packet) → AreKnown count planning w.managers accounts
@@ -167,9 +228,9 @@ module _ (count : ℕ) (planning : Planning) where
   unfolding after_hand_up
   handed_known w accounts p packet known = by_seat (seat_at w p)
     where
-      by_seat : (o : Option ℕ) → AreKnown count planning (option_map_or (λ seat. after_take_and_send w seat packet) o (quiet w)).now.managers
+      by_seat : (o : Option ℕ) → AreKnown count planning (option_map_or (λ seat. after_take_and_send w seat packet) o (after_hearing w p packet)).now.managers
           (option_map_or (told_by_packet w accounts packet) o accounts)
-      by_seat None = known
+      by_seat None = same_known _ w accounts (hearing_same w p packet) known
       by_seat (Some seat) = took_known w accounts seat packet known
 
   came_known : (w : WorldValue) (accounts : Accounts) (result : Result Delivered FabricFault) → AreKnown count planning w.managers accounts
@@ -210,6 +271,26 @@ module _ (count : ℕ) (planning : Planning) where
       by_flight (Some flight) later =
           later (after_step w flight.serial).now (told_by_step w accounts flight.serial) (step_known w accounts flight.serial known)
 
+  turn_known : (w : WorldValue) (accounts : Accounts) (turn : WaitTurn) → AreKnown count planning w.managers accounts
+      → AreKnown count planning (after_turn w turn).now.managers (told_by_turn w accounts turn)
+  unfolding after_turn
+  turn_known w accounts (Deliver serial) known = step_known w accounts serial known
+  turn_known w accounts (Wake time) known = same_known _ w accounts (waking_same w time) known
+
+  turns_known : (most until : ℕ) (w : WorldValue) (accounts : Accounts) → AreKnown count planning w.managers accounts
+      → AreKnown count planning (after_turns w until most).now.managers (told_by_turns w accounts until most)
+  turns_known zero until w accounts known = known
+  turns_known (suc most) until w accounts known = by_turn (next_turn w until) (turns_known most until)
+    where
+      by_turn : (o : Option WaitTurn)
+          → ((x : WorldValue) (accounts' : Accounts) → AreKnown count planning x.managers accounts'
+          → AreKnown count planning (after_turns x until most).now.managers (told_by_turns x accounts' until most))
+          → AreKnown count planning (option_map_or (λ turn. and_then (after_turn w turn) (λ now. after_turns now until most)) o
+          (quiet (record w { time = until }))).now.managers
+          (option_map_or (λ turn. told_by_turns (after_turn w turn).now (told_by_turn w accounts turn) until most) o accounts)
+      by_turn None later = known
+      by_turn (Some turn) later = later (after_turn w turn).now (told_by_turn w accounts turn) (turn_known w accounts turn known)
+
   -- a packet that is meant, of which managers learn nothing
   which_known : (w : WorldValue) (accounts : Accounts) (which : Which) (run : ℕ → Outcome WorldValue) → AreKnown count planning w.managers accounts
       → ((serial : ℕ) → (run serial).now.managers ≡ w.managers)
@@ -245,10 +326,6 @@ module _ (count : ℕ) (planning : Planning) where
   resends_same zero w id = refl
   resends_same (suc left) w id = resends_same left (after_resend w id).now (id + 1)
 
-  same_known : (managers : List SeatedValue) (w : WorldValue) (accounts : Accounts) → managers ≡ w.managers → AreKnown count planning w.managers accounts
-      → AreKnown count planning managers accounts
-  same_known managers w accounts same known = subst (λ ms. AreKnown count planning ms accounts) (sym same) known
-
   -- all lines ----------------------------------------------------------------------------------------------
 
   pub command_known : (nodes : List Node) (w : WorldValue) (accounts : Accounts) (command : SeatCommand) → AreKnown count planning w.managers accounts
@@ -275,6 +352,10 @@ module _ (count : ℕ) (planning : Planning) where
   command_known nodes w accounts (command.Packet which fate.Lose) known = which_known w accounts which (after_fate w fate.Lose) known (λ serial. refl)
   command_known nodes w accounts (command.Packet which fate.Repeat) known = which_known w accounts which (after_fate w fate.Repeat) known (λ serial. refl)
   command_known nodes w accounts (command.Drain most) known = drain_known most w accounts known
+  command_known nodes w accounts (command.Decider index) known = same_known _ w accounts (decider_same w index) known
+  command_known nodes w accounts (command.Pause index) known = same_known _ w accounts (pause_same w index false) known
+  command_known nodes w accounts (command.Resume index) known = same_known _ w accounts (pause_same w index true) known
+  command_known nodes w accounts (command.Wait wait most) known = turns_known most (later_by wait w.time) w accounts known
   command_known nodes w accounts (command.Cut p) known =
       let called = after_cut w.fabric p in
       same_known _ w accounts (parting_same (after_fabric_call w called).now p (across w.fabric.peers p) called.result) known
@@ -293,7 +374,7 @@ module _ (count : ℕ) (planning : Planning) where
 pub all_known : (planning : Planning) (topology : Layout) (script : Script)
     → AreKnown (length script.seats) planning (world_after planning topology script).managers (account_after planning topology script)
 all_known planning topology script =
-    commands_known (length script.seats) planning topology.nodes (world_of planning topology script.seats) opened script.commands
+    commands_known (length script.seats) planning topology.nodes (world_of planning topology script.seats script.deciders) opened script.commands
     (all_new planning topology.nodes script.seats)
 
 pub runs_are_accounted_for : RunsAreAccountedFor

@@ -1,5 +1,5 @@
--- What the managers of a world take in while a schedule runs: what each learns and, if it merges the facts of another
--- manager, all that the other took in.
+-- What the managers of a world that are asked take in while a schedule runs: what each learns and, if it merges the
+-- facts of another manager, all that the other took in.
 use Rattle.std.specs.Prelude.{◌≡◌, ℕ, zero, suc, max, List, [], ◌∷◌, ◌++◌, slice_get, ◌==◌, if◌then◌else◌, Some, Result, Ok, Err}
 use Rattle.std.specs.Option.{option_map_or}
 use Rattle.fabric_model.specs.declared.cable.NodePort.{NodePort}
@@ -20,8 +20,13 @@ use Rattle.fact_store.specs.View.{view_at}
 use Rattle.lft_blocks.specs.Planning.{Planning}
 use Rattle.sm_manager.specs.CallLists as calls
 use Rattle.sm_manager.specs.CallLists.{sightings_of_call}
-use Rattle.schedule_run.specs.Commands.{after_command, after_commands, seat_at, after_step, world_of}
+use Rattle.schedule_run.specs.Commands.{after_command, after_commands, world_of}
+use Rattle.schedule_run.specs.Delivery.{seat_at, after_step}
 use Rattle.schedule_run.specs.NamedPackets.{serial_of}
+use Rattle.schedule_run.specs.Waiting.{after_turn, next_turn}
+use Rattle.schedule_run.specs.declared.waiting.WaitTurn.{WaitTurn}
+use Rattle.schedule_run.specs.declared.waiting.WaitTurn.TheVariants.{Deliver, Wake}
+use Rattle.sm_policy.specs.Policy.{later_by}
 use Rattle.schedule_run.specs.World.{SeatedValue, WorldValue, after_fabric_call}
 
 -- the account of a manager: the sightings that it took in, and the greatest floor that it was given, or 1
@@ -29,7 +34,7 @@ pub record Account : Type 0 where
   pub told : Sightings
   pub floor : ℕ
 
--- an account for each manager's seat
+-- an account for the seat of each manager that is asked
 abbrev pub Accounts : Type 0
 Accounts = ℕ → Account
 
@@ -58,7 +63,7 @@ told_by_packet w accounts packet seat =
     }))
     (slice_get w.managers seat) accounts
 
--- the accounts once a packet has reached the port `p`, where the manager takes it in; unchanged if no manager sits
+-- the accounts once a packet has reached the port `p`, where the manager that is asked takes it in; unchanged if none sits
 -- there
 abbrev pub told_at : WorldValue → Accounts → NodePort → Packet → Accounts
 told_at w accounts p packet = option_map_or (told_by_packet w accounts packet) (seat_at w p) accounts
@@ -87,6 +92,18 @@ told_by_drain w accounts (suc most) =
     option_map_or (λ flight. told_by_drain (after_step w flight.serial).now (told_by_step w accounts flight.serial)
     most) (slice_get w.fabric.flights 0) accounts
 
+-- the accounts once a turn of a wait was taken: the managers that are asked take in nothing as it gets later
+abbrev pub told_by_turn : WorldValue → Accounts → WaitTurn → Accounts
+told_by_turn w accounts (Deliver serial) = told_by_step w accounts serial
+told_by_turn w accounts (Wake time) = accounts
+
+-- the accounts after up to `most` turns of a wait until `until`
+abbrev pub told_by_turns : WorldValue → Accounts → ℕ → ℕ → Accounts
+told_by_turns w accounts until zero = accounts
+told_by_turns w accounts until (suc most) =
+    option_map_or (λ turn. told_by_turns (after_turn w turn).now (told_by_turn w accounts turn) until most)
+    (next_turn w until) accounts
+
 -- managers ---------------------------------------------------------------------------------------
 
 -- the accounts once the manager in `seat` has taken in all that the manager in `other` took in; unchanged if there is
@@ -103,6 +120,7 @@ told_by_command w accounts (command.Merge seat other) = told_by_merge w accounts
 told_by_command w accounts (command.Floor seat floor) = with_more accounts seat (record { told = []; floor = floor })
 told_by_command w accounts (command.Packet which fate.Deliver) = told_by_deliver w accounts which
 told_by_command w accounts (command.Drain most) = told_by_drain w accounts most
+told_by_command w accounts (command.Wait wait most) = told_by_turns w accounts (later_by wait w.time) most
 told_by_command w accounts command = accounts
 
 -- the accounts after lines of a schedule that run in turn, starting in the world `w`
@@ -116,21 +134,22 @@ told_by_commands nodes w accounts (command ∷ later) =
 -- the world after a schedule has run
 abbrev pub world_after : Planning → Layout → Script → WorldValue
 world_after planning topology script =
-    (after_commands topology.nodes (world_of planning topology script.seats) script.commands).now
+    (after_commands topology.nodes (world_of planning topology script.seats script.deciders) script.commands).now
 
--- the account of the manager in a seat after a schedule has run
+-- the account of the manager that is asked in a seat, after a schedule has run
 abbrev pub account_after : Planning → Layout → Script → ℕ → Account
 account_after planning topology script =
-    told_by_commands topology.nodes (world_of planning topology script.seats) opened script.commands
+    told_by_commands topology.nodes (world_of planning topology script.seats script.deciders) opened script.commands
 
--- the store of each manager is the view of what the manager took in according to its account, at the account's floor
+-- the store of each manager that is asked is the view of what the manager took in according to its account, at the
+-- account's floor
 abbrev pub KnowWhatTheyTookIn : WorldValue → Accounts → Type 0
 KnowWhatTheyTookIn w accounts =
     (seat : ℕ) (s : SeatedValue) → slice_get w.managers seat ≡ Some s → s.manager.store
     ≡ view_at (accounts seat).floor (accounts seat).told
 
--- after every run, the store of each manager is the view of what the manager took in, at the greatest floor that it
--- was given, or 1
+-- after every run, the store of each manager that is asked is the view of what the manager took in, at the greatest
+-- floor that it was given, or 1
 abbrev pub RunsAreAccountedFor : Type 0
 RunsAreAccountedFor = (planning : Planning) (topology : Layout) (script : Script)
     → KnowWhatTheyTookIn (world_after planning topology script) (account_after planning topology script)

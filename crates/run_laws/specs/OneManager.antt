@@ -21,27 +21,32 @@ use Rattle.manager_laws.specs.Truth.{AreGuidsDistinct}
 use Rattle.manager_laws.specs.Complete.{IsWhole}
 use Rattle.manager_laws.specs.Sets.{IsOwnSet, KeepsPlan, OwnSets}
 use Rattle.schedule_lines.specs.Lines.{written_line}
-use Rattle.schedule_run.specs.Commands.{after_command, after_commands, after_step, shown_of}
+use Rattle.schedule_run.specs.Commands.{after_command, after_commands, shown_of}
+use Rattle.schedule_run.specs.Delivery.{after_step}
 use Rattle.schedule_run.specs.NamedPackets.{serial_of}
 use Rattle.schedule_run.specs.World.{SeatedValue, WorldValue}
 use Rattle.run_laws.specs.Reached.{EachPingSaysReached}
 
--- the line begins no sweep and no writing, moves no cable, sends no trap, seats no manager, and gives no manager facts
--- or a floor
+-- the line begins no sweep and no writing, moves no cable, sends no trap, seats no manager, gives no manager facts or a
+-- floor, and lets no time pass
 abbrev pub IsLine : SeatCommand → Type 0
 IsLine (command.Manager seat) = ⊥
+IsLine (command.Decider index) = ⊥
 IsLine (command.Ask seat ask.Sweep) = ⊥
 IsLine (command.Ask seat ask.Write) = ⊥
 IsLine (command.Merge seat other) = ⊥
 IsLine (command.Floor seat floor) = ⊥
 IsLine (command.Cut p) = ⊥
 IsLine (command.Plug p q) = ⊥
+IsLine (command.Pause index) = ⊥
+IsLine (command.Resume index) = ⊥
+IsLine (command.Wait wait most) = ⊥
 IsLine command.Traps = ⊥
 IsLine command.Resend = ⊥
 IsLine command = Unit {0}
 
--- none of the lines begins a sweep or a writing, moves a cable, sends a trap, seats a manager, or gives a manager facts
--- or a floor
+-- none of the lines begins a sweep or a writing, moves a cable, sends a trap, seats a manager, gives a manager facts or
+-- a floor, or lets time pass
 abbrev pub AreLines : List SeatCommand → Type 0
 AreLines [] = Unit {0}
 AreLines (command ∷ later) = IsLine command × AreLines later
@@ -114,6 +119,8 @@ pub record BringsUpAlone (nodes : List Node) (w : WorldValue) (s : SeatedValue) 
   pub planning : Planning
   pub few : planning.lmc < 8
   pub only : IsOnly w s (new_manager port_guid s.at.port priority conduct planning)
+  -- no manager decides by itself
+  pub none_decides : w.deciders ≡ []
   pub fabric : IsSimulation w.fabric
   pub no_packets : w.fabric.flights ≡ []
   pub distinct : AreGuidsDistinct (fabric_of w.fabric)

@@ -19,14 +19,17 @@ use Rattle.schedule_file.specs.declared.command.Shown.{Shown}
 use Rattle.schedule_file.specs.declared.command.Shown.TheVariants.{Facts, Plan, Progress, Silent, State, Written}
 use Rattle.schedule_file.specs.declared.command.Which.{Which}
 use Rattle.schedule_file.specs.declared.command.Which.TheVariants.{Last, Serial}
+use Rattle.schedule_file.specs.declared.manner.Manner.{Manner}
+use Rattle.schedule_file.specs.declared.manner.Manner.TheVariants.{Plain, Live, Decides}
 use Rattle.schedule_file.specs.declared.line.NewManager.{NewManager}
 use Rattle.schedule_file.specs.declared.line.ScheduleLine.{ScheduleLine}
 use Rattle.schedule_file.specs.declared.line.ScheduleLine.TheVariants as line
 use Rattle.schedule_file.specs.declared.named_command.PortName.{PortName}
-use Rattle.schedule_file.specs.Printed.{fate_word, named_words, port_word, shown_word, which_word, sm_key_words}
+use Rattle.schedule_file.specs.Printed.{fate_word, manner_words, named_words, port_word, shown_word, which_word}
 use Rattle.schedule_file.specs.Command.{NamedCommand, ask, bare_of, bracketed_number, command_in, floor, line_in, line_of, merge}
-use Rattle.schedule_file.specs.Command.{new_manager, of_one, of_two, packet, ping, plug, poll, port_name, show, to_manager}
-use Rattle.schedule_file.specs.Command.{sm_key_in, which_of}
+use Rattle.schedule_file.specs.Command.{new_manager, of_manager, of_one, of_two, packet, ping, plug, poll, port_name, show}
+use Rattle.schedule_file.specs.Command.{to_manager, wait, which_of}
+use Rattle.schedule_file.specs.Manner.{manner_in, manner_of}
 use Rattle.schedule_file.specs.ManagerWords.{asked_by, generation_of, shown_by}
 use Rattle.schedule_file.specs.ManagerName.{is_manager_name, manager_name_in}
 use Rattle.std.specs.Char.{digit_value, is_ascii_alphanumeric}
@@ -61,11 +64,16 @@ IsWhich Last = Unit {0}
 -- a command as lines tell it
 abbrev pub IsNamed : NamedCommand → Type 0
 IsNamed (command.Manager name) = ⊥
+IsNamed (command.Decider name) = ⊥
 IsNamed (command.Ask name what) = IsName name × IsAsk what
 IsNamed (command.Timeout name) = IsName name
 IsNamed (command.Floor name floor) = IsName name × (1 ≤ floor) × (floor ≤ 0xFFFFFFFF)
 IsNamed (command.Merge one other) = IsName one × IsName other
 IsNamed (command.Show name what) = IsName name
+IsNamed (command.ShowDecider name what) = ⊥
+IsNamed (command.Pause name) = IsName name
+IsNamed (command.Resume name) = IsName name
+IsNamed (command.Wait time most) = (time ≤ 0xFFFFFFFF) × (most ≤ 10000)
 IsNamed (command.Packet which fate) = IsWhich which
 IsNamed (command.Drain most) = most ≤ 1000000
 IsNamed (command.Cut p) = IsPort p
@@ -76,11 +84,17 @@ IsNamed command.Resend = Unit {0}
 IsNamed command.Tables = Unit {0}
 IsNamed command.Flight = Unit {0}
 
+-- the number of a manner fits
+abbrev IsManner : Manner → Type 0
+IsManner Plain = Unit {0}
+IsManner (Live key) = key ≤ 2 ^ 64 - 1
+IsManner (Decides newest) = newest ≤ 0xFFFFFFFE
+
 pub record IsNew (new : NewManager) : Type 0 where
   pub name : IsName new.name
   pub at : IsPort new.at
   pub priority : new.priority ≤ 15
-  pub sm_key : IfSome new.sm_key (λ key. key ≤ 2 ^ 64 - 1)
+  pub manner : IsManner new.manner
 
 abbrev pub IsLine : ScheduleLine → Type 0
 IsLine line.Empty = Unit {0}
@@ -154,11 +168,15 @@ by_asked : (name : List ℕ) (asked : Option Ask) (other : Option NamedCommand) 
 by_asked name None other h k = k
 by_asked name (Some what) other h k = ask_range what name h
 
+of_manager_range : (word name : List ℕ) → IfSome (of_manager word name) IsNamed
+of_manager_range word name =
+    either IsNamed (bytes_eq word (codes "timeout")) _ _ (mapped IsName IsNamed (manager_name_in name) _ (manager_range name) (λ n is. is))
+    (either IsNamed (bytes_eq word (codes "pause")) _ _ (mapped IsName IsNamed (manager_name_in name) _ (manager_range name) (λ n is. is))
+    (either IsNamed (bytes_eq word (codes "resume")) _ _ (mapped IsName IsNamed (manager_name_in name) _ (manager_range name) (λ n is. is))
+    (then_some (λ _. Unit {0}) IsNamed (shown_by word) _ (always _) (λ what _. show_range what name))))
+
 to_manager_range : (word name : List ℕ) → IfSome (to_manager word name) IsNamed
-to_manager_range word name =
-    by_asked name (asked_by word) _ (asked_range word)
-    (either IsNamed (bytes_eq word (codes "timeout")) _ _ (mapped IsName IsNamed (manager_name_in name) _ (manager_range name) (λ n is. is))
-    (then_some (λ _. Unit {0}) IsNamed (shown_by word) _ (always _) (λ what _. show_range what name)))
+to_manager_range word name = by_asked name (asked_by word) _ (asked_range word) (of_manager_range word name)
 
 one_range : (word arg : List ℕ) → IfSome (of_one word arg) IsNamed
 one_range word arg =
@@ -194,13 +212,19 @@ ping_range port lid =
     then_some IsPort IsNamed (port_name port) _ (port_range port) (λ p h.
     mapped (λ n. n ≤ 0xFFFF) IsNamed (number_up_to 0xFFFF lid) _ (number_range 0xFFFF lid) (λ n g. (h, g)))
 
+wait_range : (time most : List ℕ) → IfSome (wait time most) IsNamed
+wait_range time most =
+    then_some (λ n. n ≤ 0xFFFFFFFF) IsNamed (number_up_to 0xFFFFFFFF time) _ (number_range 0xFFFFFFFF time) (λ t h.
+    mapped (λ n. n ≤ 10000) IsNamed (number_up_to 10000 most) _ (number_range 10000 most) (λ n g. (h, g)))
+
 two_range : (word one other : List ℕ) → IfSome (of_two word one other) IsNamed
 two_range word one other =
     either IsNamed (bytes_eq word (codes "merge")) _ _ (merge_range one other)
     (either IsNamed (bytes_eq word (codes "poll")) _ _ (poll_range one other)
     (either IsNamed (bytes_eq word (codes "floor")) _ _ (floor_range one other)
     (either IsNamed (bytes_eq word (codes "plug")) _ _ (plug_range one other)
-    (either IsNamed (bytes_eq word (codes "ping")) _ None (ping_range one other) tt))))
+    (either IsNamed (bytes_eq word (codes "ping")) _ _ (ping_range one other)
+    (either IsNamed (bytes_eq word (codes "wait")) _ None (wait_range one other) tt)))))
 
 command_range : (word : List ℕ) (args : List (List ℕ)) → IfSome (command_in word args) IsNamed
 command_range word [] = bare_range word
@@ -208,17 +232,18 @@ command_range word (arg ∷ []) = one_range word arg
 command_range word (one ∷ other ∷ []) = two_range word one other
 command_range word (one ∷ other ∷ more ∷ rest) = tt
 
--- an SM_Key has 64 bits
-abbrev IsKey : Option ℕ → Type 0
-IsKey key = IfSome key (λ n. n ≤ 2 ^ 64 - 1)
+manner_of_range : (word number : List ℕ) → IfSome (manner_of word number) IsManner
+manner_of_range word number =
+    either IsManner (bytes_eq word (codes "live")) _ _
+    (mapped (λ n. n ≤ 2 ^ 64 - 1) IsManner (number_up_to (2 ^ 64 - 1) number) Live (number_range (2 ^ 64 - 1) number) (λ n few. few))
+    (either IsManner (bytes_eq word (codes "decides")) _ None
+    (mapped (λ n. n ≤ 0xFFFFFFFE) IsManner (number_up_to 0xFFFFFFFE number) Decides (number_range 0xFFFFFFFE number) (λ n few. few)) tt)
 
-key_range : (args : List (List ℕ)) → IfSome (sm_key_in args) IsKey
-key_range [] = tt
-key_range (word ∷ []) = tt
-key_range (word ∷ key ∷ []) =
-    either IsKey (bytes_eq word (codes "live")) _ None
-    (mapped (λ n. n ≤ 2 ^ 64 - 1) IsKey (number_up_to (2 ^ 64 - 1) key) (λ n. Some n) (number_range (2 ^ 64 - 1) key) (λ n few. few)) tt
-key_range (word ∷ key ∷ more ∷ rest) = tt
+manner_range : (args : List (List ℕ)) → IfSome (manner_in args) IsManner
+manner_range [] = tt
+manner_range (word ∷ []) = tt
+manner_range (word ∷ number ∷ []) = manner_of_range word number
+manner_range (word ∷ number ∷ more ∷ rest) = tt
 
 new_range : (args : List (List ℕ)) → IfSome (new_manager args) IsNew
 new_range [] = tt
@@ -228,7 +253,7 @@ new_range (name ∷ at ∷ priority ∷ more) =
     then_some IsName IsNew (manager_name_in name) _ (manager_range name) (λ n h.
     then_some IsPort IsNew (port_name at) _ (port_range at) (λ p there.
     then_some (λ q. q ≤ 15) IsNew (number_up_to 15 priority) _ (number_range 15 priority) (λ q few.
-    mapped IsKey IsNew (sm_key_in more) _ (key_range more) (λ k fits. record { name = h; at = there; priority = few; sm_key = fits }))))
+    mapped IsManner IsNew (manner_in more) _ (manner_range more) (λ k fits. record { name = h; at = there; priority = few; manner = fits }))))
 
 words_range : (words : List (List ℕ)) → IfSome (line_in words) IsLine
 words_range [] = tt
@@ -289,6 +314,7 @@ shown_is_word State = keyword (codes "state") (omega arith) refl refl
 
 pub named_are_words : (named : NamedCommand) → IsNamed named → AllByRecursion IsWord (named_words named)
 named_are_words (command.Manager name) is = absurd is
+named_are_words (command.Decider name) is = absurd is
 named_are_words (command.Ask name Sweep) is = (keyword (codes "sweep") (omega arith) refl refl, (manager_word name is.0, tt))
 named_are_words (command.Ask name Write) is = (keyword (codes "write") (omega arith) refl refl, (manager_word name is.0, tt))
 named_are_words (command.Ask name Handover) is = (keyword (codes "handover") (omega arith) refl refl, (manager_word name is.0, tt))
@@ -302,6 +328,13 @@ named_are_words (command.Floor name floor) is =
     let h = is.2 in (keyword (codes "floor") (omega arith) refl refl, (manager_word name is.0, (decimal_word floor (omega arith), tt)))
 named_are_words (command.Merge one other) is = (keyword (codes "merge") (omega arith) refl refl, (manager_word one is.0, (manager_word other is.1, tt)))
 named_are_words (command.Show name what) is = (shown_is_word what, (manager_word name is, tt))
+named_are_words (command.ShowDecider name what) is = absurd is
+named_are_words (command.Pause name) is = (keyword (codes "pause") (omega arith) refl refl, (manager_word name is, tt))
+named_are_words (command.Resume name) is = (keyword (codes "resume") (omega arith) refl refl, (manager_word name is, tt))
+named_are_words (command.Wait time most) is =
+    let h = is.0 in
+    let k = is.1 in
+    (keyword (codes "wait") (omega arith) refl refl, (decimal_word time (omega arith), (decimal_word most (omega arith), tt)))
 named_are_words (command.Packet which fate) is = (fate_is_word fate, (which_is_word which is, tt))
 named_are_words (command.Drain most) is = (keyword (codes "drain") (omega arith) refl refl, (decimal_word most (omega arith), tt))
 named_are_words (command.Cut p) is = (keyword (codes "cut") (omega arith) refl refl, (port_is_word p is, tt))
@@ -364,6 +397,7 @@ not_0 n h = differs n 0 (λ e. omega arith)
 
 named_in : (named : NamedCommand) → IsNamed named → line_in (named_words named) ≡ Some (line.Command named)
 named_in (command.Manager name) is = absurd is
+named_in (command.Decider name) is = absurd is
 named_in (command.Ask name Sweep) is = rw (manager_read name is.0) refl
 named_in (command.Ask name Write) is = rw (manager_read name is.0) refl
 named_in (command.Ask name Handover) is = rw (manager_read name is.0) refl
@@ -382,6 +416,13 @@ named_in (command.Show name Progress) is = rw (manager_read name is) refl
 named_in (command.Show name Silent) is = rw (manager_read name is) refl
 named_in (command.Show name Written) is = rw (manager_read name is) refl
 named_in (command.Show name State) is = rw (manager_read name is) refl
+named_in (command.ShowDecider name what) is = absurd is
+named_in (command.Pause name) is = rw (manager_read name is) refl
+named_in (command.Resume name) is = rw (manager_read name is) refl
+named_in (command.Wait time most) is =
+    let h = is.0 in
+    let k = is.1 in
+    rw (number_read 0xFFFFFFFF time (omega arith) h, number_read 10000 most (omega arith) k) refl
 named_in (command.Packet Last Deliver) is = refl
 named_in (command.Packet Last Lose) is = refl
 named_in (command.Packet Last Repeat) is = refl
@@ -403,25 +444,27 @@ named_is_read named is = ap line_in (words_are_read (named_words named) (named_a
 
 -- a new manager's line
 abbrev pub new_words : NewManager → List (List ℕ)
-new_words new = codes "manager" ∷ new.name ∷ port_word new.at ∷ decimal new.priority ∷ sm_key_words new.sm_key
+new_words new = codes "manager" ∷ new.name ∷ port_word new.at ∷ decimal new.priority ∷ manner_words new.manner
 
-key_are_words : (key : Option ℕ) → IsKey key → AllByRecursion IsWord (sm_key_words key)
-key_are_words None is = tt
-key_are_words (Some key) is = (keyword (codes "live") (omega arith) refl refl, (decimal_word key (omega (arith, is)), tt))
+manner_are_words : (manner : Manner) → IsManner manner → AllByRecursion IsWord (manner_words manner)
+manner_are_words Plain is = tt
+manner_are_words (Live key) is = (keyword (codes "live") (omega arith) refl refl, (decimal_word key (omega (arith, is)), tt))
+manner_are_words (Decides newest) is = (keyword (codes "decides") (omega arith) refl refl, (decimal_word newest (omega (arith, is)), tt))
 
-key_is_read : (key : Option ℕ) → IsKey key → sm_key_in (sm_key_words key) ≡ Some key
-key_is_read None is = refl
-key_is_read (Some key) is = rw (number_read (2 ^ 64 - 1) key (omega arith) is) refl
+manner_is_read : (manner : Manner) → IsManner manner → manner_in (manner_words manner) ≡ Some manner
+manner_is_read Plain is = refl
+manner_is_read (Live key) is = rw (number_read (2 ^ 64 - 1) key (omega arith) is) refl
+manner_is_read (Decides newest) is = rw (number_read 0xFFFFFFFE newest (omega arith) is) refl
 
 pub new_are_words : (new : NewManager) → IsNew new → AllByRecursion IsWord (new_words new)
 new_are_words new is =
     let few = is.priority in
     let first = keyword (codes "manager") (omega arith) refl refl in
-    (first, (manager_word new.name is.name, (port_is_word new.at is.at, (decimal_word new.priority (omega arith), key_are_words new.sm_key is.sm_key))))
+    (first, (manager_word new.name is.name, (port_is_word new.at is.at, (decimal_word new.priority (omega arith), manner_are_words new.manner is.manner))))
 
 pub new_is_read : (new : NewManager) → IsNew new → line_of (line_text (new_words new)) ≡ Some (line.Manager new)
 unfolding line_of
 new_is_read new is =
     let few = is.priority in
     ap line_in (words_are_read (new_words new) (new_are_words new is))
-    ∙ rw (manager_read new.name is.name, port_read new.at is.at, number_read 15 new.priority (omega arith) few, key_is_read new.sm_key is.sm_key) refl
+    ∙ rw (manager_read new.name is.name, port_read new.at is.at, number_read 15 new.priority (omega arith) few, manner_is_read new.manner is.manner) refl

@@ -21,6 +21,7 @@ use Rattle.schedule_file.specs.declared.line.NewManager.{NewManager}
 use Rattle.schedule_file.specs.declared.named_command.PortName.{PortName}
 use Rattle.schedule_file.specs.ManagerName.{manager_name_in}
 use Rattle.schedule_file.specs.ManagerWords.{asked_by, generation_of, shown_by}
+use Rattle.schedule_file.specs.Manner.{manner_in}
 use Rattle.text_words.specs.Numbers.{lid_of, number_up_to}
 
 -- a command, as given by its line, with managers and nodes given by their names
@@ -42,19 +43,11 @@ port_name word =
     (λ name. option_map (λ port. record { node = name; port = port }) (bracketed_number x.1)) (name_in x.0))
     (enclosed 34 34 word)
 
--- the SM_Key that the words after the priority of a new manager give: no words, or 'live' and a 64-bit SM_Key; None
--- for other words. The inner value is None if there are no words
-abbrev pub sm_key_in : List (List ℕ) → Option (Option ℕ)
-sm_key_in [] = Some None
-sm_key_in (word ∷ key ∷ []) =
-    if bytes_eq word (codes "live") then option_map (λ k. Some k) (number_up_to (2 ^ 64 - 1) key) else None
-sm_key_in _ = None
-
--- a new manager: its name, its port, its priority and its SM_Key; None for other words
+-- a new manager: its name, its port, its priority and its manner; None for other words
 abbrev pub new_manager : List (List ℕ) → Option NewManager
 new_manager (name ∷ at ∷ priority ∷ more) =
     option_and_then (λ n. option_and_then (λ p. option_and_then
-    (λ q. option_map (λ k. record { name = n; at = p; priority = q; sm_key = k }) (sm_key_in more))
+    (λ q. option_map (λ k. record { name = n; at = p; priority = q; manner = k }) (manner_in more))
     (number_up_to 15 priority)) (port_name at)) (manager_name_in name)
 new_manager _ = None
 
@@ -79,13 +72,19 @@ ask what name = option_map (λ manager. command.Ask manager what) (manager_name_
 abbrev pub show : Shown → List ℕ → Option NamedCommand
 show what name = option_map (λ manager. command.Show manager what) (manager_name_in name)
 
+-- the command with the first word `word`, which asks for nothing, about the manager `name`; None if there is no such
+-- command, or if `name` is not a name of a manager
+abbrev pub of_manager : List ℕ → List ℕ → Option NamedCommand
+of_manager word name =
+    if bytes_eq word (codes "timeout") then option_map command.Timeout (manager_name_in name)
+    else if bytes_eq word (codes "pause") then option_map command.Pause (manager_name_in name)
+    else if bytes_eq word (codes "resume") then option_map command.Resume (manager_name_in name)
+    else option_and_then (λ what. show what name) (shown_by word)
+
 -- the command with the first word `word` about the manager `name`; None if there is no such command, or if `name` is
 -- not a name of a manager
 abbrev pub to_manager : List ℕ → List ℕ → Option NamedCommand
-to_manager word name =
-    option_map_or (λ what. ask what name) (asked_by word)
-    (if bytes_eq word (codes "timeout") then option_map command.Timeout (manager_name_in name)
-    else option_and_then (λ what. show what name) (shown_by word))
+to_manager word name = option_map_or (λ what. ask what name) (asked_by word) (of_manager word name)
 
 -- the command that delivers, loses or repeats the packet in flight that a word names; None if the word names no
 -- packet
@@ -127,6 +126,11 @@ plug one other = option_and_then (λ p. option_map (command.Plug p) (port_name o
 abbrev pub ping : List ℕ → List ℕ → Option NamedCommand
 ping port lid = option_and_then (λ p. option_map (command.Ping p) (lid_of lid)) (port_name port)
 
+-- `wait` with a number of milliseconds, below 2^32, and a number of turns, at most 10,000; None for other words
+abbrev pub wait : List ℕ → List ℕ → Option NamedCommand
+wait time most =
+    option_and_then (λ t. option_map (command.Wait t) (number_up_to 10000 most)) (number_up_to 0xFFFFFFFF time)
+
 -- any command of three words; None if they are not a command
 abbrev pub of_two : List ℕ → List ℕ → List ℕ → Option NamedCommand
 of_two word one other =
@@ -135,6 +139,7 @@ of_two word one other =
     else if bytes_eq word (codes "floor") then floor one other
     else if bytes_eq word (codes "plug") then plug one other
     else if bytes_eq word (codes "ping") then ping one other
+    else if bytes_eq word (codes "wait") then wait one other
     else None
 
 -- lines ----------------------------------------------------------------------------------------

@@ -2,6 +2,7 @@ pub mod Command
 pub mod FirstFault
 pub mod ManagerName
 pub mod ManagerWords
+pub mod Manner
 pub mod Printed
 pub mod Resolve
 pub mod Schedule

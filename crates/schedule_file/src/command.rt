@@ -2,11 +2,14 @@
 use smp_bytes::{Generation, Lid};
 
 /// A command about managers of the type `M` and ports of the type `P`. In a line, `M` and `P` are names. In a command
-/// as it is run, `M` is the index of a manager's seat, counted from 0, and `P` is a port with the index of its node.
+/// as it is run, `M` is the index of a manager's seat among those of its kind, counted from 0, and `P` is a port with the
+/// index of its node. The kinds are managers that are asked, and managers that decide by themselves.
 #[derive(Clone, Copy, PartialEq, Eq, Drop)]
 pub enum Command<M, P> {
     /// Adds a manager.
     Manager(M),
+    /// Adds a manager that decides by itself.
+    Decider(M),
     /// Asks a manager for something, which it may refuse.
     Ask(M, Ask),
     /// Makes a manager give up each outstanding request.
@@ -18,6 +21,16 @@ pub enum Command<M, P> {
     Merge(M, M),
     /// Shows something of a manager.
     Show(M, Shown),
+    /// Shows something of a manager that decides by itself.
+    ShowDecider(M, Shown),
+    /// Makes a manager that decides by itself stand still: it is told nothing any more.
+    Pause(M),
+    /// Makes a manager that decides by itself go on.
+    Resume(M),
+    /// Lets so many milliseconds pass, with at most so many turns, which is at most 10,000. In each turn the packet in
+    /// flight with the least serial number takes a step or, if none is in flight, a manager that decides by itself is
+    /// told the time.
+    Wait(u32, u32),
     /// Delivers, loses or duplicates a packet in flight.
     Packet(Which, Fate),
     /// Takes a step of the packet in flight with the least serial number, again and again, at most this many times.

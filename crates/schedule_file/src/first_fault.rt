@@ -1,20 +1,37 @@
 //! The first fault of a text, found without memory from the allocator.
-ghost use Rattle.std.specs.Prelude.{◌≡◌, None, Some, IfSome};
+ghost use Rattle.std.specs.Prelude.{◌≡◌, None, Ok, Some, IfSome};
 ghost use Rattle.text_words.specs.Text.{lines};
 ghost use Rattle.schedule_file.specs.Command.{line_of};
-ghost use Rattle.schedule_file.specs.FirstFault.{IsSoundOrCrowded, Leaves, fault_of, seats_with};
-ghost use Rattle.schedule_file.specs.Schedule.{schedule_of_lines};
+ghost use Rattle.schedule_file.specs.FirstFault.{IsSoundOrCrowded, Leaves, fault_of, managers_with};
+ghost use Rattle.schedule_file.specs.Manner.{newest_of};
+ghost use Rattle.schedule_file.specs.Schedule.{known_with, schedule_of_lines};
 
 use crate::line::{ScheduleLine, read_line};
 use crate::resolve::resolve;
 use crate::schedule::{Seat, new_seat};
 use crate::schedule_fault::ScheduleFault;
 use arrayvec::ArrayVec;
+use std::marker::Model;
 use text_words::split_line;
 use topo_file::Topology;
 
-/// The managers so far, at most 64. They take no memory from the allocator.
+/// Some managers, at most 64. They take no memory from the allocator.
 type Seats = ArrayVec<Seat, 64>;
+
+/// The managers so far: those that are asked, and those that decide by themselves.
+#[derive(Drop)]
+struct Known {
+    seats: Seats,
+    deciders: Seats,
+}
+
+impl Model for Known {
+    ghost use Rattle.schedule_file.specs.Resolve.{Managers};
+
+    ghost Value = { Managers };
+
+    ghost view = { λ a. record { seats = a.seats.items; deciders = a.deciders.items } };
+}
 
 /// Returns the first fault of `text`. Returns `None` if `text` has no fault, or has more than 64 managers before its
 /// first fault.
@@ -23,12 +40,15 @@ pub(crate) fn first_fault(topology: &Topology, text: &[u8]) -> Option<ScheduleFa
         fault_of (schedule_of_lines topology.now.nodes (lines text.now)) ≡ Some fault) }
     ensures none { result ≡ None → IsSoundOrCrowded topology.now.nodes (lines text.now) }
 {
-    let mut seats = Seats::new();
+    let mut known = Known {
+        seats: Seats::new(),
+        deciders: Seats::new(),
+    };
     let mut number = 0;
     let mut rest = text;
     while let Some((line, later)) = split_line(rest) {
         number += 1;
-        match judge_line(topology, &mut seats, number, line) {
+        match known.judge_line(topology, number, line) {
             Ok(true) => rest = later,
             Ok(false) => return None,
             Err(fault) => return Some(fault),
@@ -37,28 +57,45 @@ pub(crate) fn first_fault(topology: &Topology, text: &[u8]) -> Option<ScheduleFa
     None
 }
 
-/// Checks `line`, whose number is `number`, given `seats`, the managers of the lines above. If the line has a new
-/// manager, appends it to `seats`. Returns the line's fault if it has one. Otherwise returns `false` if `seats` has
-/// 64 managers already and so cannot take the new one, and `true` if not.
-fn judge_line(
-    topology: &Topology,
-    seats: &mut Seats,
-    number: usize,
-    line: &[u8],
-) -> Result<bool, ScheduleFault>
-    ensures { Leaves (seats_with topology.now.nodes number seats.old.items (line_of line.now))
-        result seats.new.items }
-{
-    match read_line(line) {
-        None => Err(ScheduleFault::Syntax { line: number }),
-        Some(ScheduleLine::Empty) => Ok(true),
-        Some(ScheduleLine::Manager(new)) => {
-            let seat = new_seat(topology, seats.as_slice(), number, new)?;
-            Ok(seats.try_push(seat).is_ok())
+impl Known {
+    /// Checks `line`, whose number is `number`. If the line has a new manager, adds it. Returns the line's fault if it
+    /// has one. Otherwise returns `false` if there is no room for the new manager, since there are 64 of its kind
+    /// already, and `true` if not.
+    fn judge_line(
+        &mut self,
+        topology: &Topology,
+        number: usize,
+        line: &[u8],
+    ) -> Result<bool, ScheduleFault>
+        ensures { Leaves (managers_with topology.now.nodes number self.old (line_of line.now))
+            result self.new }
+    {
+        match read_line(line) {
+            None => Err(ScheduleFault::Syntax { line: number }),
+            Some(ScheduleLine::Empty) => Ok(true),
+            Some(ScheduleLine::Manager(new)) => {
+                let seats = self.seats.as_slice();
+                let deciders = self.deciders.as_slice();
+                let seat = new_seat(topology, seats, deciders, number, new)?;
+                Ok(self.add(seat))
+            }
+            Some(ScheduleLine::Command(named)) => {
+                let seats = self.seats.as_slice();
+                let deciders = self.deciders.as_slice();
+                resolve(topology, seats, deciders, number, named)?;
+                Ok(true)
+            }
         }
-        Some(ScheduleLine::Command(named)) => {
-            resolve(topology, seats.as_slice(), number, named)?;
-            Ok(true)
+    }
+
+    /// Adds the manager of `seat`. Returns `false` if there are 64 of its kind already, and `true` if not.
+    fn add(&mut self, seat: Seat) -> bool
+        ensures { Leaves (Ok (known_with self.old seat (newest_of seat.manner))) (Ok result) self.new }
+    {
+        if seat.manner.newest().is_some() {
+            self.deciders.try_push(seat).is_ok()
+        } else {
+            self.seats.try_push(seat).is_ok()
         }
     }
 }

@@ -1,9 +1,11 @@
 ghost use Rattle.std.specs.Prelude.{◌≡◌};
 ghost use Rattle.text_words.specs.Text.{words};
-ghost use Rattle.schedule_file.specs.Command.{line_of, new_manager, sm_key_in};
+ghost use Rattle.schedule_file.specs.Command.{line_of, new_manager};
+ghost use Rattle.schedule_file.specs.Manner.{manner_in, manner_of};
 ghost use Rattle.text_words.specs.Numbers.{number_up_to};
 
 use crate::manager_name::ManagerName;
+use crate::manner::Manner;
 use crate::named_command::{NamedCommand, PortName, named_command, port_name};
 use crate::numbers::{number_up_to, serial};
 use attr_codec::Priority;
@@ -23,8 +25,7 @@ pub(crate) struct NewManager {
     pub(crate) name: ManagerName,
     pub(crate) at: PortName,
     pub(crate) priority: Priority,
-    /// The SM_Key of a manager of the live conduct; `None` for one of the plain conduct.
-    pub(crate) sm_key: Option<u64>,
+    pub(crate) manner: Manner,
 }
 
 /// Parses a line. Returns `None` if the grammar has no such line.
@@ -53,21 +54,30 @@ fn new_manager(line: &[u8]) -> Option<NewManager>
         name: ManagerName::new(name)?,
         at: port_name(at)?,
         priority: priority_of(priority)?,
-        sm_key: sm_key_in(line)?,
+        manner: manner_in(line)?,
     })
 }
 
-/// Parses `line`, the words that follow the priority of a new manager: none, or `live` and a 64-bit SM_Key in
-/// decimal. Returns `None` for anything else. The inner value is `None` if no word follows.
-fn sm_key_in(line: &[u8]) -> Option<Option<u64>>
-    ensures { result ≡ sm_key_in (words line.now) }
+/// Parses `line`, the words that follow the priority of a new manager: none, or two. Returns `None` for anything else.
+fn manner_in(line: &[u8]) -> Option<Manner>
+    ensures { result ≡ manner_in (words line.now) }
 {
     if split_word(line).is_none() {
-        return Some(None);
+        return Some(Manner::Plain);
     }
-    let (word, key) = two_words(line)?;
+    let (word, number) = two_words(line)?;
+    manner_of(word, number)
+}
+
+/// Parses the two words that follow the priority of a new manager: `live` and a 64-bit SM_Key in decimal, or `decides`
+/// and a generation of up to 4,294,967,294 in decimal. Returns `None` for anything else.
+fn manner_of(word: &[u8], number: &[u8]) -> Option<Manner>
+    ensures { result ≡ manner_of word.now number.now }
+{
     if is_word(word, "live") {
-        Some(Some(serial(key)?))
+        Some(Manner::Live(serial(number)?))
+    } else if is_word(word, "decides") {
+        Some(Manner::Decides(number_up_to(number, 0xFFFF_FFFE)?))
     } else {
         None
     }

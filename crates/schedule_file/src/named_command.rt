@@ -2,8 +2,8 @@
 ghost use Rattle.std.specs.Prelude.{◌≡◌};
 ghost use Rattle.text_words.specs.Text.{words};
 ghost use Rattle.schedule_file.specs.Command.{ask, bare_of, bracketed_number, command_in, floor};
-ghost use Rattle.schedule_file.specs.Command.{merge, of_one, of_two, packet, ping, plug, poll};
-ghost use Rattle.schedule_file.specs.Command.{port_name, show, to_manager, which_of};
+ghost use Rattle.schedule_file.specs.Command.{merge, of_manager, of_one, of_two, packet, ping, plug, poll};
+ghost use Rattle.schedule_file.specs.Command.{port_name, show, to_manager, wait, which_of};
 
 use crate::command::{Ask, Command, Fate, Shown, Which};
 use crate::manager_name::ManagerName;
@@ -20,7 +20,7 @@ pub(crate) struct PortName {
 }
 
 /// A command, as given by its line. The line of a new manager is a `NewManager` instead, and becomes a command once
-/// the seat of the manager is known.
+/// the seat of the manager is known. Whether a manager of which something is shown decides by itself is known then too.
 pub(crate) type NamedCommand = Command<ManagerName, PortName>;
 
 /// Parses a command from `word`, the first word of its line, and `line`, the rest. Returns `None` if the grammar has no
@@ -83,8 +83,22 @@ fn to_manager(word: &[u8], name: &[u8]) -> Option<NamedCommand>
 {
     if let Some(what) = asked_by(word) {
         ask(what, name)
-    } else if is_word(word, "timeout") {
+    } else {
+        of_manager(word, name)
+    }
+}
+
+/// Parses the command that has two words, `word`, which asks a manager for nothing, and a manager's name, `name`.
+/// Returns `None` if the grammar has no such command.
+fn of_manager(word: &[u8], name: &[u8]) -> Option<NamedCommand>
+    ensures { result ≡ of_manager word.now name.now }
+{
+    if is_word(word, "timeout") {
         Some(Command::Timeout(ManagerName::new(name)?))
+    } else if is_word(word, "pause") {
+        Some(Command::Pause(ManagerName::new(name)?))
+    } else if is_word(word, "resume") {
+        Some(Command::Resume(ManagerName::new(name)?))
     } else {
         show(shown_by(word)?, name)
     }
@@ -105,6 +119,8 @@ fn of_two(word: &[u8], one: &[u8], other: &[u8]) -> Option<NamedCommand>
         plug(one, other)
     } else if is_word(word, "ping") {
         ping(one, other)
+    } else if is_word(word, "wait") {
+        wait(one, other)
     } else {
         None
     }
@@ -161,6 +177,13 @@ fn ping(port: &[u8], lid: &[u8]) -> Option<NamedCommand>
 {
     let port = port_name(port)?;
     Some(Command::Ping(port, lid_of(lid)?))
+}
+
+fn wait(time: &[u8], most: &[u8]) -> Option<NamedCommand>
+    ensures { result ≡ wait time.now most.now }
+{
+    let time = number_up_to(time, u32::MAX)?;
+    Some(Command::Wait(time, number_up_to(most, 10_000)?))
 }
 
 /// Parses `word` as the name of a packet in flight: `last`, or a 64-bit serial number in decimal. Returns `None` for

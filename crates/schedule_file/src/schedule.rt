@@ -1,7 +1,9 @@
 ghost use Rattle.std.specs.Prelude.{◌≡◌, [], ◌∷◌, ◌++◌, Ok, Err, IfOk, OnErr};
 ghost use Rattle.text_words.specs.Text.{lines};
 ghost use Rattle.schedule_file.specs.Command.{line_of};
-ghost use Rattle.schedule_file.specs.Schedule.{IsScript, schedule_of, schedule_of_lines, with_line, new_seat};
+ghost use Rattle.schedule_file.specs.Resolve.{managers_in};
+ghost use Rattle.schedule_file.specs.Schedule.{IsScript, empty, new_seat, schedule_of, schedule_of_lines};
+ghost use Rattle.schedule_file.specs.Schedule.{with_line};
 ghost use Rattle.schedule_file.specs.FirstFault.{IsSoundOrCrowded};
 ghost use Rattle.schedule_file.specs.ScheduleFault.{Reads};
 
@@ -9,6 +11,7 @@ use crate::command::Command;
 use crate::first_fault::first_fault;
 use crate::line::{NewManager, ScheduleLine, read_line};
 use crate::manager_name::ManagerName;
+use crate::manner::Manner;
 use crate::resolve::{SeatCommand, is_free, port, resolve, seat};
 use crate::schedule_fault::ScheduleFault;
 use attr_codec::Priority;
@@ -26,8 +29,7 @@ pub struct Seat {
     /// The port at which the manager sits.
     pub at: NodePort,
     pub priority: Priority,
-    /// The SM_Key of a manager of the live conduct; `None` for one of the plain conduct.
-    pub sm_key: Option<u64>,
+    pub manner: Manner,
 }
 
 /// The seat that fills the unused slots of a vector of fixed capacity.
@@ -40,7 +42,7 @@ impl Default for Seat {
                 port: PortNum::MANAGEMENT,
             },
             priority: Priority::new(0).unwrap(),
-            sm_key: None,
+            manner: Manner::Plain,
         }
     }
 }
@@ -49,6 +51,7 @@ impl Default for Seat {
 #[derive(Drop)]
 pub struct Schedule {
     seats: Vec<Seat>,
+    deciders: Vec<Seat>,
     commands: Vec<SeatCommand>,
 }
 
@@ -57,15 +60,22 @@ impl Model for Schedule {
 
     ghost Value = { Script };
 
-    ghost view = { λ a. record { seats = a.seats.items; commands = a.commands.items } };
+    ghost view = { λ a. record { seats = a.seats.items; deciders = a.deciders.items; commands = a.commands.items } };
 }
 
 impl Schedule {
-    /// Returns the managers, in the order of their lines.
+    /// Returns the managers that are asked, in the order of their lines.
     pub fn seats(&self) -> &[Seat]
         ensures { result.now ≡ self.now.seats }
     {
         &self.seats
+    }
+
+    /// Returns the managers that decide by themselves, in the order of their lines.
+    pub fn deciders(&self) -> &[Seat]
+        ensures { result.now ≡ self.now.deciders }
+    {
+        &self.deciders
     }
 
     /// Returns the commands in the order of their lines.
@@ -77,10 +87,11 @@ impl Schedule {
 
     /// Creates an empty schedule.
     fn new(alloc: Global) -> Self
-        ensures { result ≡ record { seats = []; commands = [] } }
+        ensures { result ≡ empty }
     {
         Schedule {
             seats: Vec::new(alloc),
+            deciders: Vec::new(alloc),
             commands: Vec::new(alloc),
         }
     }
@@ -94,17 +105,37 @@ impl Schedule {
             None => Err(ScheduleFault::Syntax { line: number }),
             Some(ScheduleLine::Empty) => Ok(self),
             Some(ScheduleLine::Manager(new)) => {
-                let seat = new_seat(topology, &self.seats, number, new)?;
-                let Schedule { seats, commands } = self;
-                let commands = and_one(commands, Command::Manager(seats.len()))?;
-                let seats = and_one(seats, seat)?;
-                Ok(Schedule { seats, commands })
+                let seat = new_seat(topology, &self.seats, &self.deciders, number, new)?;
+                let Schedule {
+                    seats,
+                    deciders,
+                    commands,
+                } = self;
+                match seat.manner.newest() {
+                    None => {
+                        let commands = and_one(commands, Command::Manager(seats.len()))?;
+                        let seats = and_one(seats, seat)?;
+                        Ok(Schedule {
+                            seats,
+                            deciders,
+                            commands,
+                        })
+                    }
+                    Some(_) => {
+                        let commands = and_one(commands, Command::Decider(deciders.len()))?;
+                        let deciders = and_one(deciders, seat)?;
+                        Ok(Schedule {
+                            seats,
+                            deciders,
+                            commands,
+                        })
+                    }
+                }
             }
             Some(ScheduleLine::Command(named)) => {
-                let command = resolve(topology, &self.seats, number, named)?;
-                let Schedule { seats, commands } = self;
-                let commands = and_one(commands, command)?;
-                Ok(Schedule { seats, commands })
+                let command = resolve(topology, &self.seats, &self.deciders, number, named)?;
+                let commands = and_one(self.commands, command)?;
+                Ok(Schedule { commands, ..self })
             }
         }
     }
@@ -122,35 +153,36 @@ fn and_one<T: Drop>(items: Vec<T>, item: T) -> Result<Vec<T>, ScheduleFault>
 
 /// Builds the seat of the manager `new`, which is from the line `line`. Returns `Name` if the manager's name is
 /// taken, or if no node has the name in `new.at`. Otherwise returns `Seat` if no manager may sit at this port, or if
-/// one of `seats` is there already.
+/// one of `seats` or `deciders` is there already.
 pub(crate) fn new_seat(
     topology: &Topology,
     seats: &[Seat],
+    deciders: &[Seat],
     line: usize,
     new: NewManager,
 ) -> Result<Seat, ScheduleFault>
-    ensures { result ≡ new_seat topology.now.nodes seats.now line new }
+    ensures { result ≡ new_seat topology.now.nodes (managers_in seats.now deciders.now) line new }
 {
     let NewManager {
         name,
         at,
         priority,
-        sm_key,
+        manner,
     } = new;
-    if seat(seats, &name).is_some() {
+    if seat(seats, &name).is_some() || seat(deciders, &name).is_some() {
         return Err(ScheduleFault::Name { line });
     }
     let Some(at) = port(topology, &at) else {
         return Err(ScheduleFault::Name { line });
     };
-    if !is_free(topology, seats, &at) {
+    if !is_free(topology, seats, deciders, &at) {
         return Err(ScheduleFault::Seat { line });
     }
     Ok(Seat {
         name,
         at,
         priority,
-        sm_key,
+        manner,
     })
 }
 
@@ -167,11 +199,14 @@ pub(crate) fn new_seat(
 /// |---|---|
 /// | `manager NAME "node"[port] PRIORITY` | priority 0 to 15 |
 /// | `manager NAME "node"[port] PRIORITY live KEY` | 64-bit SM_Key |
+/// | `manager NAME "node"[port] PRIORITY decides GENERATION` | generation 0 to 4,294,967,294 |
 /// | `sweep NAME`, `write NAME`, `handover NAME`, `yield NAME`, `rediscover NAME`, `timeout NAME` | |
 /// | `poll NAME`, `poll NAME LID` | LID 0 to 65,535 |
 /// | `floor NAME GENERATION` | generation 1 to 4,294,967,295 |
 /// | `facts NAME`, `plan NAME`, `progress NAME`, `silent NAME`, `written NAME`, `state NAME` | |
 /// | `merge NAME NAME` | |
+/// | `pause NAME`, `resume NAME` | |
+/// | `wait MILLISECONDS COUNT` | milliseconds 0 to 4,294,967,295, count 0 to 10,000 |
 /// | `deliver PACKET`, `lose PACKET`, `repeat PACKET` | `last`, or a 64-bit serial number |
 /// | `drain COUNT` | 0 to 1,000,000 |
 /// | `cut "node"[port]`, `plug "node"[port] "node"[port]` | port 0 to 255 |
@@ -179,7 +214,8 @@ pub(crate) fn new_seat(
 /// | `traps`, `resend`, `tables`, `flight` | |
 ///
 /// A manager sits at an adapter's port. Its name is 1 to 16 ASCII letters and digits, and is known after the
-/// manager's own line. For each line, besides parsing it and finding its nodes, takes time linear in the number of
+/// manager's own line. A manager that decides by itself is asked for nothing and merged with nobody, and no other is
+/// paused or resumed. For each line, besides parsing it and finding its nodes, takes time linear in the number of
 /// managers.
 ///
 /// # Errors

@@ -9,6 +9,8 @@ use std::fmt;
 pub enum ScheduleFault {
     /// The grammar has no such line, or a number in the line is out of its range.
     Syntax { line: usize },
+    /// The line asks a manager that decides by itself for something, or is to pause or resume one that does not.
+    Decides { line: usize },
     /// The name of a node or of a manager in the line is unknown, or the name of a new manager is taken. A manager is
     /// known after its own line.
     Name { line: usize },
@@ -27,6 +29,7 @@ impl ScheduleFault {
     {
         match self {
             ScheduleFault::Syntax { .. } => "syntax",
+            ScheduleFault::Decides { .. } => "decides",
             ScheduleFault::Name { .. } => "name",
             ScheduleFault::Seat { .. } => "seat",
             ScheduleFault::Memory => "out of memory",
@@ -39,6 +42,7 @@ impl ScheduleFault {
     {
         match self {
             ScheduleFault::Syntax { line }
+            | ScheduleFault::Decides { line }
             | ScheduleFault::Name { line }
             | ScheduleFault::Seat { line } => Some(line),
             ScheduleFault::Memory => None,

@@ -104,6 +104,7 @@ schedule_judged : (first : ℕ) (nodes : List Node) (text : List ℕ) (fault : S
     → IsRefused first (schedule_fault (first + 1) nodes text) (Text (first + 1) (Schedule fault))
 schedule_judged first nodes text schedule.Memory h e = (inr refl, λ of_text. cc)
 schedule_judged first nodes text (schedule.Syntax line) h e = (inr refl, λ of_text. script_found (first + 1) nodes text _ h e)
+schedule_judged first nodes text (schedule.Decides line) h e = (inr refl, λ of_text. script_found (first + 1) nodes text _ h e)
 schedule_judged first nodes text (schedule.Name line) h e = (inr refl, λ of_text. script_found (first + 1) nodes text _ h e)
 schedule_judged first nodes text (schedule.Seat line) h e = (inr refl, λ of_text. script_found (first + 1) nodes text _ h e)
 
@@ -111,6 +112,7 @@ hides_below : (input : ℕ) (nodes : List Node) (text : List ℕ) (fault : Sched
     → HidesBelowManagers nodes text (Text input (Schedule fault))
 hides_below input nodes text schedule.Memory h = h refl
 hides_below input nodes text (schedule.Syntax line) h = tt
+hides_below input nodes text (schedule.Decides line) h = tt
 hides_below input nodes text (schedule.Name line) h = tt
 hides_below input nodes text (schedule.Seat line) h = tt
 

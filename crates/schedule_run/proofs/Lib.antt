@@ -1,3 +1,4 @@
+pub mod Deciding
 pub mod Doing
 pub mod Judging
 pub mod Merging
@@ -8,3 +9,4 @@ pub mod Seats
 pub mod Sending
 pub mod Turns
 pub mod TwoTexts
+pub mod Waking

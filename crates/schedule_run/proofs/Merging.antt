@@ -7,7 +7,6 @@ use Rattle.std.proofs.Math.ListN.{set}
 use Rattle.std.proofs.lemmas.List.{map-set, set-get_or}
 use Rattle.std.proofs.lemmas.List.Edits.{get_or-remove_above}
 use Rattle.std.proofs.lemmas.Option.{get_or_from_slice_get, slice_get-map}
-use Rattle.fabric_sim.specs.Simulation.{Simulation}
 use Rattle.fact_store.proofs.Merges.{merge_is_idempotent}
 use Rattle.sm_manager.specs.Manager.{Manager, after_merge}
 use Rattle.schedule_run.specs.Commands.{after_merge_line}
@@ -35,13 +34,13 @@ somebody (x ∷ xs) zero h = (x, refl)
 somebody (x ∷ xs) (suc i) h = somebody xs i (omega arith)
 
 -- it takes in what the other knows
-pub merges : (fabric : Simulation) (items now : List Seated) (seat other : ℕ) (s o : Seated) → slice_get items seat ≡ Some s → slice_get items other ≡ Some o
+pub merges : (around : WorldValue) (items now : List Seated) (seat other : ℕ) (s o : Seated) → slice_get items seat ≡ Some s → slice_get items other ≡ Some o
     → now ≡ set items seat (with_one s (after_merge s.manager o.manager.store)) → (before : WorldValue)
-    → before ≡ record { fabric = fabric; managers = map seated_value items }
-    → record { fabric = fabric; managers = map seated_value now } ≡ (after_merge_line before seat other).now
+    → before ≡ record around { managers = map seated_value items }
+    → record around { managers = map seated_value now } ≡ (after_merge_line before seat other).now
 unfolding after_merge_line
-merges fabric items now seat other s o there also same before is =
-    let w : WorldValue = record { fabric = fabric; managers = map seated_value items } in
+merges around items now seat other s o there also same before is =
+    let w : WorldValue = record around { managers = map seated_value items } in
     let call = λ (s o : SeatedValue). quiet (with_manager w seat s (after_merge s.manager o.manager.store)) in
     let one : slice_get w.managers seat ≡ Some (seated_value s) = slice_get-map seated_value items seat ∙ ap (option_map seated_value) there in
     let two : slice_get w.managers other ≡ Some (seated_value o) = slice_get-map seated_value items other ∙ ap (option_map seated_value) also in

@@ -16,15 +16,15 @@ use Rattle.sm_manager.specs.Fault.{is_memory}
 use Rattle.sm_manager.specs.Manager.{Manager, outstanding, emptied}
 use Rattle.sm_manager.specs.declared.fault.ManagerFault.{ManagerFault}
 use Rattle.sm_manager.specs.declared.fault.ManagerFault.TheVariants as manager
-use Rattle.schedule_run.specs.Commands.{after_giving_up, seat_at, after_timeout_line}
+use Rattle.schedule_run.specs.Commands.{after_giving_up, after_timeout_line}
+use Rattle.schedule_run.specs.Delivery.{seat_at}
 use Rattle.schedule_lines.specs.Prints.{PrintsUnless}
 use Rattle.schedule_lines.specs.Outcome.{Outcome}
 use Rattle.schedule_run.specs.World.{Does, SeatedValue, WorldValue, after_ask, after_inject_all, after_manager_call, after_send, after_send_by}
 use Rattle.schedule_lines.specs.Outcome.{and_then, quiet}
-use Rattle.schedule_run.specs.World.{at_seat, seated_value, value_of, with_manager}
+use Rattle.schedule_run.specs.World.{at_seat, decider_value, seated_value, value_of, with_manager}
 use Rattle.schedule_lines.specs.Refusals.{manager_line}
 use Rattle.schedule_lines.specs.declared.run_fault.RunFault.{RunFault}
-use Rattle.schedule_lines.specs.declared.run_fault.RunFault.TheVariants.{Memory}
 use Rattle.schedule_run.specs.declared.world.Seated.{Seated}
 use Rattle.schedule_run.specs.declared.world.World.{World}
 use Rattle.schedule_lines.proofs.Refused.{Refuses, IsMemory, refusal_leaves, refusal_prints, refuses}
@@ -56,13 +56,13 @@ quiet_at w seat after =
 
 -- a manager in its seat that is asked for something --------------------------------------------------
 
-module _ (fabric : Simulation) (items : List Seated) (seat : ℕ) (s : Seated) (within : seat < length items) (is : s ≡ get_or items seat s) where
+module _ (around : WorldValue) (items : List Seated) (seat : ℕ) (s : Seated) (within : seat < length items) (is : s ≡ get_or items seat s) where
   abbrev before : WorldValue
-  before = record { fabric = fabric; managers = map seated_value items }
+  before = record around { managers = map seated_value items }
 
   -- the world with this manager in the seat
   abbrev pub now_with : Manager → WorldValue
-  now_with m = record { fabric = fabric; managers = map seated_value (set items seat (with_one s m)) }
+  now_with m = record around { managers = map seated_value (set items seat (with_one s m)) }
 
   pub at_seat_is : (run : SeatedValue → Outcome WorldValue) → at_seat before seat run ≡ run (seated_value s)
   at_seat_is run = ap (λ o. option_map_or run o (quiet before)) (sits items seat s within is)
@@ -118,13 +118,13 @@ module _ (fabric : Simulation) (items : List Seated) (seat : ℕ) (s : Seated) (
 
   -- all that it has queued goes out
   pub sent_leaves : (fabric' : Simulation) (m : Manager) (result : Result (Unit {0}) RunFault)
-      → OnOk result (fabric' ≡ (after_inject_all fabric s.seat.now.at s.manager.outgoing).now) → OnOk result (m ≡ emptied s.manager)
+      → OnOk result (fabric' ≡ (after_inject_all around.fabric s.seat.now.at s.manager.outgoing).now) → OnOk result (m ≡ emptied s.manager)
       → OnOk result (record (now_with m) { fabric = fabric' } ≡ (after_send before seat).now)
   unfolding after_send
   sent_leaves fabric' m (Err fault) sends empties = tt
   sent_leaves fabric' m (Ok u) sends empties =
       ap (λ f. record (now_with m) { fabric = f }) sends
-      ∙ ap (λ ms. record before { fabric = (after_inject_all fabric s.seat.now.at s.manager.outgoing).now; managers = ms })
+      ∙ ap (λ ms. record before { fabric = (after_inject_all around.fabric s.seat.now.at s.manager.outgoing).now; managers = ms })
       (changes items seat s m ∙ ap (λ m. set (map seated_value items) seat (record (seated_value s) { manager = m })) empties)
       ∙ ap (λ r. r.now) (sym (at_seat_is (after_send_by before seat)))
 
@@ -135,16 +135,22 @@ module _ (old : World) (seat : ℕ) (s : Seated) (within : seat < length old.man
   pub record IsIn (m : Manager) (new : World) : Type 0 where
     pub fabric : new.fabric ≡ old.fabric
     pub managers : new.managers.items ≡ set old.managers.items seat (with_one s m)
+    pub deciders : new.deciders.items ≡ old.deciders.items
+    pub time : new.time ≡ old.time
 
   -- and there are as many as before
   as_many : (m : Manager) (new : World) → new.managers.items ≡ set old.managers.items seat (with_one s m)
       → length new.managers.items ≡ length old.managers.items
   as_many m new e = ap length e ∙ length-set old.managers.items seat (with_one s m)
 
-  value_is : (m : Manager) (new : World) → IsIn m new → value_of new ≡ now_with old.fabric old.managers.items seat s within is m
+  value_is : (m : Manager) (new : World) → IsIn m new → value_of new ≡ now_with (value_of old) old.managers.items seat s within is m
   value_is m new h =
-      let made : Simulation → List Seated → WorldValue = λ f xs. record { fabric = f; managers = map seated_value xs } in
-      ap (λ f. made f new.managers.items) h.fabric ∙ ap (made old.fabric) h.managers
+      λ i. record {
+        fabric = h.fabric i;
+        managers = map seated_value (h.managers i);
+        deciders = map decider_value (h.deciders i);
+        time = h.time i;
+      }
 
   module _ (next : WorldValue → Outcome WorldValue) (fault : Manager → Option ManagerFault) (after : Manager → Manager)
       {W : Type 0} (written : W → Option (List ℕ)) (has_failed : W → Bool) where
@@ -154,9 +160,9 @@ module _ (old : World) (seat : ℕ) (s : Seated) (within : seat < length old.man
         → Does written has_failed old new result sink sink' (after_ask next (value_of old) seat fault after)
     done_does m mid new now none same result sink sink' h = record {
       managers = h.managers ∙ as_many m mid now.managers;
-      leaves = done_leaves old.fabric old.managers.items seat s within is next fault after m none same result (value_of new)
+      leaves = done_leaves (value_of old) old.managers.items seat s within is next fault after m none same result (value_of new)
           (subst (λ w. OnOk result (value_of new ≡ (next w).now)) (value_is m mid now) h.leaves);
-      prints = done_prints old.fabric old.managers.items seat s within is next fault after written has_failed m none same result sink sink'
+      prints = done_prints (value_of old) old.managers.items seat s within is next fault after written has_failed m none same result sink sink'
           (subst (λ w. PrintsUnless written has_failed result sink sink' (next w).text) (value_is m mid now) h.prints);
     }
 
@@ -168,8 +174,8 @@ module _ (old : World) (seat : ℕ) (s : Seated) (within : seat < length old.man
     refused_does m new now given same only result sink sink' memory prints unprinted = record {
       managers = as_many m new now.managers;
       leaves = subst (λ w. OnOk result (w ≡ (after_ask next (value_of old) seat fault after).now)) (sym (value_is m new now))
-          (refused_leaves old.fabric old.managers.items seat s within is next fault after m given same only result memory);
-      prints = refused_prints old.fabric old.managers.items seat s within is next fault after written has_failed given only result sink sink' memory prints
+          (refused_leaves (value_of old) old.managers.items seat s within is next fault after m given same only result memory);
+      prints = refused_prints (value_of old) old.managers.items seat s within is next fault after written has_failed given only result sink sink' memory prints
           unprinted;
     }
 
@@ -183,19 +189,26 @@ module _ (old : World) (seat : ℕ) (s : Seated) (within : seat < length old.man
 
   -- all that it has queued goes out
   pub sent_does : {W : Type 0} (written : W → Option (List ℕ)) (has_failed : W → Bool) (m : Manager) (new : World)
-      → new.managers.items ≡ set old.managers.items seat (with_one s m) → (result : Result (Unit {0}) RunFault) (sink sink' : W)
+      → new.managers.items ≡ set old.managers.items seat (with_one s m) → new.deciders.items ≡ old.deciders.items → new.time ≡ old.time
+      → (result : Result (Unit {0}) RunFault) (sink sink' : W)
       → OnOk result (new.fabric ≡ (after_inject_all old.fabric s.seat.now.at s.manager.outgoing).now) → OnOk result (m ≡ emptied s.manager)
       → PrintsUnless written has_failed result sink sink' (after_inject_all old.fabric s.seat.now.at s.manager.outgoing).text
       → Does written has_failed old new result sink sink' (after_send (value_of old) seat)
   unfolding after_send
-  sent_does written has_failed m new now result sink sink' sends empties prints =
-      let made : Simulation → List Seated → WorldValue = λ f xs. record { fabric = f; managers = map seated_value xs } in
+  sent_does written has_failed m new now same_deciders same_time result sink sink' sends empties prints =
+      let made : record (now_with (value_of old) old.managers.items seat s within is m) { fabric = new.fabric } ≡ value_of new =
+      λ i. record {
+        fabric = new.fabric;
+        managers = map seated_value (sym now i);
+        deciders = map decider_value (sym same_deciders i);
+        time = sym same_time i;
+      } in
       record {
         managers = as_many m new now;
-        leaves = subst (λ w. OnOk result (w ≡ (after_send (value_of old) seat).now)) (sym (ap (made new.fabric) now))
-            (sent_leaves old.fabric old.managers.items seat s within is new.fabric m result sends empties);
+        leaves = subst (λ w. OnOk result (w ≡ (after_send (value_of old) seat).now)) made
+            (sent_leaves (value_of old) old.managers.items seat s within is new.fabric m result sends empties);
         prints = prints_same written has_failed result sink sink' _ _
-            (ap (λ r. r.text) (sym (at_seat_is old.fabric old.managers.items seat s within is (after_send_by (value_of old) seat)))) prints;
+            (ap (λ r. r.text) (sym (at_seat_is (value_of old) old.managers.items seat s within is (after_send_by (value_of old) seat)))) prints;
       }
 
 -- which seat is at a port --------------------------------------------------------------------------------
@@ -211,7 +224,7 @@ found_at w p seat s sits there same before =
     sym (ap (λ b. if b then position (λ s. is_same_port s.at p) w.managers else None) sits
     ∙ ap (λ n. cond (nat_lt n (length w.managers)) (Some n) None) first ∙ ap (λ b. cond b (Some seat) None) (lt-ltb seat (length w.managers) within))
 
-no_index : {X : Type 0} (p : X → Bool) (xs : List X) → ((k : ℕ) (d : X) → k < length xs → p (get_or xs k d) ≡ false) → position p xs ≡ None
+pub no_index : {X : Type 0} (p : X → Bool) (xs : List X) → ((k : ℕ) (d : X) → k < length xs → p (get_or xs k d) ≡ false) → position p xs ≡ None
 no_index p [] none = refl
 no_index p (x ∷ xs) none =
     let n = length (x ∷ xs) in

@@ -8,7 +8,8 @@ use Rattle.schedule_file.specs.Resolve.{SeatCommand}
 use Rattle.std.proofs.Math.Seq.{drop-cons}
 use Rattle.std.proofs.Math.ListN.{drop_of_length-le}
 use Rattle.fabric_sim.specs.declared.flight.Flight.{Flight}
-use Rattle.schedule_run.specs.Commands.{after_command, after_commands, after_drain_line, after_give_up, after_giving_up, after_resend, after_resends, after_step}
+use Rattle.schedule_run.specs.Commands.{after_command, after_commands, after_drain_line, after_give_up, after_giving_up, after_resend, after_resends}
+use Rattle.schedule_run.specs.Delivery.{after_step}
 use Rattle.schedule_lines.specs.Outcome.{and_then, quiet}
 use Rattle.schedule_run.specs.World.{WorldValue}
 

@@ -1,11 +1,12 @@
 -- What each line of a schedule does, what it prints, and what a run prints.
-use Rattle.std.specs.Prelude.{ℕ, zero, suc, ◌+◌, ◌==◌, List, [], ◌∷◌, length, map, position, slice_get, if◌then◌else◌, Option, None, Some, Result, Ok, Err}
+use Rattle.std.specs.Prelude.{ℕ, zero, suc, ◌+◌, ◌==◌, true, false, List, [], ◌∷◌, length, map, slice_get, if◌then◌else◌}
+use Rattle.std.specs.Prelude.{Option, None, Some, Result, Ok, Err}
 use Rattle.std.specs.List.{flat_map}
 use Rattle.std.specs.Option.{option_map_or}
-use Rattle.fabric_model.specs.Cables.{is_same_port}
 use Rattle.fabric_model.specs.declared.cable.NodePort.{NodePort}
 use Rattle.topo_file.specs.Topology.{Layout}
 use Rattle.topo_file.specs.declared.node.Node.{Node}
+use Rattle.schedule_file.specs.Manner.{newest_of, sm_key_of}
 use Rattle.schedule_file.specs.Resolve.{SeatCommand}
 use Rattle.schedule_file.specs.declared.command.Ask.{Ask}
 use Rattle.schedule_file.specs.declared.command.Command.TheVariants as command
@@ -16,28 +17,31 @@ use Rattle.schedule_file.specs.declared.command.Which.{Which}
 use Rattle.schedule_file.specs.declared.schedule.Seat.{Seat}
 use Rattle.fabric_sim.specs.Build.{simulation_of}
 use Rattle.fabric_sim.specs.Changes.{after_cut, after_lose, after_seat, after_plug, after_repeat}
-use Rattle.fabric_sim.specs.Delivery.{after_deliver}
 use Rattle.fabric_sim.specs.FabricFault.{fabric_fault_name}
 use Rattle.fabric_sim.specs.Ping.{ping, ping_fault}
-use Rattle.fabric_sim.specs.Simulation.{Simulation, across, fabric_of, is_seat_at, port_of}
+use Rattle.fabric_sim.specs.Simulation.{Simulation, across, fabric_of, port_of}
 use Rattle.fabric_sim.specs.TrapSending.{after_begin_traps, after_port_change, after_send_trap}
-use Rattle.fabric_sim.specs.declared.delivered.Delivered.{Delivered}
-use Rattle.fabric_sim.specs.declared.delivered.Delivered.TheVariants as delivered_is
 use Rattle.fabric_sim.specs.declared.fabric_fault.FabricFault.{FabricFault}
 use Rattle.fabric_sim.specs.declared.fabric_fault.FabricFault.TheVariants.{NoSuchPacket}
 use Rattle.fabric_sim.specs.declared.flight.Flight.{Flight}
-use Rattle.fabric_sim.specs.declared.packet.Packet.{Packet}
 use Rattle.lft_blocks.specs.Planning.{Planning}
-use Rattle.sm_manager.specs.Manager.{after_raise_floor, after_merge, new_manager, outstanding}
+use Rattle.sm_manager.specs.Manager.{Manager, after_raise_floor, after_merge, new_manager, outstanding}
 use Rattle.sm_manager.specs.Packets as manager
+use Rattle.sm_policy.specs.declared.timing.Timing.{Timing}
+use Rattle.request_window.specs.declared.limits.Limits.{Limits}
+use Rattle.serve_run.specs.Acting.{new_acting}
 use Rattle.schedule_run.specs.NamedPackets.{serial_of}
 use Rattle.schedule_lines.specs.ManagerAsks.{after_asked, asked_fault, text_of}
-use Rattle.schedule_lines.specs.Lines.{flight_line, ping_line, trap_text}
+use Rattle.schedule_lines.specs.Lines.{flight_line, ping_line}
 use Rattle.schedule_lines.specs.Refusals.{refusal_line}
 use Rattle.schedule_lines.specs.Tables.{tables_text}
 use Rattle.schedule_lines.specs.Outcome.{Outcome, and_then, quiet, shows}
 use Rattle.sm_state.specs.Conduct.{conduct_with}
-use Rattle.schedule_run.specs.World.{SeatedValue, WorldValue, after_ask, at_seat, after_fabric_call, after_send, with_manager}
+use Rattle.schedule_run.specs.Deciders.{after_decider_line, after_pause_line, decider_shown}
+use Rattle.schedule_run.specs.Delivery.{after_step}
+use Rattle.schedule_run.specs.Waiting.{after_wait_line}
+use Rattle.schedule_run.specs.World.{DeciderValue, SeatedValue, WorldValue, after_ask, at_seat, after_fabric_call, after_send}
+use Rattle.schedule_run.specs.World.{with_manager}
 
 -- managers -----------------------------------------------------------------------------------------
 
@@ -82,47 +86,6 @@ after_timeout_line w seat =
     at_seat w seat (λ s. and_then (after_giving_up w seat (outstanding s.manager)) (λ now. after_send now seat))
 
 -- packets ------------------------------------------------------------------------------------------
-
--- if `packet` is a trap that the manager of a seat represses, the line of the trap; else empty
-abbrev pub heard_text : WorldValue → ℕ → Packet → List ℕ
-heard_text w seat packet =
-    option_map_or (λ s. trap_text (Some s.name) (manager.noted_trap s.manager packet.bytes)) (slice_get w.managers seat) []
-
--- the manager of a seat takes in a packet; if the packet is a trap that the manager represses, the trap's line is
--- printed. If the manager refuses the packet, the line of the fault is printed instead. Nothing happens if there is
--- no such manager
-abbrev pub after_take : WorldValue → ℕ → Packet → Outcome WorldValue
-after_take w seat packet =
-    after_ask (shows (heard_text w seat packet)) w seat (λ m. (manager.after_packet m packet.bytes (Some packet.slid)).fault)
-    (λ m. (manager.after_packet m packet.bytes (Some packet.slid)).manager)
-
--- the manager of a seat takes in a packet, or refuses it; then the packets that the manager has queued are sent
-unfoldable pub after_take_and_send : WorldValue → ℕ → Packet → Outcome WorldValue
-after_take_and_send w seat packet = and_then (after_take w seat packet) (λ now. after_send now seat)
-
--- the index of the manager that sits at the port `p`; None if no manager sits there
-abbrev pub seat_at : WorldValue → NodePort → Option ℕ
-seat_at w p = if is_seat_at w.fabric p then position (λ s. is_same_port s.at p) w.managers else None
-
--- a packet that is handed up at the port `p` goes to the manager there; if no manager sits there, the packet is
--- dropped
-unfoldable pub after_hand_up : WorldValue → NodePort → Packet → Outcome WorldValue
-after_hand_up w p packet = option_map_or (λ seat. after_take_and_send w seat packet) (seat_at w p) (quiet w)
-
--- the outcome of a delivery: a packet that is handed up goes to the manager at the port; any other delivery leaves
--- the world `w` as it is
-abbrev pub after_arrival : WorldValue → Result Delivered FabricFault → Outcome WorldValue
-after_arrival w (Ok (delivered_is.ToManager p packet)) = after_hand_up w p packet
-after_arrival w (Ok (delivered_is.Moved serial)) = quiet w
-after_arrival w (Ok (delivered_is.Answered serial)) = quiet w
-after_arrival w (Ok (delivered_is.Discarded reason)) = quiet w
-after_arrival w (Err fault) = quiet w
-
--- the packet with the number `serial` takes one step; if the packet is handed up, it goes to the manager at the port.
--- If the fabric refuses the step, the line of the fault is printed instead
-unfoldable pub after_step : WorldValue → ℕ → Outcome WorldValue
-after_step w serial = let called =
-    after_deliver w.fabric serial in and_then (after_fabric_call w called) (λ now. after_arrival now called.result)
 
 -- the packet with the number `serial` takes one step (`deliver`), is lost (`lose`) or is copied (`repeat`)
 abbrev pub after_fate : WorldValue → Fate → ℕ → Outcome WorldValue
@@ -233,11 +196,16 @@ shown_of w seat what = option_map_or (shown_at what) (slice_get w.managers seat)
 -- what a line of a schedule does and prints, in a fabric with `nodes`
 abbrev pub after_command : List Node → WorldValue → SeatCommand → Outcome WorldValue
 after_command nodes w (command.Manager seat) = after_manager_line w seat
+after_command nodes w (command.Decider index) = after_decider_line w index
 after_command nodes w (command.Ask seat what) = after_ask_line w seat what
 after_command nodes w (command.Timeout seat) = after_timeout_line w seat
 after_command nodes w (command.Floor seat floor) = after_floor_line w seat floor
 after_command nodes w (command.Merge seat other) = after_merge_line w seat other
 after_command nodes w (command.Show seat what) = shows (shown_of w seat what) w
+after_command nodes w (command.ShowDecider index what) = shows (decider_shown w index what) w
+after_command nodes w (command.Pause index) = after_pause_line w index false
+after_command nodes w (command.Resume index) = after_pause_line w index true
+after_command nodes w (command.Wait wait most) = after_wait_line w wait most
 after_command nodes w (command.Packet which fate) = after_packet_line w which fate
 after_command nodes w (command.Drain most) = after_drain_line w most
 after_command nodes w (command.Cut p) = after_cut_line w p
@@ -254,19 +222,45 @@ after_commands nodes w [] = quiet w
 after_commands nodes w (command ∷ later) =
     and_then (after_command nodes w command) (λ now. after_commands nodes now later)
 
--- the manager of `seat` before any call, with its name. It plans as `planning` says, and its conduct is live if the
--- seat has an SM_Key. Its port GUID is the GUID of the adapter plus the number of the port
+-- the port GUID of a manager's port: the GUID of the adapter plus the number of the port
+abbrev pub guid_at : List Node → NodePort → ℕ
+guid_at nodes p = option_map_or (λ node. node.guid + p.port) (slice_get nodes p.node) 0
+
+-- the manager of `seat` before any call. It plans as `planning` says, and its conduct is live if the seat has an SM_Key
+abbrev pub manager_of : Planning → List Node → Seat → Manager
+manager_of planning nodes seat =
+    new_manager (guid_at nodes seat.at) seat.at.port seat.priority (conduct_with (sm_key_of seat.manner)) planning
+
+-- the manager of `seat`, which is asked, before any call, with its name
 abbrev pub new_seated : Planning → List Node → Seat → SeatedValue
 new_seated planning nodes seat =
-    let guid = option_map_or (λ node. node.guid + seat.at.port) (slice_get nodes seat.at.node) 0 in
-    let conduct = conduct_with seat.sm_key in
+    record { name = seat.name; at = seat.at; manager = manager_of planning nodes seat }
+
+-- how often managers that decide by themselves do what, and how many requests they have out: as `ibsm manage` without
+-- options
+abbrev pub usual_timing : Timing
+usual_timing = record { every = 10000; poll = 1000; is_strict = false }
+
+abbrev pub usual_limits : Limits
+usual_limits = record { outstanding = 4; tries = 4; timeout = 500 }
+
+-- the manager of `seat`, which decides by itself, before it is told anything, with its name. It is not awake yet
+abbrev pub new_decider : Planning → List Node → Seat → DeciderValue
+new_decider planning nodes seat =
+    let newest = option_map_or (λ newest. newest) (newest_of seat.manner) 0 in
     record {
       name = seat.name;
       at = seat.at;
-      manager = new_manager guid seat.at.port seat.priority conduct planning;
+      acting = new_acting (manager_of planning nodes seat) usual_timing usual_limits newest;
+      is_awake = false;
     }
 
--- the fabric of a topology, whose first packet has the serial number 1, and a manager for each seat
-abbrev pub world_of : Planning → Layout → List Seat → WorldValue
-world_of planning topology seats =
-    record { fabric = simulation_of topology 1; managers = map (new_seated planning topology.nodes) seats }
+-- the fabric of a topology, whose first packet has the serial number 1, and a manager for each seat. The time is 0
+abbrev pub world_of : Planning → Layout → List Seat → List Seat → WorldValue
+world_of planning topology seats deciders =
+    record {
+      fabric = simulation_of topology 1;
+      managers = map (new_seated planning topology.nodes) seats;
+      deciders = map (new_decider planning topology.nodes) deciders;
+      time = 0;
+    }

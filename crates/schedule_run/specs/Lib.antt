@@ -1,5 +1,9 @@
 pub mod Commands
+pub mod Deciders
+pub mod Delivery
 pub mod NamedPackets
 pub mod Run
 pub mod RunText
+pub mod Waiting
 pub mod World
+pub use Rattle.serve_run.specs.Working

@@ -11,7 +11,7 @@ use Rattle.schedule_run.specs.Commands.{after_commands, world_of}
 -- what the run of a schedule prints, with managers that plan as `planning` says
 unfoldable pub script_text : Planning → Layout → Script → List ℕ
 script_text planning topology script =
-    (after_commands topology.nodes (world_of planning topology script.seats) script.commands).text
+    (after_commands topology.nodes (world_of planning topology script.seats script.deciders) script.commands).text
 
 -- what the run of a schedule prints in the fabric of `topology`; nothing if the schedule is refused
 abbrev pub schedule_text : Planning → Layout → Result Script ScheduleFault → List ℕ

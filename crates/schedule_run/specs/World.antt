@@ -17,6 +17,9 @@ use Rattle.schedule_lines.specs.Outcome.{Outcome, and_then, quiet, shows}
 use Rattle.schedule_lines.specs.Prints.{PrintsUnless}
 use Rattle.schedule_lines.specs.declared.run_fault.RunFault.{RunFault}
 use Rattle.schedule_run.specs.NamedPackets.{packet_out}
+use Rattle.serve_run.specs.Acting.{Acting}
+use Rattle.serve_run.specs.Acting.{value_of as acting_value}
+use Rattle.schedule_run.specs.declared.world.Decider.{Decider}
 use Rattle.schedule_run.specs.declared.world.Seated.{Seated}
 use Rattle.schedule_run.specs.declared.world.World.{World}
 
@@ -26,18 +29,40 @@ pub record SeatedValue : Type 0 where
   pub at : NodePort
   pub manager : Manager
 
--- the fabric, and the managers in the order of their seats
+-- a manager that decides by itself, with its name and its seat. It is awake if it is told what happens; it is not
+-- before its own line, nor while it is paused
+pub record DeciderValue : Type 0 where
+  pub name : List ℕ
+  pub at : NodePort
+  pub acting : Acting
+  pub is_awake : Bool
+
+-- the fabric, the managers that are asked and those that decide by themselves, each in the order of their seats, and the
+-- time, in milliseconds
 pub record WorldValue : Type 0 where
   pub fabric : Simulation
   pub managers : List SeatedValue
+  pub deciders : List DeciderValue
+  pub time : ℕ
 
 -- a manager of the code's world, with its name and its seat, as a value
 abbrev pub seated_value : Seated → SeatedValue
 seated_value s = record { name = s.seat.now.name; at = s.seat.now.at; manager = s.manager }
 
+-- a manager that decides by itself, with its name and its seat, as a value
+abbrev pub decider_value : Decider → DeciderValue
+decider_value d =
+    record { name = d.seat.now.name; at = d.seat.now.at; acting = acting_value d.acting; is_awake = d.is_awake }
+
 -- the code's world as a value
 abbrev pub value_of : World → WorldValue
-value_of w = record { fabric = w.fabric; managers = map seated_value w.managers.items }
+value_of w =
+    record {
+      fabric = w.fabric;
+      managers = map seated_value w.managers.items;
+      deciders = map decider_value w.deciders.items;
+      time = w.time;
+    }
 
 -- the fabric ---------------------------------------------------------------------------------------
 

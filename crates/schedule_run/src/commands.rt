@@ -15,8 +15,8 @@ use std::alloc::Global;
 use topo_file::Topology;
 
 /// Runs the commands of `schedule` in the fabric of `topology`, with managers that plan as `planning` says, and
-/// flushes `sink`. The managers of `schedule` must sit at ports of adapters of `topology`, and its commands may name
-/// no other managers.
+/// flushes `sink`. The managers of `schedule` must sit at ports of adapters of `topology`, and its commands may ask no
+/// other managers.
 ///
 /// If the fabric or a manager refuses a call, prints a line and goes on.
 ///
@@ -37,7 +37,8 @@ pub(crate) fn run_commands<W: Sink>(
     ensures flushed { OnOk result (IsTrue (W.is_flushed sink.new)) }
     ensures sink_works { OnOk result (W.has_failed sink.new ≡ false) }
 {
-    let mut world = World::of(alloc, topology, schedule.seats(), planning)?;
+    let seats = schedule.seats();
+    let mut world = World::of(alloc, topology, seats, schedule.deciders(), planning)?;
     for command in schedule.commands() {
         world.execute(alloc, topology, *command, sink)?;
     }
@@ -46,7 +47,7 @@ pub(crate) fn run_commands<W: Sink>(
 }
 
 impl World<'_> {
-    /// Runs `command`. There must be managers at the indices that it names.
+    /// Runs `command`. There must be managers at the indices that it asks.
     fn execute<W: Sink>(
         &mut self,
         alloc: Global,
@@ -60,6 +61,7 @@ impl World<'_> {
     {
         match command {
             Command::Manager(seat) => self.seat(seat, sink),
+            Command::Decider(index) => self.seat_decider(index, sink),
             Command::Ask(seat, what) => self.ask(seat, what, sink),
             Command::Timeout(seat) => self.time_out(alloc, seat, sink),
             Command::Floor(seat, floor) => {
@@ -68,6 +70,16 @@ impl World<'_> {
             }
             Command::Merge(seat, other) => self.merge(seat, other, sink),
             Command::Show(seat, what) => self.show(seat, what, sink),
+            Command::ShowDecider(index, what) => self.show_decider(index, what, sink),
+            Command::Pause(index) => {
+                self.pause(index);
+                Ok(())
+            }
+            Command::Resume(index) => {
+                self.resume(index);
+                Ok(())
+            }
+            Command::Wait(wait, most) => self.wait(wait, most, sink),
             Command::Packet(which, fate) => self.handle_packet(which, fate, sink),
             Command::Drain(most) => self.drain(most, sink),
             Command::Cut(port) => self.cut(port, sink),

@@ -1,7 +1,7 @@
 //! The commands about packets in flight.
 ghost use Rattle.std.specs.Prelude.{◌≡◌, ◌<◌, length};
-ghost use Rattle.schedule_run.specs.Commands.{after_drain_line, after_fate, after_hand_up};
-ghost use Rattle.schedule_run.specs.Commands.{after_packet_line, after_step, after_take};
+ghost use Rattle.schedule_run.specs.Commands.{after_drain_line, after_fate, after_packet_line};
+ghost use Rattle.schedule_run.specs.Delivery.{after_hand_up, after_step, after_take};
 ghost use Rattle.schedule_run.specs.NamedPackets.{serial_of};
 ghost use Rattle.schedule_run.specs.World.{Does, value_of};
 
@@ -77,8 +77,8 @@ impl World<'_> {
     /// Performs one step of the packet in flight with the serial number `serial`. If the packet is handed up to a
     /// manager, the manager takes it in, and the packets that the manager then has queued are sent. If the fabric
     /// refuses the step, prints the refusal.
-    #[tactic(auto, using(schedule_lines::proofs::Printing::prints_then), unfolding(crate::specs::Commands::after_step))]
-    fn deliver<W: Sink>(&mut self, serial: u64, sink: &mut W) -> Result<(), RunFault>
+    #[tactic(auto, using(schedule_lines::proofs::Printing::prints_then), unfolding(crate::specs::Delivery::after_step))]
+    pub(crate) fn deliver<W: Sink>(&mut self, serial: u64, sink: &mut W) -> Result<(), RunFault>
         ensures does { Does W.written W.has_failed self.old self.new result sink.old sink.new
             (after_step (value_of self.old) serial) }
     {
@@ -89,9 +89,9 @@ impl World<'_> {
         }
     }
 
-    /// Hands `packet` to the manager at `port`, and sends the packets that the manager then has queued. If no manager
-    /// sits at `port`, drops `packet`.
-    #[tactic(auto, unfolding(crate::specs::Commands::after_hand_up))]
+    /// Hands `packet` to the manager at `port` that is asked, and sends the packets that the manager then has queued. If
+    /// none sits there, tells the packet to the decider there. If none is there either, drops it.
+    #[tactic(auto, unfolding(crate::specs::Delivery::after_hand_up))]
     fn hand_up<W: Sink>(
         &mut self,
         port: &NodePort,
@@ -102,7 +102,7 @@ impl World<'_> {
             (after_hand_up (value_of self.old) port.now packet.now) }
     {
         let Some(seat) = self.manager_at(port) else {
-            return Ok(());
+            return self.hear(port, packet, sink);
         };
         self.take_in(seat, packet, sink)?;
         self.send(seat, sink)

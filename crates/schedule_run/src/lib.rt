@@ -5,11 +5,14 @@
 mod ask;
 mod cables;
 mod commands;
+mod deciders;
 mod delivery;
 mod merge;
 mod run;
 mod show;
 mod texts;
+mod waiting;
 mod world;
 
 pub use run::run_schedule;
+pub use waiting::WaitTurn;

@@ -1,21 +1,26 @@
 //! A simulated fabric and the managers that sit in it.
 ghost use Rattle.std.specs.Prelude.{◌≡◌, ◌+◌, ◌<◌, true, All, IfOk, IfSome, OnOk, Some, length};
-ghost use Rattle.std.specs.Prelude.{option_map, slice_get};
+ghost use Rattle.std.specs.Prelude.{map, option_map, slice_get};
 ghost use Rattle.schedule_file.specs.Resolve.{is_seat};
 ghost use Rattle.fabric_sim.specs.Changes.{after_inject};
-ghost use Rattle.schedule_run.specs.Commands.{seat_at, world_of};
+ghost use Rattle.schedule_run.specs.Commands.{manager_of, new_decider, new_seated, world_of};
+ghost use Rattle.schedule_run.specs.Delivery.{seat_at};
 ghost use Rattle.schedule_run.specs.NamedPackets.{packet_out};
 ghost use Rattle.schedule_lines.specs.Prints.{PrintsUnless};
 ghost use Rattle.sm_manager.specs.Manager.{emptied};
-ghost use Rattle.schedule_run.specs.World.{after_fabric, after_send, after_inject_all, value_of, Does};
+ghost use Rattle.schedule_run.specs.World.{Does, after_fabric, after_inject_all, after_send, decider_value};
+ghost use Rattle.schedule_run.specs.World.{seated_value, value_of};
 
 use byte_io::Sink;
 use fabric_model::NodePort;
 use fabric_sim::{Fabric, Packet};
 use lft_blocks::Planning;
+use request_window::Limits;
 use schedule_file::Seat;
 use schedule_lines::{RunFault, refuse_fabric};
+use serve_run::ActingManager;
 use sm_manager::{Manager, Outgoing};
+use sm_policy::Timing;
 use sm_state::Conduct;
 use smp_bytes::{Guid, Lid, PERMISSIVE_LID};
 use std::alloc::{AllocError, Global};
@@ -24,6 +29,20 @@ use topo_file::Topology;
 /// The serial number of the first packet that is sent.
 const FIRST_SERIAL: u64 = 1;
 
+/// How often managers that decide by themselves do what, as `ibsm manage` without options.
+const TIMING: Timing = Timing {
+    every: 10_000,
+    poll: 1000,
+    is_strict: false,
+};
+
+/// How many requests managers that decide by themselves have out, as `ibsm manage` without options.
+const LIMITS: Limits = Limits {
+    outstanding: 4,
+    tries: 4,
+    timeout: 500,
+};
+
 /// A manager with its seat.
 #[derive(Drop)]
 pub(crate) struct Seated<'s> {
@@ -31,37 +50,53 @@ pub(crate) struct Seated<'s> {
     pub(crate) manager: Manager,
 }
 
+/// A manager that decides by itself, with its seat.
+#[derive(Drop)]
+pub(crate) struct Decider<'s> {
+    pub(crate) seat: &'s Seat,
+    pub(crate) acting: ActingManager,
+    /// Whether the manager is told what happens. It is not before its own line, nor while it is paused.
+    pub(crate) is_awake: bool,
+}
+
 /// A simulated fabric and the managers that sit in it.
 #[derive(Drop)]
 pub(crate) struct World<'s> {
     pub(crate) fabric: Fabric,
-    /// The managers, in the order of their seats. Until the line that seats a manager is run, the manager does
-    /// nothing, and its port is not a seat of the fabric.
+    /// The managers that are asked, in the order of their seats. Until the line that seats a manager is run, the
+    /// manager does nothing, and its port is not a seat of the fabric.
     pub(crate) managers: Vec<Seated<'s>>,
+    /// The managers that decide by themselves, in the order of their seats.
+    pub(crate) deciders: Vec<Decider<'s>>,
+    /// The time in milliseconds.
+    pub(crate) time: u64,
 }
 
 impl<'s> World<'s> {
-    /// Builds the fabric of `topology`, and creates a manager for each of `seats` that plans as `planning` says. Each
-    /// seat must be at a port of an adapter of `topology`. Returns an error if memory runs out.
+    /// Builds the fabric of `topology`, and creates a manager for each of `seats` that plans as `planning` says, and one
+    /// for each of `deciders` that decides by itself. Each seat must be at a port of an adapter of `topology`. Returns an
+    /// error if memory runs out.
     pub(crate) fn of(
         alloc: Global,
         topology: &Topology,
         seats: &'s [Seat],
+        deciders: &'s [Seat],
         planning: &Planning,
     ) -> Result<World<'s>, AllocError>
-        requires { All (λ seat. is_seat topology.now.nodes seat.at ≡ true) seats.now }
-        ensures { IfOk result (λ world. value_of world ≡ world_of planning.now topology.now seats.now) }
+        requires seats { All (λ seat. is_seat topology.now.nodes seat.at ≡ true) seats.now }
+        requires deciders { All (λ seat. is_seat topology.now.nodes seat.at ≡ true) deciders.now }
+        ensures { IfOk result (λ world. value_of world
+            ≡ world_of planning.now topology.now seats.now deciders.now) }
     {
         let fabric = Fabric::of(alloc, topology, FIRST_SERIAL)?;
-        let mut managers = Vec::with_capacity(alloc, seats.len())?;
-        for seat in seats {
-            let guid = port_guid(topology, &seat.at);
-            let own = planning.try_clone(alloc)?;
-            let conduct = Conduct::with(seat.sm_key);
-            let manager = Manager::new(alloc, guid, seat.at.port, seat.priority, conduct, own);
-            managers.push(Seated { seat, manager })?;
-        }
-        Ok(World { fabric, managers })
+        let managers = seat_all(alloc, topology, seats, planning)?;
+        let deciders = decide_all(alloc, topology, deciders, planning)?;
+        Ok(World {
+            fabric,
+            managers,
+            deciders,
+            time: 0,
+        })
     }
 
     /// Sends all packets that the manager at index `seat` has queued. There must be a manager at this index. Prints a
@@ -93,6 +128,71 @@ impl<'s> World<'s> {
     }
 }
 
+/// Creates a manager for each of `seats`, which is asked and plans as `planning` says. Each seat must be at a port of an
+/// adapter of `topology`. Returns an error if memory runs out.
+fn seat_all<'s>(
+    alloc: Global,
+    topology: &Topology,
+    seats: &'s [Seat],
+    planning: &Planning,
+) -> Result<Vec<Seated<'s>>, AllocError>
+    requires { All (λ seat. is_seat topology.now.nodes seat.at ≡ true) seats.now }
+    ensures { IfOk result (λ managers. map seated_value managers.items
+        ≡ map (new_seated planning.now topology.now.nodes) seats.now) }
+{
+    let mut managers = Vec::with_capacity(alloc, seats.len())?;
+    for seat in seats {
+        let manager = new_manager(alloc, topology, seat, planning)?;
+        managers.push(Seated { seat, manager })?;
+    }
+    Ok(managers)
+}
+
+/// Creates a manager for each of `seats`, which decides by itself and plans as `planning` says. Each seat must be at a
+/// port of an adapter of `topology`. Returns an error if memory runs out.
+fn decide_all<'s>(
+    alloc: Global,
+    topology: &Topology,
+    seats: &'s [Seat],
+    planning: &Planning,
+) -> Result<Vec<Decider<'s>>, AllocError>
+    requires { All (λ seat. is_seat topology.now.nodes seat.at ≡ true) seats.now }
+    ensures { IfOk result (λ deciders. map decider_value deciders.items
+        ≡ map (new_decider planning.now topology.now.nodes) seats.now) }
+{
+    let mut deciders = Vec::with_capacity(alloc, seats.len())?;
+    for seat in seats {
+        let manager = new_manager(alloc, topology, seat, planning)?;
+        let newest = seat.manner.newest().unwrap_or(0);
+        let acting = ActingManager::new(alloc, manager, TIMING, LIMITS, newest);
+        deciders.push(Decider {
+            seat,
+            acting,
+            is_awake: false,
+        })?;
+    }
+    Ok(deciders)
+}
+
+/// Creates the manager of `seat`, which plans as `planning` says. The seat must be at a port of an adapter of `topology`.
+/// Returns an error if memory runs out.
+fn new_manager(
+    alloc: Global,
+    topology: &Topology,
+    seat: &Seat,
+    planning: &Planning,
+) -> Result<Manager, AllocError>
+    requires { is_seat topology.now.nodes seat.now.at ≡ true }
+    ensures { IfOk result (λ manager. manager
+        ≡ manager_of planning.now topology.now.nodes seat.now) }
+{
+    let guid = port_guid(topology, &seat.at);
+    let own = planning.try_clone(alloc)?;
+    let conduct = Conduct::with(seat.manner.sm_key());
+    let port = seat.at.port;
+    Ok(Manager::new(alloc, guid, port, seat.priority, conduct, own))
+}
+
 /// Sends all packets that `manager` has queued from the port `from`, in the order of the queue. Prints a line for
 /// each packet that the fabric refuses.
 fn send_outgoing<W: Sink>(
@@ -113,7 +213,7 @@ fn send_outgoing<W: Sink>(
 }
 
 /// Sends `outgoing` from the port `from`. If the fabric refuses the packet, prints the refusal.
-fn send_one<W: Sink>(
+pub(crate) fn send_one<W: Sink>(
     fabric: &mut Fabric,
     from: &NodePort,
     outgoing: &Outgoing,

@@ -72,9 +72,14 @@ note_text (Writes cause) = cause_text cause
 note_text (Did act) = act_word act
 note_text (Refused act) = codes "refused " ++ act_word act
 
--- the line of a note
-unfoldable pub note_line : Note → List ℕ
-note_line note = codes "note " ++ note_text note ++ codes "\n"
+-- how the line of a note begins, with a manager's name if there is one
+abbrev pub note_front : Option (List ℕ) → List ℕ
+note_front None = codes "note "
+note_front (Some manager) = codes "note " ++ manager ++ codes " "
+
+-- the line of a note, with the manager's name if there is one
+unfoldable pub note_line : Option (List ℕ) → Note → List ℕ
+note_line manager note = note_front manager ++ note_text note ++ codes "\n"
 
 -- when the manager is to be told the time next, in decimal; `never` if it waits for packets alone, or has left
 abbrev pub wake_text : Option ℕ → List ℕ
@@ -111,7 +116,7 @@ after_manage a Wrong = shows (codes "syntax\n") a
 
 -- what the manager has to give out: its notes, the oldest one first, and then the packets that are ready to be sent
 abbrev pub given_out : Acting → Outcome Acting
-given_out a = shows (flat_map note_line a.notes ++ flat_map send_line a.ready) (given_away a)
+given_out a = shows (flat_map (note_line None) a.notes ++ flat_map send_line a.ready) (given_away a)
 
 -- the whole outcome of a line: what it does, what the manager has then to give out, when the manager is to be told the
 -- time next, and the line that ends the answer

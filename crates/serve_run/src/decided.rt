@@ -5,12 +5,12 @@ ghost use Rattle.std.specs.List.{flat_map};
 ghost use Rattle.acting_manager.specs.Acting.{value_of};
 ghost use Rattle.acting_manager.specs.Working.{given_away};
 ghost use Rattle.schedule_lines.specs.Prints.{PrintsUnless};
-ghost use Rattle.serve_run.specs.Decided.{after_manage, after_word, decided, given_out, note_line, wake_line};
+ghost use Rattle.serve_run.specs.Decided.{after_manage, after_word, decided, given_out, wake_line};
 ghost use Rattle.serve_run.specs.Lives.{Lives};
 ghost use Rattle.serve_run.specs.Served.{send_line};
 
 use crate::managers::show_managers;
-use crate::notes::{write_note, write_wake};
+use crate::notes::{note_all, write_wake};
 use crate::outgoing::{write_outgoing, write_sa};
 use crate::served::{end_answer, print};
 use acting_manager::ActingManager;
@@ -78,20 +78,8 @@ fn give_out<W: Sink>(acting: &mut ActingManager, sink: &mut W) -> Result<(), Run
     ensures gives { Lives W.written W.has_failed (value_of acting.new) result sink.old sink.new
         (given_out (value_of acting.old)) }
 {
-    note_all(acting, sink)?;
+    note_all(sink, None, acting)?;
     send_ready(acting, sink)
-}
-
-/// Prints a line for each note, the oldest one first, and takes the notes out.
-fn note_all<W: Sink>(acting: &mut ActingManager, sink: &mut W) -> Result<(), RunFault>
-    ensures acting { OnOk result (value_of acting.new ≡ record (value_of acting.old) { notes = [] }) }
-    ensures prints { PrintsUnless W.written W.has_failed result sink.old sink.new
-        (flat_map note_line (value_of acting.old).notes) }
-{
-    while let Some(note) = acting.take_note() {
-        write_note(sink, &note)?;
-    }
-    Ok(())
 }
 
 /// Prints a line for each packet that is ready to be sent, the next one first, and takes the packets out.

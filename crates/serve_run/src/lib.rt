@@ -10,6 +10,8 @@ mod serve_fault;
 mod served;
 mod server;
 
+pub use acting_manager::ActingManager;
+pub use notes::note_all;
 pub use seated::ServedManager;
 pub use serve_fault::ServeFault;
 pub use server::serve;

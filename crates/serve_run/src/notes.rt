@@ -1,24 +1,60 @@
 //! The lines of what a manager that decides by itself notes, and of when it is to be told the time next.
-ghost use Rattle.std.specs.Prelude.{◌≡◌, ◌++◌};
+ghost use Rattle.std.specs.Prelude.{◌≡◌, ◌++◌, [], OnOk};
+ghost use Rattle.std.specs.List.{flat_map};
+ghost use Rattle.acting_manager.specs.Acting.{value_of};
 ghost use Rattle.byte_io.specs.Writes.{Writes};
-ghost use Rattle.schedule_lines.specs.Lines.{answer_word};
-ghost use Rattle.serve_run.specs.Decided.{act_word, cause_text, note_line, note_text, ports_text, settled_text};
-ghost use Rattle.serve_run.specs.Decided.{for_ports_text, unanswered_text, wake_line, wake_text};
+ghost use Rattle.schedule_lines.specs.Lines.{answer_word, name_of};
+ghost use Rattle.schedule_lines.specs.Prints.{PrintsUnless};
+ghost use Rattle.serve_run.specs.Decided.{act_word, cause_text, note_front, note_line, note_text, ports_text};
+ghost use Rattle.serve_run.specs.Decided.{for_ports_text, settled_text, unanswered_text, wake_line, wake_text};
 
 use crate::outgoing::write_hex;
-use acting_manager::Note;
+use acting_manager::{ActingManager, Note};
 use byte_io::{Sink, WriteFault, write_number};
+use schedule_lines::RunFault;
 use sm_policy::{Act, Ports, WriteCause};
 use smp_bytes::Smp;
 
-/// Writes the line of `note`.
-#[tactic(auto, unfolding(crate::specs::Decided::note_line))]
-pub(crate) fn write_note<W: Sink>(sink: &mut W, note: &Note) -> Result<(), WriteFault>
-    ensures writes { Writes W.written W.has_failed result sink.old sink.new (note_line note.now) }
+/// Prints a line for each note of `acting`, the oldest one first, and takes the notes out. The lines have the manager's
+/// name `name`, unless it is `None`.
+pub fn note_all<W: Sink>(
+    sink: &mut W,
+    name: Option<&str>,
+    acting: &mut ActingManager,
+) -> Result<(), RunFault>
+    ensures acting { OnOk result (value_of acting.new ≡ record (value_of acting.old) { notes = [] }) }
+    ensures prints { PrintsUnless W.written W.has_failed result sink.old sink.new
+        (flat_map (note_line (name_of name.entry)) (value_of acting.old).notes) }
 {
-    sink.write(b"note ")?;
+    while let Some(note) = acting.take_note() {
+        write_note(sink, name, &note)?;
+    }
+    Ok(())
+}
+
+/// Writes the line of `note`, with the manager's name `name` unless it is `None`.
+#[tactic(auto, unfolding(crate::specs::Decided::note_line))]
+fn write_note<W: Sink>(sink: &mut W, name: Option<&str>, note: &Note) -> Result<(), WriteFault>
+    ensures writes { Writes W.written W.has_failed result sink.old sink.new
+        (note_line (name_of name.entry) note.now) }
+{
+    write_front(sink, name)?;
     write_noted(sink, note)?;
     sink.write(b"\n")
+}
+
+/// Writes the beginning of the line of a note, with the manager's name `name` unless it is `None`.
+fn write_front<W: Sink>(sink: &mut W, name: Option<&str>) -> Result<(), WriteFault>
+    ensures writes { Writes W.written W.has_failed result sink.old sink.new (note_front (name_of name.entry)) }
+{
+    match name {
+        None => sink.write(b"note "),
+        Some(name) => {
+            sink.write(b"note ")?;
+            sink.write(name.as_bytes())?;
+            sink.write(b" ")
+        }
+    }
 }
 
 /// Writes what `note` says.

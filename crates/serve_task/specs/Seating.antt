@@ -1,6 +1,6 @@
 -- A manager that is to be served, as one that does what lines say, or one that decides by itself.
 use Rattle.sm_manager.specs.Manager.{Manager}
-use Rattle.acting_manager.specs.Acting.{new_acting}
+use Rattle.serve_run.specs.Acting.{new_acting}
 use Rattle.serve_run.specs.Seat.{Seat}
 use Rattle.serve_run.specs.Seat as seat
 use Rattle.serve_task.specs.declared.seating.Seating.{Seating}

@@ -2,9 +2,8 @@ ghost use Rattle.std.specs.Prelude.{◌≡◌};
 ghost use Rattle.serve_run.specs.Seat.{seat_of};
 ghost use Rattle.serve_task.specs.Seating.{seat_for};
 
-use acting_manager::ActingManager;
 use request_window::Limits;
-use serve_run::ServedManager;
+use serve_run::{ActingManager, ServedManager};
 use sm_manager::Manager;
 use sm_policy::Timing;
 use std::alloc::Global;

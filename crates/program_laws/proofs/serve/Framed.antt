@@ -444,7 +444,7 @@ noted_passes (note.Writes what) = cause_passes what
 noted_passes (note.Did what) = act_passes what
 noted_passes (note.Refused what) = mid (codes "refused ") refl refl then act_passes what
 
-note_passes : (what : Note) → Passes true (note_line what) true
+note_passes : (what : Note) → Passes true (note_line None what) true
 unfolding note_line
 note_passes what = head (codes "note ") refl refl then noted_passes what then newline
 
@@ -479,9 +479,9 @@ deciding_ends : (a : Acting) (line : ManageLine) → EndsOnce (decided a line).t
 unfolding decided
 deciding_ends a line =
     let o = after_manage a line in
-    let notes = flat_map note_line o.now.notes in
+    let notes = flat_map (note_line None) o.now.notes in
     let sends = flat_map send_line o.now.ready in
-    let gives = and_then notes sends (each note_line note_passes o.now.notes) (each send_line send_passes o.now.ready) in
+    let gives = and_then notes sends (each (note_line None) note_passes o.now.notes) (each send_line send_passes o.now.ready) in
     let said = and_then o.text (notes ++ sends) (manage_passes a line) gives in
     let p = and_then (o.text ++ (notes ++ sends)) (wake_line (wake_of o.now)) said (wake_passes (wake_of o.now)) in
     record {

@@ -21,7 +21,7 @@ loop-command-init g c =
     let nodes = c.args.topology.now.nodes in
     record {
       managers = sym (length-map c.in_ok-world.world.managers.items seated_value) ∙ ap (λ w. length w.managers) c.in_ok-world.ensures
-          ∙ length-map c.seats.result.now (new_seated c.args.planning.now nodes) ∙ ap length c.seats.ensures;
+          ∙ length-map c.seats-seats.result.now (new_seated c.args.planning.now nodes) ∙ ap length c.seats-seats.ensures;
       runs = begins g.W.Sink.written g.W.Sink.has_failed c.args.sink.now
           (after_commands nodes (value_of c.in_ok-world.world) c.commands-command-items.result.now);
     }
@@ -60,7 +60,7 @@ returns-in_err-execute-clause-prints g c =
     let there = slice_get_read items (length items) i command refl c.loop-command-test.true c.command-item.is in
     let all = ap (λ xs. after_commands nodes (value_of c.in_ok-world.world) xs) c.commands-command-items.ensures
     ∙ ap (λ v. after_commands nodes v c.args.schedule.now.commands)
-    (c.in_ok-world.ensures ∙ ap (world_of c.args.planning.now c.args.topology.now) c.seats.ensures) in
+    (c.in_ok-world.ensures ∙ (λ i. world_of c.args.planning.now c.args.topology.now (c.seats-seats.ensures i) (c.deciders.ensures i))) in
     rw (p.1, p.2) (prints_same g.W.Sink.written g.W.Sink.has_failed (failed_with c.in_err-execute.field-0.0) c.args.sink.now c.execute.new.sink _ _
     (ap (λ r. r.text) all)
     (stops_in g.W.Sink.written g.W.Sink.has_failed c.in_err-execute.field-0.0 c.args.sink.now c.loop-command.sink c.execute.new.sink whole
@@ -77,7 +77,7 @@ returns-clause-prints g c =
     let whole = after_commands nodes (value_of c.in_ok-world.world) items in
     let all = ap (λ xs. after_commands nodes (value_of c.in_ok-world.world) xs) c.commands-command-items.ensures
     ∙ ap (λ v. after_commands nodes v c.args.schedule.now.commands)
-    (c.in_ok-world.ensures ∙ ap (world_of c.args.planning.now c.args.topology.now) c.seats.ensures) in
+    (c.in_ok-world.ensures ∙ (λ i. world_of c.args.planning.now c.args.topology.now (c.seats-seats.ensures i) (c.deciders.ensures i))) in
     let Printed : List ℕ → Type 0 = Prints g.W.Sink.written g.W.Sink.has_failed c.args.sink.now c.flush.new.self in
     subst Printed (append-nil whole.text ∙ ap (λ r. r.text) all)
     (prints_both g.W.Sink.written g.W.Sink.has_failed c.args.sink.now c.loop-command.sink c.flush.new.self whole.text []
@@ -106,5 +106,9 @@ returns-in_err-flush-clause-prints g c =
     let p = err_from_is_err_and c.from_residual-in_err-flush.result c.from_residual-in_err-flush.ensures.1 in
     rw (p.1, p.2) (c.in_err-flush.ensures.writes.failed.0 refl)
 
-pub of-requires : goal.of-requires
-of-requires g c = subst (All (λ (seat : Seat). is_seat c.args.topology.now.nodes seat.at ≡ true)) (sym c.seats.ensures) c.requires.seats
+pub of-requires-clause-deciders : goal.of-requires-clause-deciders
+of-requires-clause-deciders g c =
+    subst (All (λ (seat : Seat). is_seat c.args.topology.now.nodes seat.at ≡ true)) (sym c.deciders.ensures) c.requires.deciders
+
+pub of-requires-clause-seats : goal.of-requires-clause-seats
+of-requires-clause-seats g c = subst (All (λ (seat : Seat). is_seat c.args.topology.now.nodes seat.at ≡ true)) (sym c.seats-seats.ensures) c.requires.seats

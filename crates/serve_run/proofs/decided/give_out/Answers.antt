@@ -1,4 +1,4 @@
-use Rattle.std.proofs.Common.{◌≡◌, ap, subst}
+use Rattle.std.proofs.Common.{◌≡◌, None, ap, subst}
 use Rattle.std.proofs.lemmas.Result.{err_from_is_err_and}
 use Rattle.std.specs.List.{flat_map}
 use Rattle.std.specs.Prelude.{OnOk}
@@ -17,7 +17,7 @@ returns-in_err-note_all g c =
       gives = rw (p.1, p.2) (record {
         leaves = tt;
         prints = ends_in g.W.Sink.written g.W.Sink.has_failed c.in_err-note_all.field-0.0 c.args.sink.now c.note_all.new.sink
-            (flat_map note_line a.notes) (flat_map send_line a.ready) c.in_err-note_all.ensures.prints;
+            (flat_map (note_line None) a.notes) (flat_map send_line a.ready) c.in_err-note_all.ensures.prints;
       });
     }
 
@@ -30,7 +30,7 @@ returns g c =
       gives = record {
         leaves = subst (λ (left : Acting). OnOk c.send_ready.result (new ≡ unready left)) told c.send_ready.ensures.acting;
         prints = prints_then g.W.Sink.written g.W.Sink.has_failed c.send_ready.result c.args.sink.now c.note_all.new.sink c.send_ready.new.sink
-            (flat_map note_line a.notes) (flat_map send_line a.ready) c.in_ok-note_all.ensures.prints
+            (flat_map (note_line None) a.notes) (flat_map send_line a.ready) c.in_ok-note_all.ensures.prints
             (prints_same g.W.Sink.written g.W.Sink.has_failed c.send_ready.result c.note_all.new.sink c.send_ready.new.sink _ _
             (ap (λ (left : Acting). flat_map send_line left.ready) told) c.send_ready.ensures.prints);
       };

@@ -11,7 +11,7 @@ unfolding after_ask_line
 returns-in-Err g c = record {
   does = refused_does c.args.self.now c.args.seat c.index_mut.result.now c.requires c.index_mut.ensures.value
       (λ now. after_send now c.args.seat) (asked_fault c.args.what) (after_asked c.args.what) g.W.Sink.written g.W.Sink.has_failed
-      c.ask_manager.new.manager _ (record { fabric = refl; managers = refl }) c.in-Err.fault c.in-Err.ensures.err
+      c.ask_manager.new.manager _ (record { fabric = refl; managers = refl; deciders = refl; time = refl }) c.in-Err.fault c.in-Err.ensures.err
       (but_for_memory c.in-Err.fault _ c.in-Err.ensures.judged) c.refuse_manager.result _ _ c.refuse_manager.ensures.memory
       c.refuse_manager.ensures.prints c.refuse_manager.ensures.unprinted;
 }
@@ -21,6 +21,6 @@ unfolding after_ask_line
 returns g c = record {
   does = done_does c.args.self.now c.args.seat c.index_mut.result.now c.requires c.index_mut.ensures.value
       (λ now. after_send now c.args.seat) (asked_fault c.args.what) (after_asked c.args.what) g.W.Sink.written g.W.Sink.has_failed
-      c.ask_manager.new.manager _ _ (record { fabric = refl; managers = refl }) c.in_default.ensures.judged c.in_default.ensures.ok
+      c.ask_manager.new.manager _ _ (record { fabric = refl; managers = refl; deciders = refl; time = refl }) c.in_default.ensures.judged c.in_default.ensures.ok
       c.send.result _ _ c.send.ensures.does;
 }

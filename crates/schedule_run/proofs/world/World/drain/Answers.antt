@@ -1,6 +1,7 @@
 use Rattle.std.proofs.Common.{◌∙◌, ◌+◌, ◌-◌, ap, subst, sym}
 use Rattle.std.proofs.lemmas.Result.{err_from_is_err_and}
-use Rattle.schedule_run.specs.Commands.{after_drain_line, after_step}
+use Rattle.schedule_run.specs.Commands.{after_drain_line}
+use Rattle.schedule_run.specs.Delivery.{after_step}
 use Rattle.schedule_lines.specs.Outcome.{Outcome}
 use Rattle.schedule_run.specs.World.{WorldValue, value_of}
 use Rattle.schedule_lines.proofs.Printing.{IsUnderWay, goes_on, is_over, stops_in}

@@ -1,9 +1,10 @@
-use Rattle.std.proofs.Common.{◌≡◌, ◌∙◌, ℕ, List, [], ap, length, subst, sym}
+use Rattle.std.proofs.Common.{◌≡◌, ◌∙◌, ℕ, List, [], true, false, ap, length, subst, sym}
 use Rattle.schedule_file.specs.Schedule.{NamesManagers}
 use Rattle.sm_manager.specs.Manager.{after_raise_floor}
 use Rattle.schedule_run.specs.Commands.{after_command, after_floor_line}
 use Rattle.schedule_lines.specs.Prints.{Prints}
 use Rattle.schedule_run.specs.World.{value_of, with_manager}
+use Rattle.schedule_run.proofs.Deciding.{pause_quiet}
 use Rattle.schedule_run.proofs.Doing.{does_same, does_show}
 use Rattle.schedule_lines.proofs.Printing.{prints_nothing}
 use Rattle.schedule_run.proofs.Seats.{quiet_at}
@@ -30,6 +31,56 @@ pub returns-in-Manager : goal.returns-in-Manager
 returns-in-Manager g c = record {
   does = does_same g.W.Sink.written g.W.Sink.has_failed c.args.self.now c.seat.new.self c.seat.result c.args.sink.now c.seat.new.sink _ _
       (ap (after_command c.args.topology.now.nodes (value_of c.args.self.now)) (sym c.in-Manager.is)) c.seat.ensures.does;
+}
+
+pub returns-in-Decider : goal.returns-in-Decider
+returns-in-Decider g c = record {
+  does = does_same g.W.Sink.written g.W.Sink.has_failed c.args.self.now c.seat_decider.new.self c.seat_decider.result c.args.sink.now c.seat_decider.new.sink _ _
+      (ap (after_command c.args.topology.now.nodes (value_of c.args.self.now)) (sym c.in-Decider.is)) c.seat_decider.ensures.does;
+}
+
+pub returns-in-Wait : goal.returns-in-Wait
+returns-in-Wait g c = record {
+  does = does_same g.W.Sink.written g.W.Sink.has_failed c.args.self.now c.wait.new.self c.wait.result c.args.sink.now c.wait.new.sink _ _
+      (ap (after_command c.args.topology.now.nodes (value_of c.args.self.now)) (sym c.in-Wait.is)) c.wait.ensures.does;
+}
+
+pub returns-in-Pause : goal.returns-in-Pause
+returns-in-Pause g c =
+    let w = value_of c.args.self.now in
+    let nodes = c.args.topology.now.nodes in
+    let none : (after_command nodes w c.args.command).text ≡ [] =
+    ap (λ k. (after_command nodes w k).text) c.in-Pause.is ∙ pause_quiet w c.in-Pause.index false in
+    record {
+      does = record {
+        managers = ap (λ ms. length ms.items) c.pause.ensures.managers;
+        leaves = c.pause.ensures.leaves ∙ ap (λ k. (after_command nodes w k).now) (sym c.in-Pause.is);
+        prints = subst (λ (t : List ℕ). Prints g.W.Sink.written g.W.Sink.has_failed c.args.sink.now c.args.sink.now t) (sym none)
+            (prints_nothing g.W.Sink.written g.W.Sink.has_failed c.args.sink.now);
+      };
+    }
+
+pub returns-in-Resume : goal.returns-in-Resume
+returns-in-Resume g c =
+    let w = value_of c.args.self.now in
+    let nodes = c.args.topology.now.nodes in
+    let none : (after_command nodes w c.args.command).text ≡ [] =
+    ap (λ k. (after_command nodes w k).text) c.in-Resume.is ∙ pause_quiet w c.in-Resume.index true in
+    record {
+      does = record {
+        managers = ap (λ ms. length ms.items) c.resume.ensures.managers;
+        leaves = c.resume.ensures.leaves ∙ ap (λ k. (after_command nodes w k).now) (sym c.in-Resume.is);
+        prints = subst (λ (t : List ℕ). Prints g.W.Sink.written g.W.Sink.has_failed c.args.sink.now c.args.sink.now t) (sym none)
+            (prints_nothing g.W.Sink.written g.W.Sink.has_failed c.args.sink.now);
+      };
+    }
+
+pub returns-in-ShowDecider : goal.returns-in-ShowDecider
+returns-in-ShowDecider g c = record {
+  does = does_same g.W.Sink.written g.W.Sink.has_failed c.args.self.now c.args.self.now c.show_decider.result c.args.sink.now c.show_decider.new.sink _ _
+      (ap (after_command c.args.topology.now.nodes (value_of c.args.self.now)) (sym c.in-ShowDecider.is))
+      (does_show g.W.Sink.written g.W.Sink.has_failed c.args.self.now c.show_decider.result c.args.sink.now c.show_decider.new.sink _
+      c.show_decider.ensures.prints);
 }
 
 pub returns-in-Ask : goal.returns-in-Ask

@@ -27,7 +27,7 @@ returns-in-Ok g c =
     record {
       does = record {
         managers = c.in-Ok.ensures.managers;
-        leaves = merges c.args.self.now.fabric items _ c.args.seat c.args.other s.0 o.0 s.1 o.1 (c.in-Ok.ensures.ok s.0 o.0 s.1 o.1) _ refl;
+        leaves = merges w items _ c.args.seat c.args.other s.0 o.0 s.1 o.1 (c.in-Ok.ensures.ok s.0 o.0 s.1 o.1) _ refl;
         prints = subst Printed (sym (merge_quiet w c.args.seat c.args.other)) (prints_nothing g.W.Sink.written g.W.Sink.has_failed c.args.sink.now);
       };
     }

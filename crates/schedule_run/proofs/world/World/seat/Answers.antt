@@ -15,7 +15,7 @@ returns-in-Ok g c =
     let s = c.index.result.now in
     record {
       does = does_same g.W.Sink.written g.W.Sink.has_failed world _ _ c.args.sink.now c.args.sink.now _ _
-          (sym (at_seat_is world.fabric world.managers.items c.args.seat s c.requires c.index.ensures (λ s. after_fabric_call w (after_seat w.fabric s.at))))
+          (sym (at_seat_is w world.managers.items c.args.seat s c.requires c.index.ensures (λ s. after_fabric_call w (after_seat w.fabric s.at))))
           (calls_fabric g.W.Sink.written g.W.Sink.has_failed world c.seat.new.self (after_seat world.fabric s.seat.now.at) (Ok c.in-Ok.field-0) _
           c.args.sink.now c.args.sink.now c.seat.ensures.fabric (sym c.in-Ok.is ∙ c.seat.ensures.result)
           (prints_nothing g.W.Sink.written g.W.Sink.has_failed c.args.sink.now));
@@ -29,7 +29,7 @@ returns-in-Err g c =
     let s = c.index.result.now in
     record {
       does = does_same g.W.Sink.written g.W.Sink.has_failed world _ c.refuse_fabric.result c.args.sink.now c.refuse_fabric.new.sink _ _
-          (sym (at_seat_is world.fabric world.managers.items c.args.seat s c.requires c.index.ensures (λ s. after_fabric_call w (after_seat w.fabric s.at))))
+          (sym (at_seat_is w world.managers.items c.args.seat s c.requires c.index.ensures (λ s. after_fabric_call w (after_seat w.fabric s.at))))
           (calls_fabric g.W.Sink.written g.W.Sink.has_failed world c.seat.new.self (after_seat world.fabric s.seat.now.at) (Err c.in-Err.fault)
           c.refuse_fabric.result c.args.sink.now c.refuse_fabric.new.sink c.seat.ensures.fabric (sym c.in-Err.is ∙ c.seat.ensures.result)
           c.refuse_fabric.ensures.prints);

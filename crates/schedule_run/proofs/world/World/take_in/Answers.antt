@@ -5,7 +5,7 @@ use Rattle.schedule_lines.specs.Lines.{trap_text}
 use Rattle.schedule_lines.specs.Outcome.{shows}
 use Rattle.schedule_lines.proofs.Printing.{prints_same}
 use Rattle.schedule_lines.proofs.Refused.{but_for_memory}
-use Rattle.schedule_run.specs.Commands.{heard_text}
+use Rattle.schedule_run.specs.Delivery.{heard_text}
 use Rattle.schedule_run.specs.World.{value_of}
 use Rattle.schedule_run.proofs.Doing.{does_show}
 use Rattle.schedule_run.proofs.Seats.{done_does, refused_does, sits}
@@ -24,7 +24,7 @@ returns-in-Ok g c =
     record {
       does = done_does c.args.self.now c.args.seat s c.requires c.index_mut.ensures.value (shows (heard_text w c.args.seat packet))
           (λ m. (after_packet m packet.bytes (Some packet.slid)).fault) (λ m. (after_packet m packet.bytes (Some packet.slid)).manager)
-          g.W.Sink.written g.W.Sink.has_failed c.on_packet.new.self _ _ (record { fabric = refl; managers = refl }) c.in-Ok.ensures.judged
+          g.W.Sink.written g.W.Sink.has_failed c.on_packet.new.self _ _ (record { fabric = refl; managers = refl; deciders = refl; time = refl }) c.in-Ok.ensures.judged
           c.in-Ok.ensures.ok c.show_trap.result c.args.sink.now c.show_trap.new.sink
           (does_show g.W.Sink.written g.W.Sink.has_failed _ c.show_trap.result c.args.sink.now c.show_trap.new.sink (heard_text w c.args.seat packet)
           (prints_same g.W.Sink.written g.W.Sink.has_failed c.show_trap.result c.args.sink.now c.show_trap.new.sink _ _ text c.show_trap.ensures.prints));
@@ -36,7 +36,7 @@ returns-in-Err g c = record {
       (shows (heard_text (value_of c.args.self.now) c.args.seat c.args.packet.now))
       (λ m. (after_packet m c.args.packet.now.bytes (Some c.args.packet.now.slid)).fault)
       (λ m. (after_packet m c.args.packet.now.bytes (Some c.args.packet.now.slid)).manager) g.W.Sink.written g.W.Sink.has_failed
-      c.on_packet.new.self _ (record { fabric = refl; managers = refl }) c.in-Err.fault c.in-Err.ensures.err
+      c.on_packet.new.self _ (record { fabric = refl; managers = refl; deciders = refl; time = refl }) c.in-Err.fault c.in-Err.ensures.err
       (but_for_memory c.in-Err.fault _ c.in-Err.ensures.judged) c.refuse_manager.result _ _ c.refuse_manager.ensures.memory
       c.refuse_manager.ensures.prints c.refuse_manager.ensures.unprinted;
 }

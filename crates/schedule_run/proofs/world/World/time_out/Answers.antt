@@ -37,7 +37,7 @@ returns-in_err-give_up g c =
     let whole = after_giving_up (value_of c.args.self.now) seat items in
     let Under : Outcome WorldValue → Type 0 =
     λ outcome. IsUnderWay g.W.Sink.written g.W.Sink.has_failed c.args.sink.now c.loop-transaction.sink whole outcome in
-    let run = timed_out c.args.self.now.fabric c.args.self.now.managers.items seat c.index.result.now c.requires c.index.ensures items
+    let run = timed_out (value_of c.args.self.now) c.args.self.now.managers.items seat c.index.result.now c.requires c.index.ensures items
     (c.deref-transaction-items.ensures.value ∙ c.in_ok-waiting.ensures) in
     record {
       does = rw (p.1, p.2) (record {
@@ -56,7 +56,7 @@ returns g c =
     let items = c.deref-transaction-items.result.now in
     let seat = c.args.seat in
     let w = value_of c.loop-transaction.self in
-    let run = timed_out c.args.self.now.fabric c.args.self.now.managers.items seat c.index.result.now c.requires c.index.ensures items
+    let run = timed_out (value_of c.args.self.now) c.args.self.now.managers.items seat c.index.result.now c.requires c.index.ensures items
     (c.deref-transaction-items.ensures.value ∙ c.in_ok-waiting.ensures) in
     let none = given_none w seat items c.loop-transaction.transaction-index c.loop-transaction-test.false in
     record {
