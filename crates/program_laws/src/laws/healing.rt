@@ -6,6 +6,7 @@ ghost use Rattle.program_laws.specs.InTurn.{WorksInTurn};
 ghost use Rattle.program_laws.specs.Leading.{LoneManagersLeadInTime};
 ghost use Rattle.program_laws.specs.LoneHealing.{LoneManagersHeal, LoneManagersHealAtSeat};
 ghost use Rattle.program_laws.specs.NextSweep.{SweepsAgainInTime};
+ghost use Rattle.program_laws.specs.OtherMasters.{MastersGiveWay};
 ghost use Rattle.program_laws.specs.RestTime.{RestsEndInTime};
 ghost use Rattle.program_laws.specs.StandingPings.{StandingPingsArrive};
 
@@ -106,4 +107,12 @@ pub fn lone_managers_heal()
 /// the plan's values. Its shell is faithful, and no cable moves.
 pub fn lone_managers_heal_at_seat()
     ensures { LoneManagersHealAtSeat }
+{}
+
+/// A master that decides by itself, and whose sweep saw another master, does not write next: it hands over to its
+/// successor, if the other one wins, and otherwise announces itself after three sweeps and then yields to the other
+/// one. If there is no way to that one, it rests. It has offered the subnet fewer than three times in this meeting, did
+/// not stand still while it swept, and is not told to leave.
+pub fn masters_give_way()
+    ensures { MastersGiveWay }
 {}
