@@ -8,6 +8,7 @@ pub mod LoneAtSeat
 pub mod LoneHealing
 pub mod Moves
 pub mod Needs
+pub mod OtherMasters
 pub mod Polling
 pub mod Polls
 pub mod Quiet

@@ -17,6 +17,7 @@ pub mod InTurn
 pub mod Leading
 pub mod LoneHealing
 pub mod NextSweep
+pub mod OtherMasters
 pub mod RestTime
 pub mod StandingPings
 pub mod StandingPlans

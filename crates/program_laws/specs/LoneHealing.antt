@@ -8,7 +8,7 @@ use Rattle.sm_policy.specs.Policy.{is_sweeping}
 use Rattle.sm_policy.specs.PolicyLaws.{longest_wait}
 use Rattle.acting_manager.specs.Acting.{Acting}
 use Rattle.acting_manager.specs.Planned.{planned}
-use Rattle.acting_manager.specs.Working.{after_told, is_idle, pause}
+use Rattle.acting_manager.specs.Working.{after_told, is_idle, is_writing, pause}
 use Rattle.manager_laws.specs.Managing.{Starts}
 use Rattle.program_laws.specs.Alone.{IsLone}
 use Rattle.program_laws.specs.Deciding.{CanDecide, Deciding, DecidingEvent, after_deciding_events}
@@ -17,21 +17,19 @@ use Rattle.program_laws.specs.HealingAtSeat.{ServesAt}
 use Rattle.program_laws.specs.ManagedWritings.{IsNew, managing_of}
 use Rattle.program_laws.specs.SweepTime.{lines_of}
 use Rattle.program_laws.specs.Wakes.{ArePrompt, Line, after_line, after_lines, before_deciding, longest_turn}
-use Rattle.program_laws.specs.WholeSweeps.{tells_loss, too_far_in}
+use Rattle.program_laws.specs.WholeSweeps.{SweepsAreWhole, tells_loss}
 
--- what the manager's sweep, which is over, lets it write: no port leads too far, there is a plan, and its writing would not be
--- refused
+-- what the manager's sweep, which is over, lets it write: there is a plan, and its writing would not be refused
 pub record LetsWrite (a : Acting) : Type 0 where
-  pub near : too_far_in a.manager.sweep ≡ 0
   pub plan : PlanValue
   pub is_planned : planned a.manager ≡ Some plan
   pub unrefused : writing_fault a.manager ≡ None
 
--- nothing is in the manager's way when it is told a line: it gives no request up; and if its sweep is over, it may write
-pub record IsFree (line : Line) (a : Acting) : Type 0 where
-  pub none_lost : list_any tells_loss (after_told line.0 line.1 a).notes ≡ false
-  pub swept : is_idle (before_deciding line a).window ≡ true → is_sweeping (before_deciding line a).policy.activity ≡ true
-      → LetsWrite (before_deciding line a)
+-- if the manager's sweep is over, it may write
+abbrev pub IsFree : Line → Acting → Type 0
+IsFree line a =
+    is_idle (before_deciding line a).window ≡ true → is_sweeping (before_deciding line a).policy.activity ≡ true
+    → LetsWrite (before_deciding line a)
 
 abbrev pub StaysFree : List Line → Acting → Type 0
 StaysFree [] a = Unit {0}
@@ -42,26 +40,35 @@ abbrev pub AllEndWritten : List Line → Acting → Type 0
 AllEndWritten [] a = Unit {0}
 AllEndWritten (line ∷ lines) a = EndsWritten line a × AllEndWritten lines (after_line line a)
 
--- a manager that is alone for so long, with nothing in its way, has swept and has its plan written (`Heals`). It is told the
--- time at most two seconds late
+-- a manager that is alone for so long, whose sweeps are whole and let it write, has swept and has its plan written (`Heals`).
+-- It is told the time at most two seconds late
 abbrev pub LoneManagersHeal : Type 0
 LoneManagersHeal =
-    (n : ℕ) (a : Acting) (lines : List Line) (r : IsLone n a lines) → StaysFree lines a → AllEndWritten lines a → (late : ℕ)
-    → late ≤ pause → ArePrompt late lines a
+    (n : ℕ) (a : Acting) (lines : List Line) (r : IsLone n a lines) → SweepsAreWhole lines a → StaysFree lines a → AllEndWritten lines a
+    → (late : ℕ) → late ≤ pause → ArePrompt late lines a
     → a.time + 19 * longest_wait r.decided.timing + (26 * (n + 4)) * longest_turn late a.window.limits < (after_lines lines a).time
     → Heals lines a
 
 -- at its seat ---------------------------------------------------------------------------------------------
 
+-- while the manager writes, it gives up no request by any of the lines
+abbrev pub LosesNoSet : List Line → Acting → Type 0
+LosesNoSet [] a = Unit {0}
+LosesNoSet (line ∷ lines) a =
+    (is_writing a.policy.activity ≡ true → list_any tells_loss (after_told line.0 line.1 a).notes ≡ false)
+    × LosesNoSet lines (after_line line a)
+
 -- a new manager that decides by itself sits at its seat, and nothing is on its way. After the events `before` it is alone,
--- with nothing in its way, through the events `events`
+-- its sweeps are whole and let it write, and no Set of it is given up, through the events `events`
 pub record IsLoneAt (n : ℕ) (d : Deciding) (before events : List DecidingEvent) : Type 0 where
   pub new : IsNew d
   pub starts : Starts (managing_of d)
   pub before_can : AllByRecursion (CanDecide d.seat) before
   pub events_can : AllByRecursion (CanDecide d.seat) events
   pub lone : IsLone n (after_deciding_events before d).acting (lines_of events (after_deciding_events before d))
+  pub whole : SweepsAreWhole (lines_of events (after_deciding_events before d)) (after_deciding_events before d).acting
   pub free : StaysFree (lines_of events (after_deciding_events before d)) (after_deciding_events before d).acting
+  pub none_lost : LosesNoSet (lines_of events (after_deciding_events before d)) (after_deciding_events before d).acting
 
 -- if it is so for so long, the subnet is served (`ServesAt`)
 abbrev pub LoneManagersHealAtSeat : Type 0

@@ -10,6 +10,7 @@ use Rattle.acting_manager.specs.Working.{after_told, is_idle}
 use Rattle.acting_manager.specs.declared.note.Note.{Note}
 use Rattle.acting_manager.specs.declared.note.Note.TheVariants.{GivenUp}
 use Rattle.program_laws.specs.ManagedEnds.{StaysAbout}
+use Rattle.program_laws.specs.NextSweep.{begins_sweep}
 use Rattle.program_laws.specs.Wakes.{HasDecided, IsNoLeave, Line, NoneLeaves, after_line, after_lines, before_deciding}
 
 -- whether a note tells that a request has no answer, or one that it refuses
@@ -52,3 +53,13 @@ AnsweredSweepsAreWhole =
     → SweepsThrough first begins a during ends → NothingGivenUp (during ++ ends ∷ []) a
     → too_far_in (before_deciding ends (after_lines during a)).manager.sweep ≡ 0
     → is_whole (before_deciding ends (after_lines during a)).manager ≡ true
+
+-- each sweep that one of the lines begins is whole when it is over: it has every answer but those of managers, and no port leads
+-- too far
+abbrev pub SweepsAreWhole : List Line → Acting → Type 0
+SweepsAreWhole lines a =
+    (before : List Line) (begins : Line) (during : List Line) (ends : Line) (after : List Line)
+    → lines ≡ before ++ begins ∷ (during ++ ends ∷ after) → begins_sweep begins (after_lines before a) ≡ true
+    → StaysAbout is_sweeping during (after_line begins (after_lines before a))
+    → is_idle (before_deciding ends (after_lines during (after_line begins (after_lines before a)))).window ≡ true
+    → is_whole (before_deciding ends (after_lines during (after_line begins (after_lines before a)))).manager ≡ true

@@ -6,18 +6,20 @@ use Rattle.sm_state.specs.declared.state.SmState.TheVariants.{Master}
 use Rattle.sm_policy.specs.PolicyLaws.{longest_wait}
 use Rattle.sm_policy.specs.declared.timing.Timing.{Timing}
 use Rattle.request_window.specs.declared.limits.Limits.{Limits}
-use Rattle.sm_policy.specs.Policy.{is_master}
+use Rattle.sm_policy.specs.Policy.{is_master, is_sweeping}
 use Rattle.sm_policy.specs.declared.activity.Activity.{Activity}
 use Rattle.acting_manager.specs.Acting.{Acting, caught_up}
-use Rattle.acting_manager.specs.Working.{is_given_up, is_writing, taken}
+use Rattle.acting_manager.specs.Acts.{is_whole}
+use Rattle.acting_manager.specs.Working.{is_given_up, is_idle, is_writing, taken}
 use Rattle.program_laws.specs.AnsweredWritings.{KeepsWriting}
 use Rattle.program_laws.specs.FreshWork.{works}
-use Rattle.program_laws.specs.Healing.{AllGoWellBy, EndsWritten, GoesWellBy, Heals, IsUndisturbedBy}
+use Rattle.program_laws.specs.Healing.{EndsWritten, Heals}
 use Rattle.program_laws.specs.LoneHealing.{AllEndWritten, IsFree, LoneManagersHeal, StaysFree}
 use Rattle.program_laws.specs.ManagedEnds.{StaysAbout}
 use Rattle.program_laws.specs.NextSweep.{begins_sweep}
 use Rattle.program_laws.specs.RestTime.{sweeps_in}
 use Rattle.program_laws.specs.StandingPlans.{KeepsWritten}
+use Rattle.program_laws.specs.WholeSweeps.{SweepsAreWhole}
 use Rattle.program_laws.specs.Wakes.{Line, after_line, after_lines, before_deciding, longest_turn}
 use Rattle.program_laws.proofs.alone.Acts.{line_led}
 use Rattle.program_laws.proofs.alone.Calm.{IsCalm, calm_later, calm_line, info_is, line_awake, line_goes, line_quiet, may_begin}
@@ -28,7 +30,7 @@ use Rattle.program_laws.proofs.alone.Quiet.{LastsQuietly, hears_quietly, lasts_q
 use Rattle.program_laws.proofs.alone.Steady.{knows_then}
 use Rattle.program_laws.proofs.alone.SweepEnds.{saw_none}
 use Rattle.program_laws.proofs.alone.Voids.{KeepsOn, heard_void, line_keeps_on}
-use Rattle.program_laws.proofs.lasting.Healing.{heals_in_time}
+use Rattle.program_laws.proofs.lasting.Healing.{AllGoOnBy, GoesOnBy, IsUndisturbedSo, so_heals}
 use Rattle.program_laws.proofs.wakes.AtSeats.{lines_both}
 use Rattle.program_laws.proofs.wakes.FreshWork.{GoesOn}
 use Rattle.program_laws.proofs.wakes.Load.{moved_about}
@@ -37,8 +39,17 @@ pub free_later : (some rest : List Line) (a : Acting) → StaysFree (some ++ res
 free_later [] rest a free = free
 free_later (line ∷ some) rest a free = free_later some rest (after_line line a) free.1
 
+pub whole_later : (some rest : List Line) (a : Acting) → SweepsAreWhole (some ++ rest) a → SweepsAreWhole rest (after_lines some a)
+whole_later some rest a whole before begins during ends after are =
+    subst (λ (b : Acting). begins_sweep begins b ≡ true → StaysAbout is_sweeping during (after_line begins b)
+    → is_idle (before_deciding ends (after_lines during (after_line begins b))).window ≡ true
+    → is_whole (before_deciding ends (after_lines during (after_line begins b))).manager ≡ true)
+    (lines_both some before a)
+    (whole (some ++ before) begins during ends after
+    (ap (λ ls. some ++ ls) are ∙ sym (append_assoc some before (begins ∷ (during ++ ends ∷ after)))))
+
 -- it is so at each line
-abbrev AllSo : (Line → Acting → Type 0) → List Line → Acting → Type 0
+abbrev pub AllSo : (Line → Acting → Type 0) → List Line → Acting → Type 0
 AllSo Writes [] a = Unit {0}
 AllSo Writes (line ∷ lines) a = Writes line a × AllSo Writes lines (after_line line a)
 
@@ -84,10 +95,9 @@ module _ (n late : ℕ) (timing : Timing) (limits : Limits) where
     itself d e = ap (λ s. sweeps_in s d.policy.master) e
 
     -- all goes well for it
-    goes_well : (Writes : Line → Acting → Type 0) → IsFree line a → Writes line a → GoesWellBy Writes line a
+    goes_well : (Writes : Line → Acting → Type 0) → IsFree line a → Writes line a → GoesOnBy Writes line a
     goes_well Writes free so =
         record {
-          none_lost = free.none_lost;
           to_sweep = record {
             may = λ rests idle. record {
               itself = itself (before_deciding line a) (knows_then line a ∙ led_x.master);
@@ -96,11 +106,10 @@ module _ (n late : ℕ) (timing : Timing) (limits : Limits) where
             itself = λ _ _. itself (after_line line a) (line_knows line a ∙ led_b.master);
           };
           swept = λ idle sweeps.
-              let lets = free.swept idle sweeps in
+              let lets = free idle sweeps in
               record {
                 master = knows_then line a ∙ led_x.master;
                 alone = saw_none (before_deciding line a).manager led_x.clean;
-                near = lets.near;
                 fresh = led_x.fresh;
                 plan = lets.plan;
                 is_planned = lets.is_planned;
@@ -139,7 +148,7 @@ module _ (n late : ℕ) (timing : Timing) (limits : Limits) where
             (λ i. e i && ((void ∙ keeps (ap is_writing (sym about) ∙ e)) i || not (is_master (master i))))
 
   pub all_go_well : (Writes : Line → Acting → Type 0) (lines : List Line) (a : Acting) → Calm lines a → StaysFree lines a → AllSo Writes lines a
-      → IsLed a.manager a.policy → AllGoWellBy Writes lines a
+      → IsLed a.manager a.policy → AllGoOnBy Writes lines a
   all_go_well Writes [] a c free all led = tt
   all_go_well Writes (line ∷ rest) a c free all led = (
     goes_well line rest a c led Writes free.0 all.0,
@@ -155,15 +164,16 @@ module _ (n late : ℕ) (timing : Timing) (limits : Limits) where
   )
 
   -- from then on nothing disturbs it
-  abbrev pub undisturbed : (Writes : Line → Acting → Type 0) (lines : List Line) (a : Acting) → Calm lines a → StaysFree lines a → AllSo Writes lines a
-      → IsLed a.manager a.policy → IsUndisturbedBy Writes n a lines
-  undisturbed Writes lines a c free all led =
+  abbrev pub undisturbed : (Writes : Line → Acting → Type 0) (lines : List Line) (a : Acting) → Calm lines a → SweepsAreWhole lines a → StaysFree lines a
+      → AllSo Writes lines a → IsLed a.manager a.policy → IsUndisturbedSo Writes n a lines
+  undisturbed Writes lines a c whole free all led =
       record {
         decided = c.goes.decided;
         generations = c.generations;
         none_left = c.none_left;
         first = λ _ _. ap (λ s. sweeps_in s a.policy.master) (has_known a c.goes.decided ∙ led.master);
         well = all_go_well Writes lines a c free all led;
+        whole = whole;
         few = c.few;
         tries = c.goes.tries;
         outstanding = c.goes.outstanding;
@@ -201,7 +211,7 @@ pub too_soon : (t end m w d : ℕ) → t + 19 * w + (26 * (m + 4)) * d < end →
 too_soon t end m w d long few = omega (arith, long, few)
 
 pub lone_managers_heal : LoneManagersHeal
-lone_managers_heal n a lines r free written late short prompt long =
+lone_managers_heal n a lines r whole free written late short prompt long =
     elim (found_in_time n late a lines r short prompt) [
       | inl f ↦
           let timing = r.decided.timing in
@@ -210,10 +220,11 @@ lone_managers_heal n a lines r free written late short prompt long =
           let c = calm_later n late timing limits f.first f.later a
           (subst (λ ls. IsCalm n late timing limits ls a) f.are (lone_calm n late a lines r short prompt)) in
           let w = undisturbed n late timing limits EndsWritten f.later b c
+          (whole_later f.first f.later a (subst (λ ls. SweepsAreWhole ls a) f.are whole))
           (free_later f.first f.later a (subst (λ ls. StaysFree ls a) f.are free))
           (all_later EndsWritten f.first f.later a (subst (λ ls. AllSo EndsWritten ls a) f.are (all_written lines a written))) f.led in
           heals_later f.first f.later lines a f.are
-          (heals_in_time n b f.later w late c.prompt
+          (so_heals n b f.later w late c.prompt
           (in_time a.time b.time (after_lines lines a).time (after_lines f.later b).time n (longest_wait timing) (longest_turn late limits)
           (longest_wait w.decided.timing) (longest_turn late b.window.limits)
           f.soon (ap longest_wait c.timing_is) (ap (longest_turn late) c.limits_is)

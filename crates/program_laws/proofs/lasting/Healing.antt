@@ -1,5 +1,5 @@
 -- If all goes well for long enough, a manager sweeps and has its plan written.
-use Rattle.std.proofs.Common.{◌≡◌, ◌∙◌, ◌⊎◌, inl, inr, ℕ, Bool, true, false, ◌&&◌, not, ◌+◌, ◌*◌, ◌<◌, List, [], ◌∷◌, ◌++◌, refl, sym, ap, subst, arith}
+use Rattle.std.proofs.Common.{◌≡◌, ◌∙◌, ◌⊎◌, inl, inr, ℕ, Bool, true, false, ◌&&◌, not, ◌+◌, ◌*◌, ◌<◌, ◌≤◌, ◌^◌, List, [], ◌∷◌, ◌++◌, refl, sym, ap, subst, arith}
 use Rattle.std.proofs.lemmas.Bool.{and_parts, both_ways, cond_both, cond-true, cond-false}
 use Rattle.std.specs.Prelude.{Option, Some, None, is_none}
 use Rattle.lft_blocks.specs.Plan.{PlanValue}
@@ -21,16 +21,17 @@ use Rattle.sm_policy.specs.declared.ports.Ports.{Ports}
 use Rattle.sm_policy.specs.declared.write_cause.WriteCause.{WriteCause}
 use Rattle.acting_manager.specs.Acting.{Acting, caught_up, noted}
 use Rattle.acting_manager.specs.Acts.{about_plan, acted, acted_in, decided, is_whole, judging_of, left_in, rival_seen, writing_on}
-use Rattle.acting_manager.specs.Planned.{comparison_of, is_same_plan}
-use Rattle.acting_manager.specs.Working.{is_idle, is_writing, sent}
+use Rattle.acting_manager.specs.Planned.{comparison_of, is_same_plan, planned}
+use Rattle.acting_manager.specs.Working.{is_idle, is_resting, is_writing, sent}
 use Rattle.acting_manager.specs.declared.note.Note.TheVariants.{Swept}
 use Rattle.program_laws.specs.FreshWork.{EndNoFreshWork, works}
-use Rattle.program_laws.specs.Healing.{AllGoWellBy, EndsWritten, GoesWellBy, HealsInTime, IsUndisturbedBy, SweptWell}
+use Rattle.program_laws.specs.Healing.{AllGoWellBy, EndsWritten, GoesWellBy, Heals, HealsInTime, IsUndisturbedBy}
 use Rattle.program_laws.specs.ManagedEnds.{StaysAbout}
-use Rattle.program_laws.specs.NextSweep.{begins_sweep}
+use Rattle.program_laws.specs.NextSweep.{HasFewTurns, IsToSweep, begins_sweep}
+use Rattle.program_laws.specs.RestTime.{sweeps_by_itself}
 use Rattle.program_laws.specs.StandingPlans.{KeepsWritten}
-use Rattle.program_laws.specs.WholeSweeps.{NothingGivenUp, too_far_in}
-use Rattle.program_laws.specs.Wakes.{ArePrompt, Line, NoneLeaves, after_line, after_lines, before_deciding, longest_turn}
+use Rattle.program_laws.specs.WholeSweeps.{NothingGivenUp, SweepsAreWhole, too_far_in}
+use Rattle.program_laws.specs.Wakes.{ArePrompt, HasDecided, Line, NoneLeaves, after_line, after_lines, before_deciding, longest_turn}
 use Rattle.program_laws.proofs.lasting.Answered.{answered_sweeps_are_whole}
 use Rattle.program_laws.proofs.lasting.Running.{is_running, still_runs, still_sound}
 use Rattle.program_laws.proofs.lasting.Standing.{full, is_sound}
@@ -41,6 +42,44 @@ use Rattle.program_laws.proofs.wakes.NextSweep.{Split, about_last, has_more, non
 use Rattle.program_laws.proofs.wakes.NextSweep.Split.{Ends, Whole}
 use Rattle.program_laws.proofs.wakes.Settled.{has_settled}
 use Rattle.program_laws.proofs.wakes.Waking.{Falls, any_falls}
+
+-- what is needed ----------------------------------------------------------------------------------------------------------------
+
+-- the manager, whose sweep is over and whole, is to judge its plan
+pub record SweptSo (a : Acting) : Type 0 where
+  pub master : a.policy.state ≡ Master
+  pub alone : rival_seen a.manager ≡ None
+  pub fresh : a.policy.is_stale ≡ false
+  pub plan : PlanValue
+  pub is_planned : planned a.manager ≡ Some plan
+  pub unrefused : writing_fault a.manager ≡ None
+
+-- when the manager is told the line, it goes on: if it rests, it is to sweep; if its sweep is over, it is to judge its plan;
+-- and `Writes` is so of what it writes
+pub record GoesOnBy (Writes : Line → Acting → Type 0) (line : Line) (a : Acting) : Type 0 where
+  pub to_sweep : IsToSweep line a
+  pub swept : is_idle (before_deciding line a).window ≡ true → is_sweeping (before_deciding line a).policy.activity ≡ true
+      → SweptSo (before_deciding line a)
+  pub writes : Writes line a
+
+abbrev pub AllGoOnBy : (Line → Acting → Type 0) → List Line → Acting → Type 0
+AllGoOnBy Writes [] a = Unit {0}
+AllGoOnBy Writes (line ∷ lines) a = GoesOnBy Writes line a × AllGoOnBy Writes lines (after_line line a)
+
+-- it goes on through the lines, and its sweeps are whole
+pub record IsUndisturbedSo (Writes : Line → Acting → Type 0) (n : ℕ) (a : Acting) (lines : List Line) : Type 0 where
+  pub decided : HasDecided a
+  pub generations : decided.newest < 2 ^ 32
+  pub none_left : NoneLeaves decided.lines
+  pub first : is_resting a.policy.activity ≡ true → is_idle a.window ≡ true → sweeps_by_itself a ≡ true
+  pub well : AllGoOnBy Writes lines a
+  pub whole : SweepsAreWhole lines a
+  pub few : HasFewTurns n lines a
+  pub tries : 1 ≤ a.window.limits.tries
+  pub outstanding : 1 ≤ a.window.limits.outstanding
+  pub stays_on : a.is_leaving ≡ false
+  pub none_leaves : NoneLeaves lines
+  pub time : (after_lines lines a).time < 2 ^ 64
 
 -- once a sweep is over ------------------------------------------------------------------------------------------------------
 
@@ -81,13 +120,13 @@ judging_writes a plan none unrefused =
 abbrev judges : ℕ → Policy → Decision
 judges now p = swept_in Master now None (ended now true None p)
 
-swept_is : (a : Acting) → SweptWell a → is_whole a.manager ≡ true → swept a.time (is_whole a.manager) (rival_seen a.manager) a.policy ≡ judges a.time a.policy
+swept_is : (a : Acting) → SweptSo a → is_whole a.manager ≡ true → swept a.time (is_whole a.manager) (rival_seen a.manager) a.policy ≡ judges a.time a.policy
 swept_is a well whole =
     ap (λ b. swept a.time b (rival_seen a.manager) a.policy) whole ∙ ap (λ r. swept a.time true r a.policy) well.alone
     ∙ cond-false a.policy.is_stale _ (swept_in a.policy.state a.time None (ended a.time true None a.policy)) well.fresh
     ∙ ap (λ s. swept_in s a.time None (ended a.time true None a.policy)) well.master
 
-sweep_writes : (a : Acting) → SweptWell a → is_whole a.manager ≡ true → a.policy.written.stands ≡ false
+sweep_writes : (a : Acting) → SweptSo a → is_whole a.manager ≡ true → a.policy.written.stands ≡ false
     → is_writing (acted_in activity.Sweeps a).policy.activity ≡ true
 sweep_writes a well whole none =
     let b : Acting = noted (Swept (is_whole a.manager)) a in
@@ -111,7 +150,7 @@ works_sweeping activity.Writes e = absurd (cc)
 works_sweeping activity.Hands e = absurd (cc)
 
 module _ (Writes : Line → Acting → Type 0) (line : Line) (a : Acting) (g : GoesOn a (line ∷ [])) (about : works a.policy.activity ≡ true)
-    (over : works (after_line line a).policy.activity ≡ false) (well : GoesWellBy Writes line a)
+    (over : works (after_line line a).policy.activity ≡ false) (well : GoesOnBy Writes line a)
     (whole : is_idle (before_deciding line a).window ≡ true → is_sweeping a.policy.activity ≡ true → is_whole (before_deciding line a).manager ≡ true) where
   abbrev x : Acting
   x = before_deciding line a
@@ -198,7 +237,7 @@ works_on : (lines : List Line) (a : Acting) → StaysAbout works lines a → End
 works_on [] a s = tt
 works_on (line ∷ lines) a s = (s.0, works_on lines (after_line line a) s.1)
 
-find : (Writes : Line → Acting → Type 0) (lines : List Line) (a : Acting) → AllGoWellBy Writes lines a → Found lines a ⊎ EndNoFreshWork false lines a
+find : (Writes : Line → Acting → Type 0) (lines : List Line) (a : Acting) → AllGoOnBy Writes lines a → Found lines a ⊎ EndNoFreshWork false lines a
 find Writes [] a well = inr tt
 find Writes (line ∷ lines) a well = by_begun (find Writes lines b well.1) (begins_sweep line a) refl
   where
@@ -265,7 +304,7 @@ sweeps_on (line ∷ lines) a g stays last =
     by_what activity.Rests e w then rest = absurd (cc)
     by_what activity.Hands e w then rest = absurd (cc)
 
-pub none_lost : (Writes : Line → Acting → Type 0) (some : List Line) (line : Line) (rest : List Line) (a : Acting)
+none_lost : (Writes : Line → Acting → Type 0) (some : List Line) (line : Line) (rest : List Line) (a : Acting)
     → AllGoWellBy Writes (some ++ line ∷ rest) a → NothingGivenUp (some ++ line ∷ []) a
 none_lost Writes [] line rest a w = (w.0.none_lost, tt)
 none_lost Writes (first ∷ some) line rest a w = (w.0.none_lost, none_lost Writes some line rest (after_line first a) w.1)
@@ -300,14 +339,14 @@ none_more : (first more : List Line) → NoneLeaves first → NoneLeaves more �
 none_more [] more n m = m
 none_more (line ∷ first) more n m = (n.0, none_more first more n.1 m)
 
-pub well_later : (Writes : Line → Acting → Type 0) (some rest : List Line) (a : Acting) → AllGoWellBy Writes (some ++ rest) a
-    → AllGoWellBy Writes rest (after_lines some a)
+pub well_later : (Writes : Line → Acting → Type 0) (some rest : List Line) (a : Acting) → AllGoOnBy Writes (some ++ rest) a
+    → AllGoOnBy Writes rest (after_lines some a)
 well_later Writes [] rest a w = w
 well_later Writes (line ∷ some) rest a w = well_later Writes some rest (after_line line a) w.1
 
 -- how the work on a sweep ends ------------------------------------------------------------------------------------------------------
 
-module _ (Writes : Line → Acting → Type 0) (n : ℕ) (a : Acting) (lines : List Line) (r : IsUndisturbedBy Writes n a lines) where
+module _ (Writes : Line → Acting → Type 0) (n : ℕ) (a : Acting) (lines : List Line) (r : IsUndisturbedSo Writes n a lines) where
   pub goes : GoesOn a lines
   goes = record { decided = r.decided; tries = r.tries; outstanding = r.outstanding; stays_on = r.stays_on; none_leaves = r.none_leaves }
 
@@ -333,12 +372,6 @@ module _ (Writes : Line → Acting → Type 0) (n : ℕ) (a : Acting) (lines : L
           }) late prompt in
           absurd (omega (arith, long, few))
 
-  near : (line : Line) (c : Acting) → GoesWellBy Writes line c → GoesOn c (line ∷ []) → is_idle (before_deciding line c).window ≡ true
-      → is_sweeping c.policy.activity ≡ true → too_far_in (before_deciding line c).manager.sweep ≡ 0
-  near line c well g idle sweeps =
-      let fell = any_falls c.window.limits g.tries line c (record { same = refl; whole = (has_settled c g.decided).whole }) g.none_leaves.0 in
-      (well.swept idle (ap is_sweeping fell.about ∙ sweeps)).near
-
   module _ (f : Found lines a) where
     abbrev first : Acting
     first = after_lines f.before a
@@ -362,10 +395,10 @@ module _ (Writes : Line → Acting → Type 0) (n : ℕ) (a : Acting) (lines : L
     pub at_end : GoesOn c (f.ends ∷ [])
     at_end = goes_first (f.ends ∷ []) f.after c (goes_later f.during (f.ends ∷ f.after) b at_sweep)
 
-    pub all_well : AllGoWellBy Writes rest b
-    all_well = (well_later Writes f.before (f.begins ∷ rest) a (subst (λ ls. AllGoWellBy Writes ls a) f.are r.well)).1
+    all_well : AllGoOnBy Writes rest b
+    all_well = (well_later Writes f.before (f.begins ∷ rest) a (subst (λ ls. AllGoOnBy Writes ls a) f.are r.well)).1
 
-    pub last_well : GoesWellBy Writes f.ends c
+    pub last_well : GoesOnBy Writes f.ends c
     last_well = (well_later Writes f.during (f.ends ∷ f.after) b all_well).0
 
     pub sweeps : is_sweeping b.policy.activity ≡ true
@@ -376,20 +409,8 @@ module _ (Writes : Line → Acting → Type 0) (n : ℕ) (a : Acting) (lines : L
 
     whole : is_idle (before_deciding f.ends c).window ≡ true → is_sweeping c.policy.activity ≡ true → is_whole (before_deciding f.ends c).manager ≡ true
     whole idle last =
-        answered_sweeps_are_whole first f.begins b f.during f.ends (record {
-          decided = has_more a f.before first refl r.decided;
-          generations = r.generations;
-          none_left =
-              none_more r.decided.lines f.before r.none_left (none_first f.before (f.begins ∷ rest) (subst (GoesOn a) f.are goes).none_leaves);
-          stays = at_first.none_leaves.0;
-          leads = refl;
-          decides = begins_idle f.begins first (goes_first (f.begins ∷ []) rest first at_first) f.begun;
-          sweeps = sweeps;
-          goes_on = sweeps_on f.during b (goes_first f.during (f.ends ∷ f.after) b at_sweep) f.goes_on last;
-          none_leaves = none_first f.during (f.ends ∷ f.after) at_sweep.none_leaves;
-          remains = at_end.none_leaves.0;
-          over = idle;
-        }) (none_lost Writes f.during f.ends f.after b all_well) (near f.ends c last_well at_end idle last)
+        r.whole f.before f.begins f.during f.ends f.after f.are f.begun
+        (sweeps_on f.during b (goes_first f.during (f.ends ∷ f.after) b at_sweep) f.goes_on last) idle
 
     -- the plan is written, or a writing is over
     pub ends_so : KeepsWritten (after_line f.ends c).kept (after_line f.ends c).manager ⊎ (is_writing c.policy.activity ≡ true)
@@ -402,8 +423,114 @@ module _ (Writes : Line → Acting → Type 0) (n : ℕ) (a : Acting) (lines : L
     pub is_over : is_idle (before_deciding f.ends c).window ≡ true
     is_over = idle Writes f.ends c at_end about f.over last_well whole
 
-pub heals_in_time : HealsInTime
-heals_in_time n a lines r late prompt long =
+-- where no request is given up ---------------------------------------------------------------------------------------------------
+
+module _ (Writes : Line → Acting → Type 0) (n : ℕ) (a : Acting) (lines : List Line) (r : IsUndisturbedBy Writes n a lines) where
+  later_well : (some more : List Line) (b : Acting) → AllGoWellBy Writes (some ++ more) b → AllGoWellBy Writes more (after_lines some b)
+  later_well [] more b w = w
+  later_well (line ∷ some) more b w = later_well some more (after_line line b) w.1
+
+  -- then sweeps are whole
+  pub are_whole : SweepsAreWhole lines a
+  are_whole before begins during ends after are begun stays over =
+      answered_sweeps_are_whole first begins b during ends (record {
+        decided = has_more a before first refl r.decided;
+        generations = r.generations;
+        none_left = none_more r.decided.lines before r.none_left (none_first before (begins ∷ rest) goes.none_leaves);
+        stays = at_first.none_leaves.0;
+        leads = refl;
+        decides = begins_idle begins first (goes_first (begins ∷ []) rest first at_first) begun;
+        sweeps = begun_is first.policy.activity b.policy.activity begun;
+        goes_on = stays;
+        none_leaves = none_first during (ends ∷ after) at_sweep.none_leaves;
+        remains = at_end.none_leaves.0;
+        over = over;
+      }) (none_lost Writes during ends after b all) near
+    where
+      first : Acting
+      first = after_lines before a
+
+      b : Acting
+      b = after_line begins first
+
+      c : Acting
+      c = after_lines during b
+
+      rest : List Line
+      rest = during ++ ends ∷ after
+
+      goes : GoesOn a (before ++ begins ∷ rest)
+      goes =
+          subst (GoesOn a) are
+          (record { decided = r.decided; tries = r.tries; outstanding = r.outstanding; stays_on = r.stays_on; none_leaves = r.none_leaves })
+
+      at_first : GoesOn first (begins ∷ rest)
+      at_first = goes_later before (begins ∷ rest) a goes
+
+      at_sweep : GoesOn b rest
+      at_sweep = goes_line begins rest first at_first
+
+      at_end : GoesOn c (ends ∷ [])
+      at_end = goes_first (ends ∷ []) after c (goes_later during (ends ∷ after) b at_sweep)
+
+      all : AllGoWellBy Writes rest b
+      all = (later_well before (begins ∷ rest) a (subst (λ ls. AllGoWellBy Writes ls a) are r.well)).1
+
+      sweeps : is_sweeping c.policy.activity ≡ true
+      sweeps = about_last is_sweeping during b (begun_is first.policy.activity b.policy.activity begun) stays
+
+      near : too_far_in (before_deciding ends c).manager.sweep ≡ 0
+      near =
+          let fell = any_falls c.window.limits at_end.tries ends c (record { same = refl; whole = (has_settled c at_end.decided).whole }) at_end.none_leaves.0 in
+          ((later_well during (ends ∷ after) b all).0.swept over (ap is_sweeping fell.about ∙ sweeps)).near
+
+pub all_on : (Writes Then : Line → Acting → Type 0) (lines : List Line) (a : Acting) → ((line : Line) (b : Acting) → GoesWellBy Writes line b → Then line b)
+    → AllGoWellBy Writes lines a → AllGoOnBy Then lines a
+all_on Writes Then [] a more w = tt
+all_on Writes Then (line ∷ lines) a more w = (
+  record {
+    to_sweep = w.0.to_sweep;
+    swept = λ idle sweeps.
+        let well = w.0.swept idle sweeps in
+        record {
+          master = well.master;
+          alone = well.alone;
+          fresh = well.fresh;
+          plan = well.plan;
+          is_planned = well.is_planned;
+          unrefused = well.unrefused;
+        };
+    writes = more line a w.0;
+  },
+  all_on Writes Then lines (after_line line a) more w.1,
+)
+
+-- and nothing disturbs the manager
+abbrev pub undisturbed_so : (Writes Then : Line → Acting → Type 0) (n : ℕ) (a : Acting) (lines : List Line)
+    → ((line : Line) (b : Acting) → GoesWellBy Writes line b → Then line b) → IsUndisturbedBy Writes n a lines → IsUndisturbedSo Then n a lines
+undisturbed_so Writes Then n a lines more r =
+    record {
+      decided = r.decided;
+      generations = r.generations;
+      none_left = r.none_left;
+      first = r.first;
+      well = all_on Writes Then lines a more r.well;
+      whole = are_whole Writes n a lines r;
+      few = r.few;
+      tries = r.tries;
+      outstanding = r.outstanding;
+      stays_on = r.stays_on;
+      none_leaves = r.none_leaves;
+      time = r.time;
+    }
+
+-- healing -------------------------------------------------------------------------------------------------------------------------
+
+-- for so long, if what is written is written in the end
+pub so_heals : (n : ℕ) (a : Acting) (lines : List Line) (r : IsUndisturbedSo EndsWritten n a lines) (late : ℕ) → ArePrompt late lines a
+    → a.time + 2 * longest_wait r.decided.timing + (6 * (n + 3)) * longest_turn late a.window.limits < (after_lines lines a).time
+    → Heals lines a
+so_heals n a lines r late prompt long =
     record {
       before = f.before;
       begins = f.begins;
@@ -431,3 +558,7 @@ heals_in_time n a lines r late prompt long =
         let fell = any_falls c.window.limits g.tries f.ends c (record { same = refl; whole = (has_settled c g.decided).whole }) g.none_leaves.0 in
         writing_ends EndsWritten n a lines r f writes
         ((last_well EndsWritten n a lines r f).writes (is_over EndsWritten n a lines r f) (ap is_writing fell.about ∙ writes))
+
+pub heals_in_time : HealsInTime
+heals_in_time n a lines r late prompt long =
+    so_heals n a lines (undisturbed_so EndsWritten EndsWritten n a lines (λ line b w. w.writes) r) late prompt long

@@ -2,8 +2,9 @@
 use Rattle.std.proofs.Common.{◌≡◌, ◌∙◌, ◌⊎◌, inl, inr, ℕ, ◌+◌, ◌*◌, ◌<◌, Bool, true, false, ◌&&◌, not, List, [], ◌∷◌, ◌++◌, refl, sym, ap, subst}
 use Rattle.std.proofs.lemmas.List.{append_assoc}
 use Rattle.std.proofs.lemmas.Option.{none-some}
-use Rattle.std.specs.List.{AllByRecursion}
+use Rattle.std.specs.List.{AllByRecursion, list_any}
 use Rattle.lft_blocks.specs.Plan.{PlanValue}
+use Rattle.manager_laws.specs.Managing.{Starts}
 use Rattle.manager_laws.specs.Sets.{OwnSets}
 use Rattle.manager_laws.specs.Written.{own_sets, plan_at}
 use Rattle.sm_manager.specs.Writing.{is_written}
@@ -12,27 +13,26 @@ use Rattle.sm_policy.specs.PolicyLaws.{longest_wait}
 use Rattle.sm_policy.specs.declared.activity.Activity.{Activity}
 use Rattle.sm_policy.specs.declared.activity.Activity.TheVariants as activity
 use Rattle.acting_manager.specs.Acting.{Acting}
-use Rattle.acting_manager.specs.Working.{is_writing}
+use Rattle.acting_manager.specs.Working.{after_told, is_writing}
 use Rattle.program_laws.specs.AnsweredPings.{WritesManaged}
 use Rattle.program_laws.specs.AnsweredWritings.{KeepsWriting, NoWritingGivenUp}
 use Rattle.program_laws.specs.Deciding.{Around, CanDecide, Deciding, DecidingEvent, Hear, Send, Tell, after_deciding_event, after_deciding_events}
 use Rattle.program_laws.specs.FreshWork.{works}
-use Rattle.program_laws.specs.Healing.{AllGoWellBy}
-use Rattle.program_laws.specs.HealingAtSeat.{HealsAtSeat, IsUndisturbedAt, OthersKeep, ServesAt}
+use Rattle.program_laws.specs.HealingAtSeat.{HealsAtSeat, OthersKeep, ServesAt}
 use Rattle.program_laws.specs.ManagedEnds.{StaysAbout}
 use Rattle.program_laws.specs.ManagedPings.{AllKeepManaged, managed_at_end, managed_at_writing}
-use Rattle.program_laws.specs.ManagedWritings.{begins_writing, managing_of}
+use Rattle.program_laws.specs.ManagedWritings.{IsNew, begins_writing, managing_of}
 use Rattle.program_laws.specs.StandingPlans.{KeepsWritten}
 use Rattle.program_laws.specs.SweepTime.{lines_of}
-use Rattle.program_laws.specs.Wakes.{HasDecided, Line, NoneLeaves, after_line, after_lines, longest_turn}
-use Rattle.program_laws.specs.WholeSweeps.{NothingGivenUp}
+use Rattle.program_laws.specs.Wakes.{ArePrompt, HasDecided, Line, NoneLeaves, after_line, after_lines, longest_turn}
+use Rattle.program_laws.specs.WholeSweeps.{NothingGivenUp, tells_loss}
 use Rattle.program_laws.proofs.lasting.Answered.{none_both}
 use Rattle.program_laws.proofs.lasting.AnsweredPings.{ends_written}
 use Rattle.program_laws.proofs.lasting.EventLines.{RunsSince, UpTo, events_to, lines_of_both, none_begins, runs_since}
 use Rattle.program_laws.proofs.lasting.EventLines.RunsSince.{Since, Throughout}
 use Rattle.program_laws.proofs.lasting.FirstPlans.{IsFirst, LastWriting, NoneBegins, events_first, last_writing}
 use Rattle.program_laws.proofs.lasting.FirstPlans.LastWriting.{Nothing, Something}
-use Rattle.program_laws.proofs.lasting.Healing.{Found, ends_so, found, none_lost, sweeps, well_later}
+use Rattle.program_laws.proofs.lasting.Healing.{AllGoOnBy, Found, IsUndisturbedSo, ends_so, found, sweeps, undisturbed_so, well_later}
 use Rattle.program_laws.proofs.lasting.StandingPings.{strict_whole}
 use Rattle.program_laws.proofs.managed.Moves.{both, first_of, later_of}
 use Rattle.program_laws.proofs.managed.OneSweeps.{writes_what_one_sweep_saw}
@@ -49,11 +49,33 @@ keep_all plan own (Send which ∷ events) d keep none = (tt, keep_all plan own e
 keep_all plan own (Tell time what ∷ events) d keep none = (none.0, keep_all plan own events _ keep none.1)
 keep_all plan own (Hear time which ∷ events) d keep none = (none.0, keep_all plan own events _ keep none.1)
 
+-- the manager does not give up what it writes, and no request while it writes
+abbrev pub WritesOn : Line → Acting → Type 0
+WritesOn line a =
+    KeepsWriting line a × (is_writing a.policy.activity ≡ true → list_any tells_loss (after_told line.0 line.1 a).notes ≡ false)
+
 -- nothing that was written is given up
-keep_writing : (some : List Line) (line : Line) (rest : List Line) (a : Acting) → AllGoWellBy KeepsWriting (some ++ line ∷ rest) a
+keep_writing : (some : List Line) (line : Line) (rest : List Line) (a : Acting) → AllGoOnBy WritesOn (some ++ line ∷ rest) a
     → NoWritingGivenUp (some ++ line ∷ []) a
-keep_writing [] line rest a w = (w.0.writes, tt)
-keep_writing (first ∷ some) line rest a w = (w.0.writes, keep_writing some line rest (after_line first a) w.1)
+keep_writing [] line rest a w = (w.0.writes.0, tt)
+keep_writing (first ∷ some) line rest a w = (w.0.writes.0, keep_writing some line rest (after_line first a) w.1)
+
+none_lost : (some : List Line) (line : Line) (rest : List Line) (a : Acting) → AllGoOnBy WritesOn (some ++ line ∷ rest) a
+    → is_writing a.policy.activity ≡ true → StaysAbout is_writing some a → NothingGivenUp (some ++ line ∷ []) a
+none_lost [] line rest a w writes stays = (w.0.writes.1 writes, tt)
+none_lost (first ∷ some) line rest a w writes stays = (
+  w.0.writes.1 writes,
+  none_lost some line rest (after_line first a) w.1 stays.0 stays.1,
+)
+
+-- a new manager that decides by itself sits at its seat, and nothing is on its way. After the events `before` nothing disturbs it
+-- through the events `events`
+pub record IsUndisturbedThere (n : ℕ) (d : Deciding) (before events : List DecidingEvent) : Type 0 where
+  pub new : IsNew d
+  pub starts : Starts (managing_of d)
+  pub before_can : AllByRecursion (CanDecide d.seat) before
+  pub events_can : AllByRecursion (CanDecide d.seat) events
+  pub undisturbed : IsUndisturbedSo WritesOn n (after_deciding_events before d).acting (lines_of events (after_deciding_events before d))
 
 -- what writes all the time does not begin a sweep
 never_sweeps : (some : List Line) (line : Line) (rest : List Line) (a : Acting) → StaysAbout is_writing (some ++ line ∷ rest) a
@@ -67,7 +89,7 @@ never_sweeps [] line rest a stays sweeps = one_only (after_line line a).policy.a
     one_only activity.Hands w s = absurd (cc)
 never_sweeps (first ∷ some) line rest a stays sweeps = never_sweeps some line rest (after_line first a) stays.1 sweeps
 
-module _ (d : Deciding) (before events : List DecidingEvent) (n : ℕ) (r : IsUndisturbedAt n d before events)
+module _ (d : Deciding) (before events : List DecidingEvent) (n : ℕ) (r : IsUndisturbedThere n d before events)
     (h : Found (lines_of events (after_deciding_events before d)) (after_deciding_events before d).acting) where
   abbrev start : Deciding
   start = after_deciding_events before d
@@ -252,12 +274,12 @@ module _ (d : Deciding) (before events : List DecidingEvent) (n : ℕ) (r : IsUn
         ∙ ap (λ ls. lines_of (a ++ g ∷ []) start ++ (lines_of since begun_at ++ (ls ++ lines_of up_to.later (after_deciding_event last up_to.event))))
         up_to.tells
 
-    well : AllGoWellBy KeepsWriting (lines_of since begun_at ++ h.ends ∷ lines_of up_to.later (after_deciding_event last up_to.event)) begun_at.acting
+    well : AllGoOnBy WritesOn (lines_of since begun_at ++ h.ends ∷ lines_of up_to.later (after_deciding_event last up_to.event)) begun_at.acting
     well =
-        subst (AllGoWellBy KeepsWriting _)
+        subst (AllGoOnBy WritesOn _)
         (sym (events_acting (a ++ g ∷ []) start) ∙ ap (λ (x : Deciding). x.acting) (events_both a (g ∷ []) start))
-        (well_later KeepsWriting (lines_of (a ++ g ∷ []) start) _ start.acting
-        (subst (λ ls. AllGoWellBy KeepsWriting ls start.acting) lines_are r.undisturbed.well))
+        (well_later WritesOn (lines_of (a ++ g ∷ []) start) _ start.acting
+        (subst (λ ls. AllGoOnBy WritesOn ls start.acting) lines_are r.undisturbed.well))
 
     last_are : lines_of (since ++ up_to.event ∷ []) begun_at ≡ lines_of since begun_at ++ h.ends ∷ []
     last_are =
@@ -295,7 +317,7 @@ module _ (d : Deciding) (before events : List DecidingEvent) (n : ℕ) (r : IsUn
         (subst (λ (x : Deciding). NoneLeaves (lines_of (g ∷ (since ++ up_to.event ∷ [])) x)) (sym at_is)
         (none_first (lines_of (g ∷ (since ++ up_to.event ∷ [])) (after_deciding_events a start)) _ (none_later (lines_of a start) _ leaves_none)))
         (subst (λ (x : Deciding). NothingGivenUp (lines_of (since ++ up_to.event ∷ []) x) x.acting) (sym now_is)
-        (subst (λ ls. NothingGivenUp ls begun_at.acting) (sym last_are) (none_lost KeepsWriting (lines_of since begun_at) h.ends _ begun_at.acting well)))
+        (subst (λ ls. NothingGivenUp ls begun_at.acting) (sym last_are) (none_lost (lines_of since begun_at) h.ends _ begun_at.acting well writes stays)))
         (subst (λ (x : Deciding). NoWritingGivenUp (lines_of (since ++ up_to.event ∷ []) x) x.acting) (sym now_is)
         (subst (λ ls. NoWritingGivenUp ls begun_at.acting) (sym last_are) (keep_writing (lines_of since begun_at) h.ends _ begun_at.acting well)))
         (subst (λ (x : Deciding). StaysAbout is_writing (lines_of since x) x.acting) (sym now_is) stays)
@@ -305,17 +327,34 @@ module _ (d : Deciding) (before events : List DecidingEvent) (n : ℕ) (r : IsUn
   by_run : RunsSince up_to.first start → ServesAt d before events
   by_run (Throughout about stays) =
       absurd (never_sweeps h.before h.begins h.during start.acting (subst (λ ls. StaysAbout is_writing ls start.acting) up_to.told stays)
-      (sweeps KeepsWriting n start.acting (lines_of events start) r.undisturbed h))
+      (sweeps WritesOn n start.acting (lines_of events start) r.undisturbed h))
   by_run (Since a g since is begun stays) = ends_well a g since is begun stays
 
   by_end : KeepsWritten end.kept end.manager ⊎ (is_writing c.policy.activity ≡ true) → ServesAt d before events
   by_end (inl k) = stood k
   by_end (inr writes) = by_run (runs_since up_to.first start (ap (λ (x : Acting). is_writing x.policy.activity) last_is ∙ writes))
 
-pub heals_at_seat : HealsAtSeat
-heals_at_seat n d before events r late prompt long =
+-- for so long
+pub so_serves : (n : ℕ) (d : Deciding) (before events : List DecidingEvent) (r : IsUndisturbedThere n d before events) (late : ℕ)
+    → ArePrompt late (lines_of events (after_deciding_events before d)) (after_deciding_events before d).acting
+    → (after_deciding_events before d).acting.time + 2 * longest_wait r.undisturbed.decided.timing
+    + (6 * (n + 3)) * longest_turn late (after_deciding_events before d).acting.window.limits
+    < (after_deciding_events events (after_deciding_events before d)).acting.time
+    → ServesAt d before events
+so_serves n d before events r late prompt long =
     let start = after_deciding_events before d in
-    let h = found KeepsWriting n start.acting (lines_of events start) r.undisturbed late prompt
+    let h = found WritesOn n start.acting (lines_of events start) r.undisturbed late prompt
     (subst (λ (a : Acting). start.acting.time + 2 * longest_wait r.undisturbed.decided.timing
     + (6 * (n + 3)) * longest_turn late start.acting.window.limits < a.time) (events_acting events start) long) in
-    by_end d before events n r h (ends_so KeepsWriting n start.acting (lines_of events start) r.undisturbed h)
+    by_end d before events n r h (ends_so WritesOn n start.acting (lines_of events start) r.undisturbed h)
+
+pub heals_at_seat : HealsAtSeat
+heals_at_seat n d before events r late prompt long =
+    so_serves n d before events (record {
+      new = r.new;
+      starts = r.starts;
+      before_can = r.before_can;
+      events_can = r.events_can;
+      undisturbed = undisturbed_so KeepsWriting WritesOn n (after_deciding_events before d).acting (lines_of events (after_deciding_events before d))
+          (λ line b w. (w.writes, λ _. w.none_lost)) r.undisturbed;
+    }) late prompt long

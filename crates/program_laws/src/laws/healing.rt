@@ -6,6 +6,7 @@ ghost use Rattle.program_laws.specs.InTurn.{WorksInTurn};
 ghost use Rattle.program_laws.specs.Leading.{LoneManagersLeadInTime};
 ghost use Rattle.program_laws.specs.LoneHealing.{LoneManagersHeal, LoneManagersHealAtSeat};
 ghost use Rattle.program_laws.specs.NextSweep.{SweepsAgainInTime};
+ghost use Rattle.program_laws.specs.OtherMasters.{MastersGiveWay};
 ghost use Rattle.program_laws.specs.RestTime.{RestsEndInTime};
 ghost use Rattle.program_laws.specs.StandingPings.{StandingPingsArrive};
 
@@ -89,19 +90,29 @@ pub fn lone_managers_lead_in_time()
 {}
 
 /// A manager that decides by itself has swept anew, and has its plan written, as in `heals_in_time`, after at most
-/// nineteen longest waits and `26 * (n + 4)` turns, whatever it is about at first, if five conditions hold: it is
-/// alone, as in `lone_managers_lead_in_time`; it gives no request up; when its sweep is over, no path led too far; each
-/// end port finds a LID then, and its writing is not refused; when its writing is over, the plan counts as written.
+/// nineteen longest waits and `26 * (n + 4)` turns, whatever it is about at first, if four conditions hold: it is
+/// alone, as in `lone_managers_lead_in_time`; each sweep that it begins meanwhile is whole; when a sweep is over, each
+/// end port finds a LID, and its writing is not refused; when its writing is over, the plan counts as written. A sweep
+/// is whole if each of its requests was answered, but for those for SMInfo, and no path led too far.
 pub fn lone_managers_heal()
     ensures { LoneManagersHeal }
 {}
 
 /// A manager that decides by itself, at its seat on a fabric, serves its subnet, as in `heals_at_seat`, after at most
 /// nineteen longest waits and `26 * (n + 4)` turns, whatever it is about at first, if seven conditions hold: it is
-/// alone, as in `lone_managers_lead_in_time`; it gives no request up; when its sweep is over, no path led too far; each
-/// end port finds a LID then, and its writing is not refused; at the very first no packet is on its way, GUIDs differ,
-/// and the manager is new; it was strict when its last writing began; since then each Set that an agent took is one of
-/// the writing's own or carries the plan's values. Its shell is faithful, and no cable moves.
+/// alone, as in `lone_managers_lead_in_time`; each sweep that it begins meanwhile is whole, as in
+/// `lone_managers_heal`; when a sweep is over, each end port finds a LID, and its writing is not refused; it gives up
+/// no request while it writes; at the very first no packet is on its way, GUIDs differ, and the manager is new; it was
+/// strict when its last writing began; since then each Set that an agent took is one of the writing's own or carries
+/// the plan's values. Its shell is faithful, and no cable moves.
 pub fn lone_managers_heal_at_seat()
     ensures { LoneManagersHealAtSeat }
+{}
+
+/// A master that decides by itself, and whose sweep saw another master, does not write next: it hands over to its
+/// successor, if the other one wins, and otherwise announces itself after three sweeps and then yields to the other
+/// one. If there is no way to that one, it rests. It has offered the subnet fewer than three times in this meeting, did
+/// not stand still while it swept, and is not told to leave.
+pub fn masters_give_way()
+    ensures { MastersGiveWay }
 {}
