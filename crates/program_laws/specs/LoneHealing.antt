@@ -1,13 +1,14 @@
 -- A manager that decides by itself, and is alone, has its plan written before long, and at its seat serves its subnet, whatever
 -- it is about at first. InfiniBand Architecture Specification, Volume 1: subnet management, subnet manager (sweeping), initialization.
-use Rattle.std.specs.Prelude.{◌≡◌, ◌≤◌, ◌<◌, ◌+◌, ◌*◌, ℕ, true, false, List, [], ◌∷◌, Some, None}
+use Rattle.std.specs.Prelude.{◌≡◌, ◌≤◌, ◌<◌, ◌+◌, ◌*◌, ◌^◌, ℕ, true, false, List, [], ◌∷◌, None}
 use Rattle.std.specs.List.{AllByRecursion, list_any}
-use Rattle.lft_blocks.specs.Plan.{PlanValue}
-use Rattle.sm_manager.specs.PlanFaults.{writing_fault}
+use Rattle.fact_store.specs.View.{cells_of}
+use Rattle.plan_steps.specs.Bound.{most_steps}
+use Rattle.sm_manager.specs.Manager.{Manager}
+use Rattle.sm_manager.specs.PlanFaults.{plan_fault}
 use Rattle.sm_policy.specs.Policy.{is_sweeping}
 use Rattle.sm_policy.specs.PolicyLaws.{longest_wait}
 use Rattle.acting_manager.specs.Acting.{Acting}
-use Rattle.acting_manager.specs.Planned.{planned}
 use Rattle.acting_manager.specs.Working.{after_told, is_idle, is_writing, pause}
 use Rattle.manager_laws.specs.Managing.{Starts}
 use Rattle.program_laws.specs.Alone.{IsLone}
@@ -16,20 +17,20 @@ use Rattle.program_laws.specs.Healing.{EndsWritten, Heals}
 use Rattle.program_laws.specs.HealingAtSeat.{ServesAt}
 use Rattle.program_laws.specs.ManagedWritings.{IsNew, managing_of}
 use Rattle.program_laws.specs.SweepTime.{lines_of}
-use Rattle.program_laws.specs.Wakes.{ArePrompt, Line, after_line, after_lines, before_deciding, longest_turn}
+use Rattle.program_laws.specs.Wakes.{ArePrompt, Line, after_line, after_lines, before_deciding, longest_turn, sets_to_come}
 use Rattle.program_laws.specs.WholeSweeps.{SweepsAreWhole, tells_loss}
 
--- what the manager's sweep, which is over, lets it write: there is a plan, and its writing would not be refused
-pub record LetsWrite (a : Acting) : Type 0 where
-  pub plan : PlanValue
-  pub is_planned : planned a.manager ≡ Some plan
-  pub unrefused : writing_fault a.manager ≡ None
+-- the manager, whose sweep is over, has room for what it writes: each end port finds a LID, and numbers are left for its
+-- requests
+pub record HasRoom (m : Manager) : Type 0 where
+  pub lids : plan_fault m.planning.lmc (cells_of m.store) ≡ None
+  pub numbers : m.counter + sets_to_come m + most_steps (cells_of m.store) ≤ 2 ^ 32
 
--- if the manager's sweep is over, it may write
+-- if the manager's sweep is over, it has room for what it writes
 abbrev pub IsFree : Line → Acting → Type 0
 IsFree line a =
     is_idle (before_deciding line a).window ≡ true → is_sweeping (before_deciding line a).policy.activity ≡ true
-    → LetsWrite (before_deciding line a)
+    → HasRoom (before_deciding line a).manager
 
 abbrev pub StaysFree : List Line → Acting → Type 0
 StaysFree [] a = Unit {0}
@@ -40,8 +41,8 @@ abbrev pub AllEndWritten : List Line → Acting → Type 0
 AllEndWritten [] a = Unit {0}
 AllEndWritten (line ∷ lines) a = EndsWritten line a × AllEndWritten lines (after_line line a)
 
--- a manager that is alone for so long, whose sweeps are whole and let it write, has swept and has its plan written (`Heals`).
--- It is told the time at most two seconds late
+-- a manager that is alone for so long, whose sweeps are whole, and which has room for what it writes, has swept and has its
+-- plan written (`Heals`). It is told the time at most two seconds late
 abbrev pub LoneManagersHeal : Type 0
 LoneManagersHeal =
     (n : ℕ) (a : Acting) (lines : List Line) (r : IsLone n a lines) → SweepsAreWhole lines a → StaysFree lines a → AllEndWritten lines a
@@ -59,7 +60,7 @@ LosesNoSet (line ∷ lines) a =
     × LosesNoSet lines (after_line line a)
 
 -- a new manager that decides by itself sits at its seat, and nothing is on its way. After the events `before` it is alone,
--- its sweeps are whole and let it write, and no Set of it is given up, through the events `events`
+-- its sweeps are whole, it has room for what it writes, and no Set of it is given up, through the events `events`
 pub record IsLoneAt (n : ℕ) (d : Deciding) (before events : List DecidingEvent) : Type 0 where
   pub new : IsNew d
   pub starts : Starts (managing_of d)

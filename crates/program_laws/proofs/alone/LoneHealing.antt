@@ -1,20 +1,32 @@
 -- A manager that is alone, with nothing in its way, sweeps and has its plan written in time.
-use Rattle.std.proofs.Common.{◌≡◌, ◌∙◌, inl, inr, ℕ, ◌+◌, ◌*◌, ◌<◌, ◌≤◌, Bool, true, false, ◌&&◌, ◌||◌, not, List, [], ◌∷◌, ◌++◌, refl, sym, ap, subst, arith}
+use Rattle.std.proofs.Common.{◌≡◌, ◌∙◌, inl, inr, ℕ, ◌+◌, ◌*◌, ◌<◌, ◌≤◌, ◌^◌, cond, Bool, true, false, ◌&&◌, ◌||◌, not, List, [], ◌∷◌, ◌++◌, refl, sym, ap, subst, arith}
+use Rattle.std.proofs.lemmas.Bool.{cond-true, cond-false, eq-eqb, le-ltb, not-false}
 use Rattle.std.proofs.lemmas.List.{append_assoc}
-use Rattle.std.specs.Prelude.{max}
+use Rattle.std.specs.Prelude.{Option, Some, None, is_none, max, nat_lt}
+use Rattle.fact_store.specs.View.{cells_of}
+use Rattle.lft_blocks.specs.Plan.{plan_of}
+use Rattle.plan_steps.specs.Bound.{most_steps}
+use Rattle.sweep.specs.Sweep.{Sweep, is_done}
+use Rattle.sm_state.specs.Standing.{is_in}
+use Rattle.sm_state.specs.State.{number_of_state}
 use Rattle.sm_state.specs.declared.state.SmState.TheVariants.{Master}
 use Rattle.sm_policy.specs.PolicyLaws.{longest_wait}
 use Rattle.sm_policy.specs.declared.timing.Timing.{Timing}
 use Rattle.request_window.specs.declared.limits.Limits.{Limits}
+use Rattle.sm_manager.specs.Manager.{Manager, is_running, progress_of, silent_in}
+use Rattle.sm_manager.specs.ManagerRequests.{no_step_waits}
+use Rattle.sm_manager.specs.PlanFaults.{number_fault, or_else, plan_fault, writing_fault}
+use Rattle.sm_manager.specs.Writing.{write_fault_with}
+use Rattle.sm_manager.specs.declared.fault.ManagerFault.TheVariants as fault
 use Rattle.sm_policy.specs.Policy.{is_master, is_sweeping}
 use Rattle.sm_policy.specs.declared.activity.Activity.{Activity}
 use Rattle.acting_manager.specs.Acting.{Acting, caught_up}
-use Rattle.acting_manager.specs.Acts.{is_whole}
+use Rattle.acting_manager.specs.Acts.{is_whole, is_whole_by}
 use Rattle.acting_manager.specs.Working.{is_given_up, is_idle, is_writing, taken}
 use Rattle.program_laws.specs.AnsweredWritings.{KeepsWriting}
 use Rattle.program_laws.specs.FreshWork.{works}
 use Rattle.program_laws.specs.Healing.{EndsWritten, Heals}
-use Rattle.program_laws.specs.LoneHealing.{AllEndWritten, IsFree, LoneManagersHeal, StaysFree}
+use Rattle.program_laws.specs.LoneHealing.{AllEndWritten, HasRoom, IsFree, LoneManagersHeal, StaysFree}
 use Rattle.program_laws.specs.ManagedEnds.{StaysAbout}
 use Rattle.program_laws.specs.NextSweep.{begins_sweep}
 use Rattle.program_laws.specs.RestTime.{sweeps_in}
@@ -22,7 +34,7 @@ use Rattle.program_laws.specs.StandingPlans.{KeepsWritten}
 use Rattle.program_laws.specs.WholeSweeps.{SweepsAreWhole}
 use Rattle.program_laws.specs.Wakes.{Line, after_line, after_lines, before_deciding, longest_turn}
 use Rattle.program_laws.proofs.alone.Acts.{line_led}
-use Rattle.program_laws.proofs.alone.Calm.{IsCalm, calm_later, calm_line, info_is, line_awake, line_goes, line_quiet, may_begin}
+use Rattle.program_laws.proofs.alone.Calm.{IsCalm, calm_later, calm_line, info_is, line_awake, line_goes, line_quiet, may_begin, over_then}
 use Rattle.program_laws.proofs.alone.InfoOnly.{InfoOnly}
 use Rattle.program_laws.proofs.alone.Leading.{found_in_time, has_known, line_knows, lone_calm}
 use Rattle.program_laws.proofs.alone.Needs.{IsLed, led_lasts}
@@ -32,6 +44,7 @@ use Rattle.program_laws.proofs.alone.SweepEnds.{saw_none}
 use Rattle.program_laws.proofs.alone.Voids.{KeepsOn, heard_void, line_keeps_on}
 use Rattle.program_laws.proofs.lasting.Healing.{AllGoOnBy, GoesOnBy, IsUndisturbedSo, so_heals}
 use Rattle.program_laws.proofs.wakes.AtSeats.{lines_both}
+use Rattle.program_laws.proofs.wakes.Awaited.{writings_lose_nothing}
 use Rattle.program_laws.proofs.wakes.FreshWork.{GoesOn}
 use Rattle.program_laws.proofs.wakes.Load.{moved_about}
 
@@ -72,6 +85,31 @@ about_lasts what =
       enters = λ m p now other h. moved_about now m.standing.state p ∙ h;
     }
 
+-- a master whose sweep is whole, and that has room, may write
+may_write : (m : Manager) → is_whole m ≡ true → m.standing.state ≡ Master → is_running m.sweep ≡ false → no_step_waits m.pending ≡ true → HasRoom m
+    → writing_fault m ≡ None
+may_write m whole master over none room =
+    ap (λ o. or_else o (or_else (plan_fault m.planning.lmc (cells_of m.store)) (number_fault (m.counter + most_steps (cells_of m.store)))))
+    (by_sweep m.sweep refl)
+    ∙ ap (λ o. or_else o (number_fault (m.counter + most_steps (cells_of m.store)))) room.lids
+    ∙ cond-false (nat_lt (2 ^ 32) (m.counter + most_steps (cells_of m.store))) (Some fault.SequenceSpent) None
+    (le-ltb (2 ^ 32) (m.counter + most_steps (cells_of m.store)) (let numbers = room.numbers in omega (arith, numbers)))
+  where
+    faults : (a b c : Bool) → a ≡ true → b ≡ true → c ≡ true
+        → cond (not a) (Some fault.NotMaster) (cond (not b) (Some fault.SweepRunning) (cond (not c) (Some fault.WritingRunning) None)) ≡ None
+    faults true true true e f g = refl
+    faults true true false e f g = absurd (cc)
+    faults true false c e f g = absurd (cc)
+    faults false b c e f g = absurd (cc)
+
+    by_sweep : (o : Option Sweep) → m.sweep ≡ o → write_fault_with m o ≡ None
+    by_sweep None e =
+        let wrong : false ≡ true = ap (λ s. is_whole_by (progress_of s) (silent_in s)) (sym e) ∙ whole in absurd (cc)
+    by_sweep (Some s) e =
+        faults (is_in Master m.standing) (is_done s) (no_step_waits m.pending)
+        (eq-eqb (number_of_state m.standing.state) (number_of_state Master) (ap number_of_state master))
+        (not-false (is_done s) (sym (ap is_running e) ∙ over)) none
+
 module _ (n late : ℕ) (timing : Timing) (limits : Limits) where
   abbrev Calm : List Line → Acting → Type 0
   Calm lines a = IsCalm n late timing limits lines a
@@ -105,15 +143,18 @@ module _ (n late : ℕ) (timing : Timing) (limits : Limits) where
             };
             itself = λ _ _. itself (after_line line a) (line_knows line a ∙ led_b.master);
           };
-          swept = λ idle sweeps.
-              let lets = free idle sweeps in
+          swept = λ idle sweeps whole.
+              let m = (before_deciding line a).manager in
+              let room = free idle sweeps in
               record {
                 master = knows_then line a ∙ led_x.master;
-                alone = saw_none (before_deciding line a).manager led_x.clean;
+                alone = saw_none m led_x.clean;
                 fresh = led_x.fresh;
-                plan = lets.plan;
-                is_planned = lets.is_planned;
-                unrefused = lets.unrefused;
+                plan = plan_of m.planning.rule m.planning.lmc (cells_of m.store);
+                is_planned = cond-true (is_none (plan_fault m.planning.lmc (cells_of m.store))) _ None (ap is_none room.lids);
+                unrefused = may_write m whole led_x.master (over_then n late timing limits line rest a c idle)
+                    (writings_lose_nothing a line c.goes.decided c.generations c.none_left c.goes.none_leaves.0 idle
+                    (let numbers = room.numbers in omega (arith, numbers))).none_waits room;
               };
           writes = so;
         }

@@ -54,12 +54,12 @@ pub record SweptSo (a : Acting) : Type 0 where
   pub is_planned : planned a.manager ≡ Some plan
   pub unrefused : writing_fault a.manager ≡ None
 
--- when the manager is told the line, it goes on: if it rests, it is to sweep; if its sweep is over, it is to judge its plan;
+-- when the manager is told the line, it goes on: if it rests, it is to sweep; if its sweep is over and whole, it is to judge its plan;
 -- and `Writes` is so of what it writes
 pub record GoesOnBy (Writes : Line → Acting → Type 0) (line : Line) (a : Acting) : Type 0 where
   pub to_sweep : IsToSweep line a
   pub swept : is_idle (before_deciding line a).window ≡ true → is_sweeping (before_deciding line a).policy.activity ≡ true
-      → SweptSo (before_deciding line a)
+      → is_whole (before_deciding line a).manager ≡ true → SweptSo (before_deciding line a)
   pub writes : Writes line a
 
 abbrev pub AllGoOnBy : (Line → Acting → Type 0) → List Line → Acting → Type 0
@@ -186,7 +186,8 @@ module _ (Writes : Line → Acting → Type 0) (line : Line) (a : Acting) (g : G
       by_stands : (b : Bool) → x.policy.written.stands ≡ b → KeepsWritten x.kept x.manager
       by_stands true stands = (full x stays (ap is_writing e) (still_sound line a (is_sound a g.decided))).stands stands
       by_stands false none =
-          let writes = sweep_writes x (well.swept idle (ap is_sweeping e)) (whole idle (ap is_sweeping (sym fell.about ∙ e))) none in
+          let all = whole idle (ap is_sweeping (sym fell.about ∙ e)) in
+          let writes = sweep_writes x (well.swept idle (ap is_sweeping e) all) all none in
           let after : works (after_line line a).policy.activity ≡ true =
           ap works (after_is ∙ ap (λ w. (acted_in w x).policy.activity) e) ∙ works_writing _ writes in
           absurd (both_ways (works (after_line line a).policy.activity) over after)
@@ -490,7 +491,7 @@ all_on Writes Then [] a more w = tt
 all_on Writes Then (line ∷ lines) a more w = (
   record {
     to_sweep = w.0.to_sweep;
-    swept = λ idle sweeps.
+    swept = λ idle sweeps _.
         let well = w.0.swept idle sweeps in
         record {
           master = well.master;

@@ -92,8 +92,8 @@ pub fn lone_managers_lead_in_time()
 /// A manager that decides by itself has swept anew, and has its plan written, as in `heals_in_time`, after at most
 /// nineteen longest waits and `26 * (n + 4)` turns, whatever it is about at first, if four conditions hold: it is
 /// alone, as in `lone_managers_lead_in_time`; each sweep that it begins meanwhile is whole; when a sweep is over, each
-/// end port finds a LID, and its writing is not refused; when its writing is over, the plan counts as written. A sweep
-/// is whole if each of its requests was answered, but for those for SMInfo, and no path led too far.
+/// end port finds a LID, and numbers are left for its Sets; when its writing is over, the plan counts as written. A
+/// sweep is whole if each of its requests was answered, but for those for SMInfo, and no path led too far.
 pub fn lone_managers_heal()
     ensures { LoneManagersHeal }
 {}
@@ -101,7 +101,7 @@ pub fn lone_managers_heal()
 /// A manager that decides by itself, at its seat on a fabric, serves its subnet, as in `heals_at_seat`, after at most
 /// nineteen longest waits and `26 * (n + 4)` turns, whatever it is about at first, if seven conditions hold: it is
 /// alone, as in `lone_managers_lead_in_time`; each sweep that it begins meanwhile is whole, as in
-/// `lone_managers_heal`; when a sweep is over, each end port finds a LID, and its writing is not refused; it gives up
+/// `lone_managers_heal`; when a sweep is over, each end port finds a LID, and numbers are left for its Sets; it gives up
 /// no request while it writes; at the very first no packet is on its way, GUIDs differ, and the manager is new; it was
 /// strict when its last writing began; since then each Set that an agent took is one of the writing's own or carries
 /// the plan's values. Its shell is faithful, and no cable moves.
