@@ -4,6 +4,7 @@ ghost use Rattle.program_laws.specs.Healing.{HealsInTime, SomeManagerHeals};
 ghost use Rattle.program_laws.specs.HealingAtSeat.{HealsAtSeat};
 ghost use Rattle.program_laws.specs.InTurn.{WorksInTurn};
 ghost use Rattle.program_laws.specs.NextSweep.{SweepsAgainInTime};
+ghost use Rattle.program_laws.specs.OnePlan.{OnePlanServes};
 ghost use Rattle.program_laws.specs.RestTime.{RestsEndInTime};
 ghost use Rattle.program_laws.specs.StandingPings.{StandingPingsArrive};
 
@@ -75,4 +76,10 @@ pub fn standing_pings_arrive()
 /// writing's own or carries the plan's values.
 pub fn heals_at_seat()
     ensures { HealsAtSeat }
+{}
+
+/// Of `heals_at_seat`, the condition on Sets that agents take holds, and so pings arrive at the moment that it tells of, if
+/// all writings of the manager are of one plan, and other senders set only SMInfo, from the start.
+pub fn one_plan_serves()
+    ensures { OnePlanServes }
 {}
