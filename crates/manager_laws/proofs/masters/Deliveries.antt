@@ -183,7 +183,11 @@ module _ (start : Simulation) (plan : PlanValue) (IsSeat : NodePort → Type 0) 
                 let end : fabrics.IsEndPort (fabric_of start) (port_at x.at.node port) =
                 subst (fabrics.IsEndPort (fabric_of start)) same
                 (vertex_is_end (fabric_of start) x.at (node_of a, node_there n x a there, (at_least n x a there).0, (at_least n x a there).1)) in
-                let h = has_lids r.origin planned.is_seat (port_at x.at.node port) (node_of a) (record { node_there = node_there n x a there; end_port = end; in_part = joined }) in
+                let h = has_lids r.origin planned.is_seat (port_at x.at.node port) (node_of a) (record {
+                  node_there = node_there n x a there;
+                  end_port = end;
+                  in_part = joined;
+                }) in
                 h ∙ ap (λ o. Some (option_map_or (λ y. base_lid_at y port) o 0, option_map_or (λ y. lmc_at y port) o 0)) there
 
       -- what an agent keeps --------------------------------------------------------------------------

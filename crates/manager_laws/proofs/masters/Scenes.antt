@@ -33,7 +33,8 @@ module _ (from : Scene) (plan : PlanValue) (IsSeat : NodePort → Type 0) where
         → HasLidsOf (fabric_of from.fabric) after
     same_lids w after same lids p = ap (λ (xs : List Agent). option_map_or (λ a. base_lid_at a p.port) (slice_get xs p.node) 0) same ∙ lids p
 
-    stays_on : (w : Scene) (event : Event) → Stands w → CanHappen event → StaysOn from plan IsSeat cables counts w (after_event w event) → Stands (after_event w event)
+    stays_on : (w : Scene) (event : Event) → Stands w → CanHappen event → StaysOn from plan IsSeat cables counts w (after_event w event)
+        → Stands (after_event w event)
     stays_on w event st can_happen so =
         let lids = same_lids w (after_event w event) so.agents st.lids in
         record {
@@ -50,7 +51,8 @@ module _ (from : Scene) (plan : PlanValue) (IsSeat : NodePort → Type 0) where
     keep : (w : Scene) (n : ℕ) → Stands w → (id : ℕ) (a : Agent) → agent_at w.fabric id ≡ Some a
         → (b : Agent) × (agent_at (after_deliver w.fabric n).fabric id ≡ Some b) × (KeepsHeld plan a b × KeepsLids a b)
     keep w n st id a there =
-        agents_keep from.fabric plan IsSeat cables counts st.traces.continues.fabric.along st.traces.continues.fabric.is st.traces.flights st.traces.harmless can st.has_lids n id a there
+        let fabric = st.traces.continues.fabric in
+        agents_keep from.fabric plan IsSeat cables counts fabric.along fabric.is st.traces.flights st.traces.harmless can st.has_lids n id a there
 
     delivered_stands : (w : Scene) (n : ℕ) → Stands w → Stands (after_event w (Deliver n))
     delivered_stands w n st =
@@ -69,8 +71,9 @@ module _ (from : Scene) (plan : PlanValue) (IsSeat : NodePort → Type 0) where
             by_agent : (m : Option Agent) → agent_at w.fabric p.node ≡ m
                 → (fabric_of (after_deliver w.fabric n).fabric).base_lid p ≡ (fabric_of from.fabric).base_lid p
             by_agent None none =
+                let fabric = st.traces.continues.fabric in
                 ap (λ o. option_map_or (λ a. base_lid_at a p.port) o 0)
-                (none_comes from.fabric plan IsSeat cables counts st.traces.continues.fabric.along st.traces.continues.fabric.is st.traces.flights st.traces.harmless can st.has_lids n p.node none
+                (none_comes from.fabric plan IsSeat cables counts fabric.along fabric.is st.traces.flights st.traces.harmless can st.has_lids n p.node none
                 ∙ sym none)
                 ∙ st.lids p
             by_agent (Some a) there =
@@ -105,5 +108,6 @@ module _ (from : Scene) (plan : PlanValue) (IsSeat : NodePort → Type 0) where
         by_event (Deliver n) can_happen so = λ id a there. let (b, now, keeps) = keep w n st id a there in (b, now, keeps.0)
         by_event (Lose n) can_happen so = still_kept (Lose n) (lost_on from plan IsSeat cables counts w n st.traces).agents
         by_event (Repeat n) can_happen so = still_kept (Repeat n) (repeated_on from plan IsSeat cables counts w n st.traces).agents
-        by_event (Send from_seat sending) can_happen so = still_kept (Send from_seat sending) (sending_on from plan IsSeat cables counts w st.traces from_seat sending can_happen so).agents
+        by_event (Send from_seat sending) can_happen so =
+            still_kept (Send from_seat sending) (sending_on from plan IsSeat cables counts w st.traces from_seat sending can_happen so).agents
         by_event (Emit at sending) can_happen so = still_kept (Emit at sending) (emitting_on from plan IsSeat cables counts w st.traces at sending can_happen so).agents

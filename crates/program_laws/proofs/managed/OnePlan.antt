@@ -1,5 +1,6 @@
 -- Each Set that an agent takes carries the plan of a manager that decides by itself, if all its writings are of that plan and others set nothing but SMInfo.
 use Rattle.std.proofs.Common.{◌≡◌, ◌∙◌, ◌++◌, true, List, [], ◌∷◌, refl, sym, ap, subst}
+use Rattle.std.proofs.lemmas.List.{append_assoc}
 use Rattle.std.specs.List.{AllByRecursion}
 use Rattle.std.specs.Prelude.{◌&&◌, not}
 use Rattle.lft_blocks.specs.Plan.{PlanValue, plan_of}
@@ -20,8 +21,8 @@ use Rattle.manager_laws.proofs.masters.Carrying.{OthersSetInfo, WritesOnly, carr
 use Rattle.program_laws.specs.Deciding.{CanDecide, Deciding, DecidingEvent, StandsFor, after_deciding_event, after_deciding_events}
 use Rattle.program_laws.specs.HealingAtSeat.{OthersKeep}
 use Rattle.program_laws.specs.ManagedPings.{AllKeepManaged, managed_at_writing}
-use Rattle.program_laws.specs.ManagedWritings.{IsQuiet, begins_writing, managing_of}
-use Rattle.program_laws.specs.OnePlan.{AllWrite, LastPlanIsKept, NoneWrites, OnePlanIsKept, OthersSetInfoOnly, WritesOnePlan}
+use Rattle.program_laws.specs.ManagedWritings.{IsQuiet, NoneBegins, begins_writing, managing_of}
+use Rattle.program_laws.specs.OnePlan.{AllWrite, IsOfOnePlan, LastPlanIsKept, OnePlanIsKept, OnePlanServes, OthersSetInfoOnly}
 use Rattle.program_laws.proofs.managed.Moves.{both, first_of, later_of, weaker}
 use Rattle.program_laws.proofs.managed.OneSweeps.{begun_so, first_stands}
 use Rattle.program_laws.proofs.managed.Staged.{seat_stays}
@@ -161,7 +162,7 @@ module _ (w : Managing) (plan : PlanValue) where
       by_event event each rest = rest
 
 -- a run in which no writing begins
-pub last_keeps : (plan : PlanValue) (own : OwnSets) (events : List DecidingEvent) (d : Deciding) → OthersKeep plan own events d → NoneWrites events d
+pub last_keeps : (plan : PlanValue) (own : OwnSets) (events : List DecidingEvent) (d : Deciding) → OthersKeep plan own events d → NoneBegins events d
     → AllKeepManaged plan own events d
 last_keeps plan own [] d keep none = tt
 last_keeps plan own (DecidingEvent.Around x ∷ events) d keep none =
@@ -170,16 +171,25 @@ last_keeps plan own (DecidingEvent.Send which ∷ events) d keep none =
     (tt, last_keeps plan own events (after_deciding_event d (DecidingEvent.Send which)) keep none.1)
 last_keeps plan own (event ∷ events) d keep none = (none.0, last_keeps plan own events (after_deciding_event d event) keep none.1)
 
-module _ (d : Deciding) (before : List DecidingEvent) (begins : DecidingEvent) (after : List DecidingEvent)
-    (b : WritesOnePlan d before begins after) where
+-- parts of a run
+pub writes_both : (plan : PlanValue) (first later : List DecidingEvent) (d : Deciding) → AllWrite plan first d
+    → AllWrite plan later (after_deciding_events first d) → AllWrite plan (first ++ later) d
+writes_both plan [] later d p q = q
+writes_both plan (event ∷ first) later d p q = (p.0, writes_both plan first later (after_deciding_event d event) p.1 q)
+
+writes_parts : (plan : PlanValue) (first later : List DecidingEvent) (d : Deciding) → AllWrite plan (first ++ later) d
+    → AllWrite plan first d × AllWrite plan later (after_deciding_events first d)
+writes_parts plan [] later d p = (tt, p)
+writes_parts plan (event ∷ first) later d p =
+    let rest = writes_parts plan first later (after_deciding_event d event) p.1 in ((p.0, rest.0), rest.1)
+
+module _ (plan : PlanValue) (d : Deciding) (before : List DecidingEvent) (begins : DecidingEvent) (after : List DecidingEvent)
+    (b : IsOfOnePlan plan d (before ++ begins ∷ after)) (writes : begins_writing (after_deciding_events before d) begins ≡ true) where
   abbrev start : Managing
   start = managing_of d
 
   abbrev now : Deciding
   now = managed_at_writing d before begins
-
-  abbrev plan : PlanValue
-  plan = plan_at (managing_of now)
 
   led_first : Led start plan d
   led_first = record { events = []; can_be = tt; others = tt; only = tt; seat = refl; stands = first_stands d b.new }
@@ -187,11 +197,18 @@ module _ (d : Deciding) (before : List DecidingEvent) (begins : DecidingEvent) (
   from_then : AllByRecursion OthersSetInfoOnly (begins ∷ after)
   from_then = later_of OthersSetInfoOnly before (begins ∷ after) b.others
 
+  can_then : AllByRecursion (CanDecide d.seat) (begins ∷ after)
+  can_then = later_of (CanDecide d.seat) before (begins ∷ after) b.can
+
+  all_write : AllWrite plan before d × AllWrite plan (begins ∷ after) (after_deciding_events before d)
+  all_write = writes_parts plan before (begins ∷ after) d b.one
+
   led_now : Led start plan now
   led_now =
       event_led start plan (after_deciding_events before d) begins
-      (run_led start plan before d led_first b.before_can (first_of OthersSetInfoOnly before (begins ∷ after) b.others) b.earlier)
-      b.begins_can from_then.0 (λ _. refl)
+      (run_led start plan before d led_first (first_of (CanDecide d.seat) before (begins ∷ after) b.can)
+      (first_of OthersSetInfoOnly before (begins ∷ after) b.others) all_write.0)
+      can_then.0 from_then.0 all_write.1.0
 
   keeps : (own : OwnSets) (x : Deciding) → Led start plan x → (event : Event) → KeepsPlan plan own x.scene.fabric event
   keeps own x k event =
@@ -201,15 +218,35 @@ module _ (d : Deciding) (before : List DecidingEvent) (begins : DecidingEvent) (
       subst (λ (scene : Scene). KeepsPlan plan own scene.fabric event) k.stands.scene
       (carrying_keeps start b.starts plan own u (carries_on start b.starts plan k.events first k.can_be k.others k.only) event)
 
-  is_kept : OthersKeep plan (own_sets start (managing_of now)) after now
+  is_kept : OthersKeep (plan_at (managing_of now)) (own_sets start (managing_of now)) after now
   is_kept =
       let own = own_sets start (managing_of now) in
-      others_keep start plan own (keeps own) after now led_now b.after_can from_then.1 b.later
+      subst (λ (p : PlanValue). OthersKeep p own after now) (sym (all_write.1.0 writes))
+      (others_keep start plan own (keeps own) after now led_now can_then.1 from_then.1 all_write.1.1)
 
 pub one_plan_is_kept : OnePlanIsKept
-one_plan_is_kept d before begins after b = is_kept d before begins after b
+one_plan_is_kept plan d before begins after b writes = is_kept plan d before begins after b writes
 
 pub last_plan_is_kept : LastPlanIsKept
-last_plan_is_kept d before begins after b none =
-    last_keeps (plan d before begins after b) (own_sets (managing_of d) (managing_of (managed_at_writing d before begins))) after
-    (managed_at_writing d before begins) (is_kept d before begins after b) none
+last_plan_is_kept plan d before begins after b writes none =
+    last_keeps (plan_at (managing_of (managed_at_writing d before begins)))
+    (own_sets (managing_of d) (managing_of (managed_at_writing d before begins))) after (managed_at_writing d before begins)
+    (is_kept plan d before begins after b writes) none
+
+-- a part of a run of one plan
+first_part : (plan : PlanValue) (d : Deciding) (first later : List DecidingEvent) → IsOfOnePlan plan d (first ++ later) → IsOfOnePlan plan d first
+first_part plan d first later b =
+    record {
+      new = b.new;
+      starts = b.starts;
+      can = first_of (CanDecide d.seat) first later b.can;
+      one = (writes_parts plan first later d b.one).0;
+      others = first_of OthersSetInfoOnly first later b.others;
+    }
+
+pub one_plan_serves : OnePlanServes
+one_plan_serves plan d before events b s strict =
+    let are : before ++ events ≡ (s.earlier ++ s.begins ∷ s.since) ++ s.later =
+    ap (λ es. before ++ es) s.are ∙ sym (append_assoc before s.first s.later) ∙ ap (λ es. es ++ s.later) s.until in
+    s.serves strict (is_kept plan d s.earlier s.begins s.since
+    (first_part plan d (s.earlier ++ s.begins ∷ s.since) s.later (subst (IsOfOnePlan plan d) are b)) s.writes)

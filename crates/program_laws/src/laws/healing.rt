@@ -6,6 +6,7 @@ ghost use Rattle.program_laws.specs.InTurn.{WorksInTurn};
 ghost use Rattle.program_laws.specs.Leading.{LoneManagersLeadInTime};
 ghost use Rattle.program_laws.specs.LoneHealing.{LoneManagersHeal, LoneManagersHealAtSeat};
 ghost use Rattle.program_laws.specs.NextSweep.{SweepsAgainInTime};
+ghost use Rattle.program_laws.specs.OnePlan.{OnePlanServes};
 ghost use Rattle.program_laws.specs.OtherMasters.{MastersGiveWay};
 ghost use Rattle.program_laws.specs.RestTime.{RestsEndInTime};
 ghost use Rattle.program_laws.specs.StandingPings.{StandingPingsArrive};
@@ -115,4 +116,10 @@ pub fn lone_managers_heal_at_seat()
 /// not stand still while it swept, and is not told to leave.
 pub fn masters_give_way()
     ensures { MastersGiveWay }
+{}
+
+/// Of `heals_at_seat`, the condition on Sets that agents take holds, and so pings arrive at the moment that it tells of, if
+/// all writings of the manager are of one plan, and other senders set only SMInfo, from the start.
+pub fn one_plan_serves()
+    ensures { OnePlanServes }
 {}

@@ -91,9 +91,9 @@ pub fn some_path_is_told_at_a_seat()
     ensures { SomePathIsToldAtASeat }
 {}
 
-/// If all the writings that a new manager begins are of one plan, and other senders set only SMInfo, from the start, then
-/// after each of its writings each Set that an agent takes is one of that writing's own or carries the plan's values. At
-/// first no packet is on its way, and GUIDs differ; the shell is faithful; no cable moves.
+/// If all writings that a new manager begins are of one plan, and other senders set only SMInfo, from the start, then after
+/// each of its writings each Set that an agent takes is one of that writing's own or carries the plan's values. At first
+/// no packet is on its way, and GUIDs differ; the shell is faithful; no cable moves.
 pub fn one_plan_is_kept()
     ensures { OnePlanIsKept }
 {}
