@@ -17,6 +17,9 @@ UNMEASURED = {
     "plan --floor": "It leaves out facts as `join --floor` does.",
     "order --roots": "The order is found as by `plan --roots`, which then also plans.",
     "order --order": "The order is found as by `plan --order`, which then also plans.",
+    "line of run: wait": "Its turns are those of `drain`, and lines of `manage`.",
+    "line of run: pause": "It changes one field.",
+    "line of run: resume": "It changes one field.",
 }
 COMMAND = re.compile(r"^  ([a-z-]+)  ", re.M)
 # An option with its help, up to the next one.

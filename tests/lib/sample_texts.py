@@ -54,6 +54,8 @@ TOPOLOGIES = (
 FABRIC = 'Switch 4 "S 1" guid 0x10\n[1] "H1"[1]\nHca 2 "H1" guid 0x100\nHca 1 "H2" guid 0x200\n'
 MANAGERS = 'manager A "H1"[1] 15\nmanager b2 "H2"[01] 0\n'
 
+DECIDER = 'manager c "H1"[2] 1 decides 5'
+
 # Lines after those of the managers, and their fault.
 SCHEDULE_FAULTS = (
     *((line, "line 3: syntax") for line in (
@@ -66,11 +68,18 @@ SCHEDULE_FAULTS = (
         "yield", "yield A b2", "rediscover", "rediscover A b2", "Yield A",
         "poll", "poll 1 A 1", "poll A 65536", "floor A", "floor A 0", "floor A 4294967296", "state", "silent",
         "Silent A", "silent A b2", "written", "write A b2", "writte A", "written A b2", "State A",
-        'manager A "S 1"[0] 16',
+        'manager A "S 1"[0] 16', 'manager c "H1"[2] 1 decides', 'manager c "H1"[2] 1 decides -1',
+        'manager c "H1"[2] 1 decides 4294967295', 'manager c "H1"[2] 1 decide 1', 'manager c "H1"[2] 1 decides 1 1',
+        "wait", "wait 1", "wait 1 10001", "wait 4294967296 1", "wait A 1", "wait 1 1 1", "pause", "pause A b2",
+        "resume", "resume 1 1",
+    )),
+    *((f"{DECIDER}\n{line}", "line 4: decides") for line in (
+        "sweep c", "write c", "handover c", "yield c", "rediscover c", "poll c", "poll c 1", "timeout c", "floor c 1",
+        "merge c A", "merge A c", "merge c d", "pause A", "resume b2",
     )),
     *((line, "line 3: name") for line in (
         "sweep a", "merge A c\nx", "merge c A", "handover c", "yield c", "rediscover c", "poll c", "poll c 1",
-        "floor c 1", "state c", "silent c",
+        "floor c 1", "state c", "silent c", "pause c", "resume c", "timeout c",
         "written c", 'cut "S"[1]', 'plug "H1"[1] "S"[1]', 'plug "S"[1] "H1"[1]', 'ping "S"[1] 1', 'manager A "H1"[2] 0',
         'manager A "S 1"[0] 0', 'manager c "S"[0] 0',
     )),
@@ -78,6 +87,9 @@ SCHEDULE_FAULTS = (
     ('\nsweep c\nmanager c "H1"[2] 0', "line 4: name"),
     ('#\r\nmanager c "S 1"[1] 0', "line 4: seat"),
     ('manager c "H1"[2] 0\nmanager d "H1"[2] 0', "line 4: seat"),
+    (f'{DECIDER}\nmanager d "H1"[2] 0', "line 4: seat"), ('manager c "H1"[1] 0 decides 0', "line 3: seat"),
+    (f'{DECIDER}\nmanager c "H1"[2] 0', "line 4: name"), ('manager A "H1"[2] 0 decides 0', "line 3: name"),
+    (f"{DECIDER}\npause d", "line 4: name"), (f"{DECIDER}\nmerge A d", "line 4: name"),
 )
 
 # Lines that are accepted, and what they print.
@@ -92,6 +104,11 @@ LINES = (
     ("traps", ""), ("resend", ""), ("traps # on\ntraps\nresend", ""),
     ("flight\r\n", ""), ("deliver last", "refused NoSuchPacket\n"), ("lose 0", "refused NoSuchPacket\n"),
     ("repeat 0018446744073709551615", "refused NoSuchPacket\n"), ("drain 0", ""), ("drain 001000000#", ""),
+    ("wait 4294967295 0", ""), ("wait 04294967295 010000", ""), ("wait 0 1", ""), (DECIDER, ""),
+    ('manager c "H1"[2] 1 decides 004294967294#', ""), (f"{DECIDER}\npause c\nresume c\npause\tc", ""),
+    (f"{DECIDER}\nstate c\nwritten c\nprogress c\nsilent c\nfacts c",
+        "state c discovering\nwritten c no\nprogress c never\nsilent c never\n"),
+    (f"{DECIDER}\npause c\nwait 9000 1000\nprogress c", "progress c never\n"),
     ("sweep A\r\n\t# next\n" * 1000, "refused SweepRunning\n" * 999),
 )
 

@@ -23,18 +23,18 @@ pub fn later_lines_come_behind()
     ensures { LaterLinesComeBehind }
 {}
 
-/// In the world that a run leaves, each manager knows the view of all sightings that it took in, at the greatest
-/// floor that it was given, or 1. A manager took in the sightings of the reports that it accepted. If a manager
-/// merged the facts of another manager, it also took in what the other manager had taken in by then, with the floor
-/// of that other manager.
+/// In the world that a run leaves, each manager that is asked knows the view of all sightings that it took in, at the
+/// greatest floor that it was given, or 1. A manager took in the sightings of the reports that it accepted. If a
+/// manager merged the facts of another manager, it also took in what the other manager had taken in by then, with the
+/// floor of that other manager.
 #[tactic(auto, using(crate::proofs::Known::runs_are_accounted_for))]
 pub fn runs_are_accounted_for()
     ensures { RunsAreAccountedFor }
 {}
 
-/// Two managers, of one run or of two, print the same facts and the same plan, whatever else they did or were asked,
-/// if three conditions hold: they plan under the same LMC and by the same rule; they took in the same sightings, in
-/// any order and however often; and they have the same greatest floor.
+/// Two managers that are asked, of one run or of two, print the same facts and the same plan, whatever else they did
+/// or were asked, if three conditions hold: they plan under the same LMC and by the same rule; they took in the same
+/// sightings, in any order and however often; and they have the same greatest floor.
 pub fn same_taken_in_same_lines()
     ensures { SameTakenInSameLines }
 {}
@@ -82,11 +82,11 @@ pub fn written_plans_are_reached()
     ensures { WrittenPlansAreReached }
 {}
 
-/// After each schedule that begins a sweep of the only manager, which is new, and some lines later a writing, each
-/// `ping` from an end port that is joined to the manager's port, for a LID of the manager's plan, prints that it
-/// reached the port of the LID's owner, if five conditions hold: the sweep has every answer when the writing begins;
-/// the line `written` prints `yes` in the end; no cable moves; no line is `traps` or `resend`; and each Set that an
-/// agent takes once the writing has begun is one of the writing's own or carries the plan's values.
+/// After each schedule that begins a sweep of the only manager, which is new and asked, and some lines later a
+/// writing, each `ping` from an end port that is joined to the manager's port, for a LID of the manager's plan, prints
+/// that it reached the port of the LID's owner, if five conditions hold: the sweep has every answer when the writing
+/// begins; the line `written` prints `yes` in the end; no cable moves; no line is `traps`, `resend` or `wait`; and
+/// each Set that an agent takes once the writing has begun is one of the writing's own or carries the plan's values.
 pub fn runs_of_one_are_reached()
     ensures { RunsOfOneAreReached }
 {}

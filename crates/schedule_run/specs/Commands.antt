@@ -255,12 +255,12 @@ new_decider planning nodes seat =
       is_awake = false;
     }
 
--- the fabric of a topology, whose first packet has the serial number 1, and a manager for each seat. The time is 0
+-- the fabric of a topology, whose first packet has the serial number 1, and a manager for each seat. The time is 1
 abbrev pub world_of : Planning → Layout → List Seat → List Seat → WorldValue
 world_of planning topology seats deciders =
     record {
       fabric = simulation_of topology 1;
       managers = map (new_seated planning topology.nodes) seats;
       deciders = map (new_decider planning topology.nodes) deciders;
-      time = 0;
+      time = 1;
     }

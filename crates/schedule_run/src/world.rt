@@ -29,6 +29,9 @@ use topo_file::Topology;
 /// The serial number of the first packet that is sent.
 const FIRST_SERIAL: u64 = 1;
 
+/// The time in milliseconds when a run begins. It is not 0, since a manager that was told no time but 0 counts as new.
+const FIRST_TIME: u64 = 1;
+
 /// How often managers that decide by themselves do what, as `ibsm manage` without options.
 const TIMING: Timing = Timing {
     every: 10_000,
@@ -95,7 +98,7 @@ impl<'s> World<'s> {
             fabric,
             managers,
             deciders,
-            time: 0,
+            time: FIRST_TIME,
         })
     }
 
