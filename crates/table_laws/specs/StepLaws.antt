@@ -3,7 +3,10 @@ use Rattle.std.specs.Prelude.{◌≡◌, ℕ, true, List, [], Option, Some}
 use Rattle.fact_store.specs.View.{Facts, cells_of, AreInRange}
 use Rattle.lid_assign.specs.Lids.{IsNoRoom, lids}
 use Rattle.lft_blocks.specs.Rule.{RuleValue}
+use Rattle.subnet_view.specs.Reading.{Cells}
 use Rattle.held_tables.specs.Held.{HeldPlan}
+use Rattle.audit_channels.specs.ChannelOrders.{IsCycle}
+use Rattle.next_tables.specs.Mixtures.{WaitsMixed}
 use Rattle.plan_tables.specs.PlanTables.{planned}
 use Rattle.next_tables.specs.Rightness.{are_right}
 use Rattle.table_laws.specs.PlanLaws.{plan_position}
@@ -26,6 +29,13 @@ RightTablesMakeNoLoop =
     (rule : RuleValue) (lmc : ℕ) (facts : Facts) (held : HeldPlan) → AreInRange facts
     → ¬ (IsNoRoom lmc (cells_of facts)) → are_right (cells_of facts) (plan_position rule (cells_of facts)) held ≡ true
     → IsFreeOfLoops lmc rule facts held
+
+-- if `next` finds no credit loop in a step, channels never wait in a cycle, whatever mixtures of the held and the next
+-- tables the switches hold
+abbrev pub FreeStepsMakeNoLoop : Type 0
+FreeStepsMakeNoLoop =
+    (cells : Cells) (held next : HeldPlan) (lids : List ℕ) → IsLoopInStep cells held next [] lids
+    → (cycle : List ℕ) → ¬ (IsCycle (WaitsMixed cells held next) cycle)
 
 -- equal sets of facts, options, held tables and plans give equal goals and equal next tables
 abbrev pub StepsHaveOneResult : Type 0

@@ -5,7 +5,7 @@ use Rattle.fact_store.specs.View.{Facts, cells_of}
 use Rattle.subnet_view.specs.Reading.{Cells}
 use Rattle.held_tables.specs.Held.{HeldPlan}
 use Rattle.plan_order.specs.PlanOrder.{positions_by}
-use Rattle.next_tables.specs.Mixtures.{RiseInStep}
+use Rattle.next_tables.specs.Mixtures.{RiseInStep, WaitsMixed}
 use Rattle.next_tables.specs.OrderRule.{numbers_by}
 use Rattle.next_tables.specs.SwitchPositions.{position_at}
 use Rattle.next_tables.specs.NextTables.{by_order, next_tables, settled_first}
@@ -18,12 +18,13 @@ use Rattle.table_laws.proofs.plan_orders.PlanSteps.{steps_towards_plans}
 use Rattle.next_run.specs.Between.{Goal, IsGoal}
 use Rattle.next_run.specs.GoalLaws.{next_towards as next_to}
 use Rattle.next_run.proofs.Safe.{goals_are_safe}
+use Rattle.next_tables.proofs.Waits.{mixtures_wait_so}
 use Rattle.next_tables.proofs.by_order.Waits.{numbers_rise_by_order}
 use Rattle.next_run.specs.NextRun.{stepped}
 use Rattle.plan_tables.specs.PlanTables.{planned}
 use Rattle.audit_channels.specs.ChannelOrders.{IsCycleIfAny}
-use Rattle.audit_channels.proofs.Orders.{no_cycle_at_all}
-use Rattle.table_laws.specs.StepLaws.{IsFreeByTold, RightTablesMakeNoLoop, ToldStepsMakeNoLoop}
+use Rattle.audit_channels.proofs.Orders.{no_cycle, no_cycle_at_all}
+use Rattle.table_laws.specs.StepLaws.{FreeStepsMakeNoLoop, IsFreeByTold, RightTablesMakeNoLoop, ToldStepsMakeNoLoop}
 use Rattle.table_laws.proofs.step_ends.OneStep.{goal_implied}
 
 module _ (cells : Cells) (held next : HeldPlan) (numbers : List ℕ) (rise : RiseInStep cells held next numbers) where
@@ -67,3 +68,13 @@ told_steps_make_no_loop rule last lmc facts held goal is =
     let plan = planned lmc rule facts in
     let own = goal_implied rule facts held plan last goal is in
     free_by_told facts held plan (positions_by rule (cells_of facts)) own.near goal own.is
+
+pub free_steps_make_no_loop : FreeStepsMakeNoLoop
+free_steps_make_no_loop cells held next lids found = no_cycle (WaitsMixed cells held next) (record {
+  number = found.waits.number;
+  rises = λ a b w. found.waits.rises a b (record {
+    lid = w.lid;
+    is_lid = w.is_lid;
+    waits = mixtures_wait_so cells held next w.before w.now w.lid w.before_is w.now_is a b w.waits;
+  });
+})

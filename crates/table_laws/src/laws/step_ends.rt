@@ -2,7 +2,7 @@
 ghost use Rattle.table_laws.specs.Calls.{CallsComeToFollow, CallsMakeNoLoop, FollowingCallsEnd, SpreadOrdersGrow};
 ghost use Rattle.table_laws.specs.StepEnds.{LastTextIsThePlans, PlansDeliverWhatTablesCan, PrintedStepsEnd};
 ghost use Rattle.table_laws.specs.StepEnds.{StepsEnd};
-ghost use Rattle.table_laws.specs.StepLaws.{RightTablesMakeNoLoop, StepsHaveOneResult};
+ghost use Rattle.table_laws.specs.StepLaws.{FreeStepsMakeNoLoop, RightTablesMakeNoLoop, StepsHaveOneResult};
 ghost use Rattle.table_laws.specs.StepEnds.{WaysMeetAtMostAll};
 ghost use Rattle.table_laws.specs.StepLaws.{ToldStepsMakeNoLoop};
 ghost use Rattle.table_laws.specs.WholePlans.{PlansAreWhole, PlansGiveOwnLids};
@@ -25,6 +25,12 @@ pub fn plans_deliver_what_tables_can()
 /// an order if they send packets for no LID down and then up.
 pub fn right_tables_make_no_loop()
     ensures law { RightTablesMakeNoLoop }
+{}
+
+/// If `next` finds no credit loop in a step, channels never wait for each other in a cycle while the next tables are
+/// written, whatever mixtures of the held and the next tables the switches hold.
+pub fn free_steps_make_no_loop()
+    ensures law { FreeStepsMakeNoLoop }
 {}
 
 /// Equal sets of facts, options, held tables and plans give equal next tables and, if a step goes towards a goal in
