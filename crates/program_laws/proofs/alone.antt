@@ -1,6 +1,7 @@
 pub mod Acts
 pub mod After
 pub mod Calm
+pub mod FewTurns
 pub mod Hearing
 pub mod InfoOnly
 pub mod Leading

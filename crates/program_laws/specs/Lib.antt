@@ -10,6 +10,7 @@ pub mod AnsweredWritings
 pub mod AnsweredPings
 pub mod Deciding
 pub mod ManagedEnds
+pub mod FewTurns
 pub mod FreshWork
 pub mod Healing
 pub mod HealingAtSeat

@@ -135,7 +135,8 @@ module _ (m : Manager) where
 
   by_writing : Acted m (after_call m Call.WriteSteps)
   by_writing =
-      cond_both (is_none (writing_fault m)) (after_write_steps m) m (λ (n : Manager). (InfoOnly m → InfoOnly n) → Acted m n) (λ _ info. as_was m _ refl refl info)
+      cond_both (is_none (writing_fault m)) (after_write_steps m) m (λ (n : Manager). (InfoOnly m → InfoOnly n) → Acted m n)
+      (λ _ info. as_was m _ refl refl info)
       (λ _ _. nothing m) (λ info. info_call m info Call.WriteSteps)
 
 by_sweep : (a : Acting) → Acted a.manager (done_by act.Sweep a).manager

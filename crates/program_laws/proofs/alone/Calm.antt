@@ -19,6 +19,7 @@ use Rattle.program_laws.proofs.alone.Needs.{IsRest}
 use Rattle.program_laws.proofs.alone.Polls.{polls_soon}
 use Rattle.program_laws.proofs.alone.Quiet.{IsAwake}
 use Rattle.program_laws.proofs.alone.Steady.{AtRest, IsResting}
+use Rattle.program_laws.proofs.lasting.Answered.{none_both}
 use Rattle.program_laws.proofs.lasting.Standing.{is_sound}
 use Rattle.program_laws.proofs.wakes.AtSeats.{lines_both}
 use Rattle.program_laws.proofs.wakes.Awaited.{sweeps_lose_nothing}
@@ -26,7 +27,7 @@ use Rattle.program_laws.proofs.wakes.DueTimes.{IsDueSoon, first_soon}
 use Rattle.program_laws.proofs.wakes.FreshWork.{GoesOn, goes_first, goes_later}
 use Rattle.program_laws.proofs.wakes.InTime.{a_line_soon, has_soon}
 use Rattle.program_laws.proofs.wakes.News.{has_news, times_rise}
-use Rattle.program_laws.proofs.wakes.NextSweep.{few_later, has_more, prompt_later, same_limits}
+use Rattle.program_laws.proofs.wakes.NextSweep.{few_later, has_more, none_first, prompt_later, same_limits}
 
 pub record IsCalm (n late : ℕ) (timing : Timing) (limits : Limits) (lines : List Line) (a : Acting) : Type 0 where
   pub goes : GoesOn a lines
@@ -39,14 +40,6 @@ pub record IsCalm (n late : ℕ) (timing : Timing) (limits : Limits) (lines : Li
   pub prompt : ArePrompt late lines a
   pub time : (after_lines lines a).time < 2 ^ 64
   pub short : late ≤ pause
-
-pub none_both : (first later : List Line) → NoneLeaves first → NoneLeaves later → NoneLeaves (first ++ later)
-none_both [] later none more = more
-none_both (line ∷ first) later none more = (none.0, none_both first later none.1 more)
-
-none_some : (some rest : List Line) → NoneLeaves (some ++ rest) → NoneLeaves some
-none_some [] rest none = tt
-none_some (line ∷ some) rest none = (none.0, none_some some rest none.1)
 
 alone_later : (some rest : List Line) (a : Acting) → StaysAlone (some ++ rest) a → StaysAlone rest (after_lines some a)
 alone_later [] rest a alone = alone
@@ -69,7 +62,7 @@ module _ (n late : ℕ) (timing : Timing) (limits : Limits) where
               none_leaves = later.none_leaves;
             };
         generations = c.generations;
-        none_left = none_both c.goes.decided.lines some c.none_left (none_some some rest c.goes.none_leaves);
+        none_left = none_both c.goes.decided.lines some c.none_left (none_first some rest c.goes.none_leaves);
         timing_is = c.timing_is;
         limits_is = same_limits some a c.goes.decided ∙ c.limits_is;
         alone = alone_later some rest a c.alone;

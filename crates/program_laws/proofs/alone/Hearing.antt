@@ -32,14 +32,10 @@ use Rattle.program_laws.specs.Alone.{IsNoWord, is_word}
 use Rattle.program_laws.specs.Wakes.{IsBy, IsNoLeave, Line, is_control, next_in, one_if, sets_to_come}
 use Rattle.program_laws.proofs.alone.Moves.{no_control, none_there}
 use Rattle.program_laws.proofs.alone.Quiet.{IsAwake}
-use Rattle.program_laws.proofs.wakes.Makes.{packet_makes, responds}
+use Rattle.program_laws.proofs.wakes.Makes.{and_false, packet_makes, responds}
 use Rattle.program_laws.proofs.wakes.Waking.{looked_manager, looked_window}
 
 -- standing still ------------------------------------------------------------------------------------------------------------
-
-and_false : (b : Bool) → (b && false) ≡ false
-and_false true = refl
-and_false false = refl
 
 pub wake_now : (a : Acting) (wake : ℕ) → wake_of a ≡ Some wake → a.time ≤ wake
 wake_now a wake =
@@ -90,7 +86,8 @@ module _ (m : Manager) (bytes : List ℕ) (from : Option ℕ) (asks : is_respons
         sweep = refl;
         writing = refl;
         pending = refl;
-        state = cond_both (is_live m.standing.conduct) (active_once_more m.standing) m.standing (λ (s : Standing). s.state ≡ m.standing.state) (λ _. refl) (λ _. refl);
+        state = cond_both (is_live m.standing.conduct) (active_once_more m.standing) m.standing (λ (s : Standing). s.state ≡ m.standing.state)
+            (λ _. refl) (λ _. refl);
         lost = cond_both (is_live m.standing.conduct) (active_once_more m.standing) m.standing (λ (s : Standing). s.polls_lost ≡ m.standing.polls_lost)
             (λ _. refl) (λ _. refl);
       }))
@@ -164,10 +161,12 @@ module _ (a : Acting) (given : a.manager.outgoing ≡ []) (whole : IsSentWhole a
       → Heard a (requested bytes from a)
   requests bytes from quiet asks = by (is_handed bytes (is_master a.manager.standing.state))
     where
-      same_about : (p : Policy) → (cond (tells_change bytes) (wanting p) (cond (hands_over bytes && is_master a.manager.standing.state) (taken_over p) p)).activity ≡ p.activity
+      same_about : (p : Policy)
+          → (cond (tells_change bytes) (wanting p) (cond (hands_over bytes && is_master a.manager.standing.state) (taken_over p) p)).activity ≡ p.activity
       same_about p =
           cond_both (tells_change bytes) (wanting p) _ (λ (q : Policy). q.activity ≡ p.activity) (λ _. refl)
-          (λ _. cond_both (hands_over bytes && is_master a.manager.standing.state) (taken_over p) p (λ (q : Policy). q.activity ≡ p.activity) (λ _. refl) (λ _. refl))
+          (λ _. cond_both (hands_over bytes && is_master a.manager.standing.state) (taken_over p) p (λ (q : Policy). q.activity ≡ p.activity) (λ _. refl)
+          (λ _. refl))
 
       by : (handed : Bool) → Heard a (record a {
         policy = (requested bytes from a).policy;

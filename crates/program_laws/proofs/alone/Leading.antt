@@ -28,7 +28,7 @@ use Rattle.program_laws.proofs.alone.Moves.{state_is}
 use Rattle.program_laws.proofs.alone.Needs.{IsActive, IsLed, active_lasts, need_few}
 use Rattle.program_laws.proofs.alone.Quiet.{lasts_quietly}
 use Rattle.program_laws.proofs.alone.Rests.{rest_ends}
-use Rattle.program_laws.proofs.alone.Runs.{FoundBy, all_go, bound, ends_by, found_by, found_then}
+use Rattle.program_laws.proofs.alone.Runs.{FoundBy, all_go, bound, ends_by, found_by, found_then, rest_is}
 use Rattle.program_laws.proofs.alone.Steady.{IsReady, idle_then, knows_then}
 use Rattle.program_laws.proofs.wakes.AtSeats.{longer}
 use Rattle.program_laws.proofs.wakes.Deciding.{sent_about, sweeps_past, writings_past}
@@ -89,12 +89,6 @@ first_idle (line ∷ lines) a = by_idle (first_idle lines (after_line line a)) (
     by_idle : FirstIdle lines (after_line line a) → (b : Bool) → is_idle (before_deciding line a).window ≡ b → FirstIdle (line ∷ lines) a
     by_idle rest true idle = At [] line lines refl tt idle
     by_idle rest false busy = more busy rest
-
-rest_is : (what : Activity) → is_resting what ≡ true → what ≡ activity.Rests
-rest_is activity.Rests e = refl
-rest_is activity.Sweeps e = absurd (cc)
-rest_is activity.Writes e = absurd (cc)
-rest_is activity.Hands e = absurd (cc)
 
 module _ (n late : ℕ) (timing : Timing) (limits : Limits) where
   abbrev Calm : List Line → Acting → Type 0

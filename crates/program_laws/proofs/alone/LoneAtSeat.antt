@@ -85,7 +85,8 @@ record IsQuietBy (n late by : ℕ) (timing : Timing) (limits : Limits) (lines : 
   soon : a.time ≤ by
 
 quiet_then : (n late by : ℕ) (timing : Timing) (limits : Limits) (first rest : List Line) (a : Acting) → IsCalm n late timing limits (first ++ rest) a
-    → SweepsAreWhole (first ++ rest) a → StaysFree (first ++ rest) a → LosesNoSet (first ++ rest) a → IsLed (after_lines first a).manager (after_lines first a).policy → KeepsOn (after_lines first a)
+    → SweepsAreWhole (first ++ rest) a → StaysFree (first ++ rest) a → LosesNoSet (first ++ rest) a
+    → IsLed (after_lines first a).manager (after_lines first a).policy → KeepsOn (after_lines first a)
     → (after_lines first a).time ≤ by → IsQuietBy n late by timing limits rest (after_lines first a)
 quiet_then n late by timing limits first rest a c whole free none led keeps soon =
     let b = after_lines first a in

@@ -46,7 +46,7 @@ use Rattle.manager_laws.proofs.Accepted.{accepted}
 use Rattle.manager_laws.proofs.writing_ends.Lists.{at_member}
 use Rattle.program_laws.specs.Alone.{is_word}
 use Rattle.program_laws.proofs.alone.InfoOnly.{InfoOnly, IsInfo}
-use Rattle.program_laws.proofs.wakes.Makes.{ends_none, responds, takes_none}
+use Rattle.program_laws.proofs.wakes.Makes.{and_both, ends_none, responds, takes_none}
 
 -- who a manager is ----------------------------------------------------------------------------------------------------
 
@@ -99,7 +99,8 @@ moved_state state s =
 
 -- a state that it is in
 pub moved_none : (state : SmState) (s : Standing) → s.state ≡ state → moved_to state s ≡ s
-moved_none state s e = cond-true (is_in state s) s (record s { state = state; polls_lost = 0 }) (eq-eqb (number_of_state s.state) (number_of_state state) (ap number_of_state e))
+moved_none state s e = cond-true (is_in state s) s (record s { state = state; polls_lost = 0 })
+    (eq-eqb (number_of_state s.state) (number_of_state state) (ap number_of_state e))
 
 -- the state after the end of a sweep
 abbrev verdict_in : Conduct → Bool → SmState → SmState
@@ -344,11 +345,6 @@ pub none_there : {X : Type 0} (b : Bool) → b ≡ false → b ≡ true → X
 none_there true e f = absurd (cc)
 none_there false e f = absurd (cc)
 
-both_true : (a b : Bool) → a ≡ true → b ≡ true → (a && b) ≡ true
-both_true true true e f = refl
-both_true true false e f = f
-both_true false b e f = e
-
 left_true : (a b : Bool) → a ≡ true → (a || b) ≡ true
 left_true true b e = refl
 left_true false b e = absurd (cc)
@@ -372,14 +368,14 @@ module _ (own : SmInfo) (bytes : List ℕ) (quiet : is_word own bytes ≡ false)
   -- a Set of SMInfo is a word
   pub no_control : {X : Type 0} → (number_in attribute_id bytes == sm_info) ≡ true → (number_in method bytes == set) ≡ true → X
   no_control info sets =
-      none_there (is_word own bytes) quiet (both_true (number_in attribute_id bytes == sm_info) _ info (left_true (number_in method bytes == set) _ sets))
+      none_there (is_word own bytes) quiet (and_both (number_in attribute_id bytes == sm_info) _ info (left_true (number_in method bytes == set) _ sets))
 
   -- so is an answer of SMInfo that no sweep asked for
   pub no_answer : {X : Type 0} → (number_in attribute_id bytes == sm_info) ≡ true → is_response bytes ≡ true → is_for_sweep bytes ≡ false → X
   no_answer info response other =
       none_there (is_word own bytes) quiet
-      (both_true (number_in attribute_id bytes == sm_info) _ info
-      (right_true (number_in method bytes == set) _ (both_true (is_response bytes) _ response (left_true (not (is_for_sweep bytes)) _ (ap not other)))))
+      (and_both (number_in attribute_id bytes == sm_info) _ info
+      (right_true (number_in method bytes == set) _ (and_both (is_response bytes) _ response (left_true (not (is_for_sweep bytes)) _ (ap not other)))))
 
   -- as one that answers a poll
   pub poll_is_word : {X : Type 0} → is_response bytes ≡ true → answers_poll bytes ≡ true → X
@@ -397,15 +393,16 @@ module _ (own : SmInfo) (bytes : List ℕ) (quiet : is_word own bytes ≡ false)
       by false e = e
       by true e =
           none_there (is_word own bytes) quiet
-          (both_true (number_in attribute_id bytes == sm_info) _ info
-          (right_true (number_in method bytes == set) _ (both_true (is_response bytes) _ response (right_true (not (is_for_sweep bytes)) _ e))))
+          (and_both (number_in attribute_id bytes == sm_info) _ info
+          (right_true (number_in method bytes == set) _ (and_both (is_response bytes) _ response (right_true (not (is_for_sweep bytes)) _ e))))
 
 any_last : (own : SmInfo) (seen : List SeenManager) (s : SeenManager) → any_outranks own seen ≡ false → outranks own s.info ≡ false
     → any_outranks own (seen ++ s ∷ []) ≡ false
 any_last own [] s none last = (λ i. last i || false)
 any_last own (x ∷ seen) s none last = by (outranks own x.info) none (any_last own seen s)
   where
-    by : (b : Bool) → (b || any_outranks own seen) ≡ false → (any_outranks own seen ≡ false → outranks own s.info ≡ false → any_outranks own (seen ++ s ∷ []) ≡ false)
+    by : (b : Bool) → (b || any_outranks own seen) ≡ false
+        → (any_outranks own seen ≡ false → outranks own s.info ≡ false → any_outranks own (seen ++ s ∷ []) ≡ false)
         → (b || any_outranks own (seen ++ s ∷ [])) ≡ false
     by true e rest = absurd (cc)
     by false e rest = rest e last

@@ -4,9 +4,8 @@ use Rattle.std.proofs.lemmas.Bool.{cond_both, cond-true, cond-false, lt-leb}
 use Rattle.std.specs.Prelude.{◌||◌, Some, is_none, nat_le, nat_lt}
 use Rattle.sm_manager.specs.Election.{handover_fault, yield_fault}
 use Rattle.sm_manager.specs.Manager.{Manager}
-use Rattle.sm_policy.specs.Policy.{Decision, forgotten, is_sweeping, patience, still, waited_longer, wanting}
+use Rattle.sm_policy.specs.Policy.{Decision, forgotten, patience, still, waited_longer, wanting}
 use Rattle.sm_policy.specs.Swept.{dealt, ended, goes_on, judging, leaves_it, meeting_at, swept, swept_in}
-use Rattle.sm_policy.specs.declared.activity.Activity.{Activity}
 use Rattle.sm_policy.specs.declared.activity.Activity.TheVariants as activity
 use Rattle.sm_policy.specs.declared.meeting.Meeting.{Meeting}
 use Rattle.sm_policy.specs.declared.policy.Policy.{Policy}
@@ -18,6 +17,7 @@ use Rattle.acting_manager.specs.Working.{is_idle, sent}
 use Rattle.acting_manager.specs.declared.note.Note.TheVariants.{Swept}
 use Rattle.program_laws.specs.OtherMasters.{MastersGiveWay, SeesMaster, about_next, meeting_of}
 use Rattle.program_laws.specs.Wakes.{Line, after_line, before_deciding}
+use Rattle.program_laws.proofs.alone.SweepEnds.{sweep_is}
 use Rattle.program_laws.proofs.wakes.Deciding.{caught_about, sent_about}
 use Rattle.program_laws.proofs.wakes.Settled.{has_settled}
 use Rattle.program_laws.proofs.wakes.Waking.{Falls, any_falls}
@@ -50,12 +50,6 @@ module _ (rival : Rival) (line : Line) (a : Acting) (s : SeesMaster rival line a
 
   meeting_is : m.meeting ≡ meeting_of x
   meeting_is = ap (meeting_at x.time) (ended_meeting (is_whole x.manager))
-
-  sweep_is : (what : Activity) → is_sweeping what ≡ true → what ≡ activity.Sweeps
-  sweep_is activity.Sweeps e = refl
-  sweep_is activity.Rests e = absurd (cc)
-  sweep_is activity.Writes e = absurd (cc)
-  sweep_is activity.Hands e = absurd (cc)
 
   -- what it decides
   acts : acted_in x.policy.activity x ≡ decided (dealt rival (wanting (forgotten m))) c

@@ -42,6 +42,7 @@ use Rattle.program_laws.proofs.alone.Steady.{IsReady, Steady, heard_then, knows_
 use Rattle.program_laws.proofs.wakes.Deciding.{caught_about}
 use Rattle.program_laws.proofs.wakes.DueTimes.{IsDueSoon, still_soon}
 use Rattle.program_laws.proofs.wakes.FreshWork.{GoesOn}
+use Rattle.program_laws.proofs.wakes.Makes.{and_false}
 use Rattle.program_laws.proofs.wakes.Sending.{only_sends, sent_window}
 
 -- numbers of requests -----------------------------------------------------------------------------------------------------------
@@ -133,10 +134,6 @@ all_none (suc n) a queued =
 none_sent : (a : Acting) → a.window.queued ≡ [] → (sent a).window ≡ a.window
 none_sent a queued =
     cond_both (is_given_up a) a (all_sent a) (λ (b : Acting). b.window ≡ a.window) (λ _. refl) (λ _. all_none a.window.limits.outstanding a queued)
-
-and_false : (b : Bool) → (b && false) ≡ false
-and_false true = refl
-and_false false = refl
 
 -- late or not --------------------------------------------------------------------------------------------------------------------
 

@@ -48,7 +48,7 @@ use Rattle.program_laws.proofs.lasting.Running.{still_sound}
 use Rattle.program_laws.proofs.lasting.Standing.{is_sound}
 use Rattle.program_laws.proofs.wakes.DueTimes.{IsDueSoon}
 use Rattle.program_laws.proofs.wakes.FreshWork.{GoesOn}
-use Rattle.program_laws.proofs.wakes.Requests.{directed_transaction, gets}
+use Rattle.program_laws.proofs.wakes.Requests.{all_three, directed_transaction, gets}
 use Rattle.program_laws.proofs.wakes.Resting.{sweep_soon}
 use Rattle.program_laws.proofs.wakes.Sending.{sent_window}
 use Rattle.program_laws.proofs.wakes.Settled.{settled_given}
@@ -106,12 +106,6 @@ patient_is limits request =
 along_is : (o : Option (List ℕ)) (way : Way) → along o ≡ Some way → (path : List ℕ) × (way ≡ Along path)
 along_is None way e = absurd (cc)
 along_is (Some path) way e = (path, let same : Along path ≡ way = cc in sym same)
-
-three : (a b c : Bool) → a ≡ true → b ≡ true → c ≡ true → (a && (b && c)) ≡ true
-three true true true e f g = refl
-three true true false e f g = g
-three true false c e f g = absurd (cc)
-three false b c e f g = absurd (cc)
 
 -- decisions -----------------------------------------------------------------------------------------------------------------------
 
@@ -236,7 +230,8 @@ module _ (j last : ℕ) (line : Line) (a : Acting) (g : GoesOn a (line ∷ [])) 
       by_state Standby f =
           inl (
             f,
-            by_master x.policy.master (subst (λ s. need s x.policy.master x.manager.standing.polls_lost x.policy.masterless x.policy.gaps ≤ suc j) f r.state.few),
+            by_master x.policy.master
+                (subst (λ s. need s x.policy.master x.manager.standing.polls_lost x.policy.masterless x.policy.gaps ≤ suc j) f r.state.few),
           )
         where
           by_master : (master : Option Rival) → need Standby master x.manager.standing.polls_lost x.policy.masterless x.policy.gaps ≤ suc j
@@ -319,9 +314,11 @@ module _ (j last : ℕ) (line : Line) (a : Acting) (g : GoesOn a (line ∷ [])) 
         numbers_left false h none = ltb-false (2 ^ 32) (m.counter + 1) h
 
         by_way : (o : Option Way) → poll_way m None ≡ o → RestEnds j last line a
-        by_way None w = let wrong : Some fault.Nobody ≡ None = sym (ap (λ o. or_else (unless_way o) (number_fault (m.counter + 1))) w) ∙ unrefused in absurd (cc)
+        by_way None w =
+            let wrong : Some fault.Nobody ≡ None = sym (ap (λ o. or_else (unless_way o) (number_fault (m.counter + 1))) w) ∙ unrefused in absurd (cc)
         by_way (Some way) w =
-            goes way w (along_is _ way w) (numbers_left (nat_lt (2 ^ 32) (m.counter + 1)) refl (sym (ap (λ o. or_else (unless_way o) (number_fault (m.counter + 1))) w) ∙ unrefused))
+            goes way w (along_is _ way w)
+            (numbers_left (nat_lt (2 ^ 32) (m.counter + 1)) refl (sym (ap (λ o. or_else (unless_way o) (number_fault (m.counter + 1))) w) ∙ unrefused))
           where
             goes : (way : Way) → poll_way m None ≡ Some way → (path : List ℕ) × (way ≡ Along path) → m.counter + 1 ≤ 2 ^ 32 → RestEnds j last line a
             goes way w p small =
@@ -402,7 +399,7 @@ module _ (j last : ℕ) (line : Line) (a : Acting) (g : GoesOn a (line ∷ [])) 
 
                 is_a_poll : is_poll request.packet ≡ true
                 is_a_poll =
-                    three (number_in method request.packet == get) (number_in attribute_id request.packet == sm_info)
+                    all_three (number_in method request.packet == get) (number_in attribute_id request.packet == sm_info)
                     (nat_lt (number_in transaction_id request.packet) (2 ^ 32)) (eq-eqb (number_in method request.packet) get fields.0)
                     (eq-eqb (number_in attribute_id request.packet) sm_info fields.1)
                     (lt-ltb (number_in transaction_id request.packet) (2 ^ 32) (let t = tid_is in omega (arith, t, small)))

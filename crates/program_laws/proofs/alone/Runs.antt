@@ -25,7 +25,7 @@ use Rattle.program_laws.proofs.alone.Quiet.{lasts_quietly}
 use Rattle.program_laws.proofs.alone.Rests.{RestEnds, rest_ends}
 use Rattle.program_laws.proofs.alone.Rests.RestEnds.{Begins, Fails, Polls, Waits}
 use Rattle.program_laws.proofs.alone.Steady.{AtRest, IsReady, IsResting, heard_then, ready, rest_told}
-use Rattle.program_laws.proofs.alone.SweepEnds.{SweepEnds, sweep_ends}
+use Rattle.program_laws.proofs.alone.SweepEnds.{SweepEnds, sweep_ends, sweep_is}
 use Rattle.program_laws.proofs.alone.SweepEnds.SweepEnds.{Leads, Rests}
 use Rattle.program_laws.proofs.alone.Voids.{KeepsOn, decided_on}
 use Rattle.program_laws.proofs.wakes.AtSeats.{lines_both}
@@ -76,6 +76,12 @@ found_by by end lines a less (inr h) = inr (omega (arith, h, less))
 pub found_then : (by : ℕ) (some rest : List Line) (a : Acting) → FoundBy by rest (after_lines some a) → FoundBy by (some ++ rest) a
 found_then by some rest a (inl f) = inl (found_on by some rest a f)
 found_then by some rest a (inr h) = inr (subst (λ (b : Acting). b.time ≤ by) (sym (lines_both some rest a)) h)
+
+pub rest_is : (what : Activity) → is_resting what ≡ true → what ≡ activity.Rests
+rest_is activity.Rests e = refl
+rest_is activity.Sweeps e = absurd (cc)
+rest_is activity.Writes e = absurd (cc)
+rest_is activity.Hands e = absurd (cc)
 
 -- numbers ---------------------------------------------------------------------------------------------------------------------------
 
@@ -140,12 +146,6 @@ module _ (n late : ℕ) (timing : Timing) (limits : Limits) where
           (decides_past is_sweeping (λ b. sweeps_past b.policy.activity b) x (fell.leaving ∙ g.stays_on) (ap is_sweeping fell.about ∙ about)) in
           absurd (both_ways (is_sweeping (after_line line a).policy.activity) ended stays.0)
 
-  sweep_is : (what : Activity) → is_sweeping what ≡ true → what ≡ activity.Sweeps
-  sweep_is activity.Sweeps e = refl
-  sweep_is activity.Rests e = absurd (cc)
-  sweep_is activity.Writes e = absurd (cc)
-  sweep_is activity.Hands e = absurd (cc)
-
   module _ (j : ℕ) (after : RestGoes j) where
     abbrev cycle : ℕ
     cycle = (n + 4) * turn
@@ -203,7 +203,8 @@ module _ (n late : ℕ) (timing : Timing) (limits : Limits) where
                 about_d = about_last is_sweeping some a about stays
 
                 first : d.time ≤ a.time + (n + 2) * turn
-                first = time_of some (goes_first some (line ∷ rest) a w.goes) stays (few_first n some (line ∷ rest) a w.few) (prompt_first late some (line ∷ rest) a w.prompt)
+                first = time_of some (goes_first some (line ∷ rest) a w.goes) stays (few_first n some (line ∷ rest) a w.few)
+                    (prompt_first late some (line ∷ rest) a w.prompt)
 
                 told : line.0 ≤ d.time + turn
                 told =
@@ -284,12 +285,6 @@ module _ (n late : ℕ) (timing : Timing) (limits : Limits) where
           busy : is_idle a.window ≡ false
           busy = λ i. are_none (p.queued i) (p.outs i)
 
-          rest_is : (what : Activity) → is_resting what ≡ true → what ≡ activity.Rests
-          rest_is activity.Rests e = refl
-          rest_is activity.Sweeps e = absurd (cc)
-          rest_is activity.Writes e = absurd (cc)
-          rest_is activity.Hands e = absurd (cc)
-
           by_late : (b : Bool) → is_late (heard_then line a).time q.out ≡ b
               → (IsPolling j by (after_line line a) → (after_line line a).time ≤ by → FoundBy (by + (j * cycle + j * wait)) rest (after_line line a))
               → FoundBy (by + (j * cycle + j * wait)) (line ∷ rest) a
@@ -300,7 +295,8 @@ module _ (n late : ℕ) (timing : Timing) (limits : Limits) where
               (early_time j by line a g (line_quiet n late timing limits line rest a c) (line_awake n late timing limits line rest a c) q early))
           by_late true late_is next =
               let last = a.time + wait in
-              let ready = late_ready j by line a g (line_quiet n late timing limits line rest a c) (line_awake n late timing limits line rest a c) q late_is last
+              let ready = late_ready j by line a g (line_quiet n late timing limits line rest a c) (line_awake n late timing limits line rest a c) q
+              late_is last
               (soon_is n late timing limits (line ∷ rest) a c (rest_is a.policy.activity p.rests)) (next_is n late timing limits (line ∷ rest) a c) in
               let told : line.0 ≤ a.time + turn =
               subst (λ (l : Limits). line.0 ≤ a.time + longest_turn late l) c.limits_is

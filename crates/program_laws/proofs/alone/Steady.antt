@@ -136,7 +136,8 @@ idle_then line a g quiet awake rests idle =
     z = heard_then line a
 
     s : Steady line a z
-    s = steady line a g quiet awake (λ bytes word. subst (λ outs. first_out (answers bytes) outs ≡ record { outs = outs; request = None }) (sym lists.1) refl) rests lists.0
+    s = steady line a g quiet awake
+        (λ bytes word. subst (λ outs. first_out (answers bytes) outs ≡ record { outs = outs; request = None }) (sym lists.1) refl) rests lists.0
 
     outs : z.window.outs ≡ []
     outs = s.outs ∙ lists.1

@@ -15,9 +15,10 @@ use Rattle.sm_manager.specs.CallLists.{Call}
 use Rattle.sm_manager.specs.Election.{after_rediscover, rediscover_fault}
 use Rattle.sm_manager.specs.Manager.{Manager, emptied, is_running}
 use Rattle.sm_manager.specs.declared.fault.ManagerFault.TheVariants as fault
-use Rattle.sm_policy.specs.Policy.{Decision, patience, still, waited_longer}
+use Rattle.sm_policy.specs.Policy.{Decision, is_sweeping, patience, still, waited_longer}
 use Rattle.sm_policy.specs.Swept.{counts, ended, goes_on, leaves_it, masterless_by, swept, swept_in}
 use Rattle.sm_policy.specs.declared.act.Act.TheVariants as act
+use Rattle.sm_policy.specs.declared.activity.Activity.{Activity}
 use Rattle.sm_policy.specs.declared.activity.Activity.TheVariants as activity
 use Rattle.sm_policy.specs.declared.policy.Policy.{Policy}
 use Rattle.acting_manager.specs.Acting.{Acting, caught_up, collected, noted}
@@ -60,6 +61,12 @@ none_best own (s ∷ seen) none =
 -- where none outranks it, it saw no master
 pub saw_none : (m : Manager) → Clean m → rival_seen m ≡ None
 saw_none m clean = ap (rival_of (info_of m.standing)) (none_best (info_of m.standing) m.seen clean)
+
+pub sweep_is : (what : Activity) → is_sweeping what ≡ true → what ≡ activity.Sweeps
+sweep_is activity.Sweeps e = refl
+sweep_is activity.Rests e = absurd (cc)
+sweep_is activity.Writes e = absurd (cc)
+sweep_is activity.Hands e = absurd (cc)
 
 -- what is counted -------------------------------------------------------------------------------------------------------------------
 

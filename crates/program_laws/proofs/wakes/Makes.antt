@@ -87,7 +87,7 @@ answer_is_none s bytes from status long =
     ap (λ b. not b && not (number_in method packet == trap_repress))
     (responds packet (answer_method bytes status (answer_data s bytes status) long))
 
-and_false : (b : Bool) → (b && false) ≡ false
+pub and_false : (b : Bool) → (b && false) ≡ false
 and_false true = refl
 and_false false = refl
 

@@ -150,7 +150,7 @@ acted_writes activity.Hands x e h = never (sym h)
 
 -- how much there is to send -----------------------------------------------------------------------------------
 
-idle_load : (limits : Limits) (queued : List Outgoing) (outs : List Out) → are_none queued outs ≡ true
+pub idle_load : (limits : Limits) (queued : List Outgoing) (outs : List Out) → are_none queued outs ≡ true
     → limits.tries * length queued + chances_out limits outs ≡ 0
 idle_load limits [] [] e = omega arith
 idle_load limits [] (out ∷ outs) e = never (sym e)
@@ -158,7 +158,7 @@ idle_load limits (q ∷ queued) [] e = never (sym e)
 idle_load limits (q ∷ queued) (out ∷ outs) e = never (sym e)
 
 -- the Sets of the plan
-plan_sent : (m : Manager) → m.outgoing ≡ [] → requests_in (after_write_steps m).outgoing + sets_to_come (after_write_steps m) ≤ length (planned_steps m)
+pub plan_sent : (m : Manager) → m.outgoing ≡ [] → requests_in (after_write_steps m).outgoing + sets_to_come (after_write_steps m) ≤ length (planned_steps m)
 plan_sent m none =
     let later = without_empty_phases (phases_by m m.sweep) in
     let out = steps_out m.counter (next_phase later).steps in

@@ -1,4 +1,5 @@
 //! The laws of how soon a manager that decides by itself has its plan written, and of what that means.
+ghost use Rattle.program_laws.specs.FewTurns.{TurnsAreFew};
 ghost use Rattle.program_laws.specs.FreshWork.{WorksAgainInTime};
 ghost use Rattle.program_laws.specs.Healing.{HealsInTime, SomeManagerHeals};
 ghost use Rattle.program_laws.specs.HealingAtSeat.{HealsAtSeat};
@@ -122,4 +123,11 @@ pub fn masters_give_way()
 /// all writings of the manager are of one plan, and other senders set only SMInfo, from the start.
 pub fn one_plan_serves()
     ensures { OnePlanServes }
+{}
+
+/// What a manager that decides by itself has to send can be late only a few times between any two moments: as often as
+/// its requests can at first, and the tries of a request for each Set that was still to be sent then, for each Set of a
+/// plan, and for each request of a sweep. No control comes meanwhile, and numbers are left for its Sets.
+pub fn turns_are_few()
+    ensures { TurnsAreFew }
 {}
