@@ -14,7 +14,7 @@ use Rattle.program_laws.specs.Deciding.{Around, CanDecide, Deciding, DecidingEve
 use Rattle.program_laws.specs.AnsweredWritings.{KeepsWriting}
 use Rattle.program_laws.specs.Healing.{IsUndisturbedBy}
 use Rattle.program_laws.specs.ManagedPings.{managed_at_end, managed_at_writing}
-use Rattle.program_laws.specs.ManagedWritings.{IsNew, begins_writing, managing_of}
+use Rattle.program_laws.specs.ManagedWritings.{IsNew, NoneBegins, begins_writing, managing_of}
 use Rattle.program_laws.specs.SweepTime.{lines_of}
 use Rattle.program_laws.specs.Wakes.{ArePrompt, longest_turn}
 
@@ -47,6 +47,7 @@ pub record ServesAt (d : Deciding) (before events : List DecidingEvent) : Type 0
   pub since : List DecidingEvent
   pub until : before ++ first ≡ earlier ++ begins ∷ since
   pub writes : begins_writing (after_deciding_events earlier d) begins ≡ true
+  pub is_last : NoneBegins since (managed_at_writing d earlier begins)
   pub serves : (managed_at_writing d earlier begins).acting.policy.timing.is_strict ≡ true
       → OthersKeep (plan_at (managing_of (managed_at_writing d earlier begins)))
       (own_sets (managing_of d) (managing_of (managed_at_writing d earlier begins))) since (managed_at_writing d earlier begins)

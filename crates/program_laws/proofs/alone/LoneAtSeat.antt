@@ -179,6 +179,7 @@ module _ (n : ℕ) (d : Deciding) (before events : List DecidingEvent) (r : IsLo
           since = served.since;
           until = sym (append_assoc before at.first served.first) ∙ served.until;
           writes = served.writes;
+          is_last = served.is_last;
           serves = served.serves;
         }
 

@@ -162,6 +162,7 @@ module _ (d : Deciding) (before events : List DecidingEvent) (n : ℕ) (r : IsUn
           since = since;
           until = until;
           writes = writes;
+          is_last = none;
           serves = λ strict others.
               let b = writing others in
               let one = writes_what_one_sweep_saw d earlier begins r.new b.before_can b.begins_can writes in

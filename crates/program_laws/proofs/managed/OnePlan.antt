@@ -122,9 +122,11 @@ module _ (w : Managing) (plan : PlanValue) where
         let leads = write_leads at d d' t in
         more (first ++ events) leads.can_be
         (both OthersSetInfo first events (all_quiet_others first t.leads.quiet) (tt, all_quiet_others later t.goes_on.quiet))
-        (along_behind (WritesOnly plan) first events at (all_quiet_only plan first at t.leads.quiet)
-        ((λ none. ap (λ (v : Managing). plan_by v.manager) t.leads.leads
-        ∙ sym (ap plan_by (t.given ∙ ap emptied (begun_so t.at.manager t.begins))) ∙ so), all_quiet_only plan later _ t.goes_on.quiet))
+        (along_behind (WritesOnly plan) first events at (all_quiet_only plan first at t.leads.quiet) (
+          (λ none. ap (λ (v : Managing). plan_by v.manager) t.leads.leads
+              ∙ sym (ap plan_by (t.given ∙ ap emptied (begun_so t.at.manager t.begins))) ∙ so),
+          all_quiet_only plan later _ t.goes_on.quiet,
+        ))
         leads.stands
 
     step_led : (not (is_writing d.acting.policy.activity) && is_writing d'.acting.policy.activity ≡ true → plan_by d'.acting.manager ≡ plan)

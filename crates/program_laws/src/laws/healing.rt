@@ -92,35 +92,35 @@ pub fn lone_managers_lead_in_time()
 {}
 
 /// A manager that decides by itself has swept anew, and has its plan written, as in `heals_in_time`, after at most
-/// nineteen longest waits and `26 * (n + 4)` turns, whatever it is about at first, if four conditions hold: it is
-/// alone, as in `lone_managers_lead_in_time`; each sweep that it begins meanwhile is whole; when a sweep is over, each
-/// end port finds a LID, and numbers are left for its Sets; when its writing is over, the plan counts as written. A
-/// sweep is whole if each of its requests was answered, but for those for SMInfo, and no path led too far.
+/// nineteen longest waits and `26 * (n + 4)` turns, whatever it is about at first, if four conditions hold: those of
+/// `lone_managers_lead_in_time`; each sweep that it begins meanwhile is whole; when a sweep is over, each end port finds
+/// a LID, and numbers are left for its Sets; when its writing is over, the plan counts as written. A sweep is whole if
+/// each of its requests was answered, but for those for SMInfo, and no path led too far.
 pub fn lone_managers_heal()
     ensures { LoneManagersHeal }
 {}
 
 /// A manager that decides by itself, at its seat on a fabric, serves its subnet, as in `heals_at_seat`, after at most
-/// nineteen longest waits and `26 * (n + 4)` turns, whatever it is about at first, if seven conditions hold: it is
-/// alone, as in `lone_managers_lead_in_time`; each sweep that it begins meanwhile is whole, as in
-/// `lone_managers_heal`; when a sweep is over, each end port finds a LID, and numbers are left for its Sets; it gives up
-/// no request while it writes; at the very first no packet is on its way, GUIDs differ, and the manager is new; it was
-/// strict when its last writing began; since then each Set that an agent took is one of the writing's own or carries
-/// the plan's values. Its shell is faithful, and no cable moves.
+/// nineteen longest waits and `26 * (n + 4)` turns, whatever it is about at first, if six conditions hold: the first
+/// three of `lone_managers_heal`; it gives up no request while it writes; at the very first no packet is on its way,
+/// GUIDs differ, and the manager is new; its shell is faithful, and no cable moves; it was strict when its last writing
+/// began; since then each Set that an agent took is one of the writing's own or carries the plan's values.
 pub fn lone_managers_heal_at_seat()
     ensures { LoneManagersHealAtSeat }
 {}
 
-/// A master that decides by itself, and whose sweep saw another master, does not write next: it hands over to its
-/// successor, if the other one wins, and otherwise announces itself after three sweeps and then yields to the other
-/// one. If there is no way to that one, it rests. It has offered the subnet fewer than three times in this meeting, did
-/// not stand still while it swept, and is not told to leave.
+/// A master that decides by itself, and whose sweep saw another master, does not write next, if three conditions hold:
+/// it has offered the subnet fewer than three times in this meeting; it did not stand still while it swept; it is not
+/// told to leave. It hands over to its successor, if the other one wins; otherwise it rests after each of three such
+/// sweeps, and then yields to the other one. If there is no way to that one, it rests. Its requests may be sent more
+/// than 0 times.
 pub fn masters_give_way()
     ensures { MastersGiveWay }
 {}
 
-/// Of `heals_at_seat`, the condition on Sets that agents take holds, and so pings arrive at the moment that it tells of, if
-/// all writings of the manager are of one plan, and other senders set only SMInfo, from the start.
+/// Of `heals_at_seat` and `lone_managers_heal_at_seat`, the condition on Sets that agents take holds, and so pings arrive
+/// at the moment that they tell of if the manager was strict, if all writings of the manager are of one plan, and other
+/// senders set only SMInfo, from the start.
 pub fn one_plan_serves()
     ensures { OnePlanServes }
 {}

@@ -55,8 +55,8 @@ pub fn settles_when_written()
 /// If a manager that decides by itself notes no request that it gives up, after the line that begins its writing and up
 /// to the one by which the writing is over, and does not give up what it writes, its plan is written then, if each
 /// answer that it was told to a LID, block or top Set has status 0. A manager gives up what it writes if it stood still
-/// or is no longer master. Its newest generation fits in 32 bits at first, and nobody tells it to leave. All else may
-/// happen: so it need not be asked whether TransactionIDs are left.
+/// or is no longer master. Its newest generation fits in 32 bits at first, and nobody tells it to leave, or has
+/// told it. All else may happen: so it need not be asked whether TransactionIDs are left.
 pub fn answered_writings_are_written()
     ensures { AnsweredWritingsAreWritten }
 {}
@@ -78,9 +78,9 @@ pub fn told_paths_arrive()
     ensures { ToldPathsArrive }
 {}
 
-/// Under the conditions of `told_paths_arrive`, a request for the path between two end ports of the plan is answered
-/// with that path, if it suits the request, each named by one of its LIDs, by a GID that no other end port of the plan
-/// has, or by both. If the path does not suit, the request is refused, since there is no such record.
+/// Under the conditions of `told_paths_arrive`, a request for the path between two end ports of the plan, each named by
+/// one of its LIDs, by a GID that no other end port of the plan has, or by both, is answered with that path, if it suits
+/// the request. If the path does not suit, the request is refused, since there is no such record.
 pub fn paths_are_told_at_seats()
     ensures { PathsAreToldAtSeats }
 {}
@@ -91,15 +91,16 @@ pub fn some_path_is_told_at_a_seat()
     ensures { SomePathIsToldAtASeat }
 {}
 
-/// If all writings that a new manager begins are of one plan, and other senders set only SMInfo, from the start, then after
-/// each of its writings each Set that an agent takes is one of that writing's own or carries the plan's values. At first
-/// no packet is on its way, and GUIDs differ; the shell is faithful; no cable moves.
+/// From the beginning of each writing of a new manager on, each Set that an agent takes is one of that writing's own or
+/// carries the plan's values, if five conditions hold: all writings that the manager begins are of one plan; other
+/// senders set only SMInfo, from the start; at first no packet is on its way, and GUIDs differ; the shell is faithful; no
+/// cable moves.
 pub fn one_plan_is_kept()
     ensures { OnePlanIsKept }
 {}
 
-/// So the condition on Sets that `managed_pings_arrive` and the other laws of a last writing ask for holds, if that is the
-/// manager's first writing, or all before it were of the same plan, and other senders set only SMInfo, from the start.
+/// The condition on Sets that `managed_pings_arrive` and the other laws of a last writing ask for holds under the
+/// conditions of `one_plan_is_kept`: if that is the manager's first writing, say.
 pub fn last_plan_is_kept()
     ensures { LastPlanIsKept }
 {}
