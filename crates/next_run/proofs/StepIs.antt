@@ -2,7 +2,7 @@
 use Rattle.std.proofs.Common.{◌≡◌, ◌∙◌, ◌==◌, ◌↔◌, ◌++◌, ℕ, Bool, List, [], ◌∷◌, Option, None, Result, Ok, Err, IsTrue, length, ap, arith, inl, inr, refl, subst, sym}
 use Rattle.std.proofs.lemmas.Bool.{eqb-true}
 use Rattle.std.proofs.lemmas.List.{nil_from_length}
-use Rattle.std.specs.Prelude.{◌⊎◌, IfErr, OnErr, OnOk, Vec}
+use Rattle.std.specs.Prelude.{◌⊎◌, IfErr, OnErr, OnOk}
 use Rattle.std.specs.Result.{IsErrAnd}
 use Rattle.std.specs.Io.KnownBytes.{Appends}
 use Rattle.byte_io.specs.declared.sink.WriteFault.{WriteFault}
@@ -22,9 +22,7 @@ use Rattle.next_tables.specs.declared.step_fault.StepFault.TheVariants as steps
 use Rattle.sm_cli.proofs.Plans.{has_room}
 use Rattle.next_run.specs.LoopText.{loop_text}
 use Rattle.next_run.specs.NextRun.{IsMade, IsSaid, IsStep, StopsBy, StopsStep, fault_of_step}
-use Rattle.audit_channels.specs.declared.order.ChannelOrder.{ChannelOrder}
-use Rattle.audit_channels.specs.declared.order.ChannelOrder.TheVariants.{Rises}
-use Rattle.audit_channels.specs.ChannelOrders.{IsOrder}
+use Rattle.audit_channels.specs.ChannelOrders.{Rise}
 use Rattle.audit_channels.specs.Waiting.{channel_count}
 use Rattle.audit_channels.proofs.Orders.{can_rise}
 use Rattle.step_loops.specs.StepOrder.{WaitsFor}
@@ -35,13 +33,11 @@ pub is_empty : (xs : List ℕ) → IsTrue (length xs == 0) ↔ (xs ≡ [])
 is_empty xs = (λ t. nil_from_length xs (eqb-true _ _ t), λ e. ap (λ ys. length ys == 0) e)
 
 -- no loop was found
-pub no_loop : (cells : Cells) (held next : HeldPlan) (found : ChannelOrder) (numbers : Vec ℕ) (channels lids : List ℕ)
-    → IsOrder (WaitsFor cells held next) (channel_count cells) found → found ≡ Rises numbers → channels ≡ [] → lids ≡ []
-    → IsLoopInStep cells held next channels lids
-no_loop cells held next found numbers channels lids order is none no_lids =
-    let rise = can_rise (WaitsFor cells held next) (channel_count cells) numbers.items (subst (IsOrder (WaitsFor cells held next) (channel_count cells)) is order) in
+pub no_loop : (cells : Cells) (held next : HeldPlan) (numbers channels lids : List ℕ) → Rise (WaitsFor cells held next) (channel_count cells) numbers
+    → channels ≡ [] → lids ≡ [] → IsLoopInStep cells held next channels lids
+no_loop cells held next numbers channels lids rise none no_lids =
     let blank : IsLoopInStep cells held next [] [] = record {
-      waits = rise;
+      waits = can_rise (WaitsFor cells held next) (channel_count cells) numbers rise;
       shortest = λ other waiting. omega arith;
       lids_are = record { as_many = refl; each = λ i less. absurd (omega (arith, less)) };
     } in

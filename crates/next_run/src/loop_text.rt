@@ -25,7 +25,6 @@ pub(crate) struct StepLoop {
 impl StepLoop {
     /// Returns a shortest credit loop that some mixtures of the two tables make, with its LIDs, or empty lists if no
     /// mixtures make a credit loop. `held` and `next` must have the same facts.
-    #[tactic(auto, using(crate::proofs::StepIs::no_loop))]
     pub fn of(alloc: Global, held: &Network, next: &Network) -> Result<Self, AllocError>
         requires { next.now.facts ≡ held.now.facts }
         ensures { IfOk result (λ found. IsLoopInStep (cells_of held.now.facts) held.now.held next.now.held
