@@ -5,6 +5,7 @@ pub mod FewTurns
 pub mod Hearing
 pub mod InfoOnly
 pub mod Leading
+pub mod LeadingExample
 pub mod LoneAtSeat
 pub mod LoneHealing
 pub mod Moves

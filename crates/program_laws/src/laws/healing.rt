@@ -4,7 +4,7 @@ ghost use Rattle.program_laws.specs.FreshWork.{WorksAgainInTime};
 ghost use Rattle.program_laws.specs.Healing.{HealsInTime, SomeManagerHeals};
 ghost use Rattle.program_laws.specs.HealingAtSeat.{HealsAtSeat};
 ghost use Rattle.program_laws.specs.InTurn.{WorksInTurn};
-ghost use Rattle.program_laws.specs.Leading.{LoneManagersLeadInTime};
+ghost use Rattle.program_laws.specs.Leading.{LoneManagersLeadInTime, SomeLoneManagerLeads};
 ghost use Rattle.program_laws.specs.LoneHealing.{LoneManagersHeal, LoneManagersHealAtSeat};
 ghost use Rattle.program_laws.specs.NextSweep.{SweepsAgainInTime};
 ghost use Rattle.program_laws.specs.OtherMasters.{MastersGiveWay};
@@ -123,4 +123,10 @@ pub fn masters_give_way()
 /// plan, and for each request of a sweep. No control comes meanwhile, and numbers are left for its Sets.
 pub fn turns_are_few()
     ensures { TurnsAreFew }
+{}
+
+/// There is a manager that is alone for as long as `lone_managers_lead_in_time` asks: a new one that is told nothing but the
+/// time, each time for which it asked, so that each of its sweeps ends without an answer.
+pub fn some_lone_manager_leads()
+    ensures { SomeLoneManagerLeads }
 {}
