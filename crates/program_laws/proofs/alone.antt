@@ -5,8 +5,8 @@ pub mod FewTurns
 pub mod Hearing
 pub mod InfoOnly
 pub mod Leading
-pub mod LeadingExample
 pub mod LoneAtSeat
+pub mod LoneExample
 pub mod LoneHealing
 pub mod Moves
 pub mod Needs

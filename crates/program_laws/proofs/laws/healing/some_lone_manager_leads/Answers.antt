@@ -1,4 +1,4 @@
-use Rattle.program_laws.proofs.alone.LeadingExample as alone
+use Rattle.program_laws.proofs.alone.LoneExample as alone
 use Rattle.program_laws.proofs.laws.healing.some_lone_manager_leads.Goals as goal
 
 pub returns : goal.returns
