@@ -2,9 +2,11 @@ pub mod Joined
 pub mod KeptLids
 pub mod Harmless
 pub mod Deliveries
+pub mod Traces
 pub mod Scenes
 pub mod Acting
 pub mod Side
+pub mod Carrying
 pub mod Together
 pub mod Runs
 pub mod Known

@@ -5,6 +5,8 @@ pub mod Keeping
 pub mod Managed
 pub mod Moves
 pub mod Newest
+pub mod OnePlan
+pub mod OnePlanExample
 pub mod OneSweeps
 pub mod Outcomes
 pub mod PathExample

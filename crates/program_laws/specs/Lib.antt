@@ -32,4 +32,5 @@ pub mod OwnSets
 pub mod StepPlan
 pub mod ManagedWritings
 pub mod ManagedPings
+pub mod OnePlan
 pub mod WholeSweeps

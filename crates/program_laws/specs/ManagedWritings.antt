@@ -52,6 +52,11 @@ does_write d = is_writing d.acting.policy.activity
 abbrev pub begins_writing : Deciding → DecidingEvent → Bool
 begins_writing d event = not (does_write d) && does_write (after_deciding_event d event)
 
+-- none of the events begins a writing
+abbrev pub NoneBegins : List DecidingEvent → Deciding → Type 0
+NoneBegins [] d = Unit {0}
+NoneBegins (event ∷ events) d = (begins_writing d event ≡ false) × NoneBegins events (after_deciding_event d event)
+
 -- the event happens to the manager. It begins no sweep and no writing, raises no floor, and brings in no facts of others
 abbrev pub IsQuiet : ManagerEvent → Type 0
 IsQuiet (managing.Around event) = ⊥

@@ -63,9 +63,8 @@ module _ (start : Simulation) (plan : PlanValue) (IsSeat : NodePort → Type 0) 
   abbrev pub Tells : NodePort → NodePort → List ℕ → Type 0
   Tells origin end answer = Unit {0}
 
-  module _ (cables : AreCables start) (counts : (id : ℕ) → port_count start id ≤ 254) (can : (seat : NodePort) → IsSeat seat → CanBeSwept (fabric_of start) seat)
-      {s : Simulation} (along : IsAlong start s) (is : IsSimulation s) (on : AreTraced Sends Tells start s.flights) (harmless : AreHarmless s.flights)
-      (has_lids : (seat : NodePort) → IsSeat seat → HasLids start plan (IsJoinedTo (fabric_of start) seat) s) where
+  module _ (cables : AreCables start) (counts : (id : ℕ) → port_count start id ≤ 254)
+      {s : Simulation} (along : IsAlong start s) (is : IsSimulation s) (on : AreTraced Sends Tells start s.flights) (harmless : AreHarmless s.flights) where
     abbrev f : Fabric
     f = fabric_of start
 
@@ -131,91 +130,6 @@ module _ (start : Simulation) (plan : PlanValue) (IsSeat : NodePort → Type 0) 
               adapter_vertex (fabric_of start) x.at (type_at (fabric_of start) x.at.node (node_of a) node_there ∙ switch)
               ∙ ap (port_at x.at.node) (by_meant (number_in attribute_modifier x.request == 0 || number_in attribute_modifier x.request == x.at.port) m)
 
-      -- and has the plan's LID
-      has_planned : number_in method x.request ≡ set → number_in attribute_id x.request ≡ port_info → (port : ℕ) → has_lid a port ≡ true
-          → port_meant a (number_in attribute_modifier x.request) x.at.port ≡ Some port
-          → range_of plan.given (record { node = a.node.guid; port = port }) ≡ Some (range_at a port)
-      has_planned sets is_port port has meant = elim (sent_so sets) [
-        | inl info ↦ let clash : sm_info ≡ port_info = sym info ∙ is_port in absurd (omega (arith, clash))
-        | inr (r, planned) ↦ by_seat r planned
-      ]
-        where
-          by_seat : (r : IsRequestFor Sends Tells start x.at x.request) → IsPlannedFrom r.origin r.request
-              → range_of plan.given (record { node = a.node.guid; port = port }) ≡ Some (range_at a port)
-          by_seat r planned =
-              let same = vertex_is port has meant in
-              let joined : IsJoinedTo (fabric_of start) r.origin (port_at x.at.node port) =
-              subst (IsJoinedTo (fabric_of start) r.origin) same
-              (end_joined (fabric_of start) r.origin (can r.origin planned.is_seat) r.path x.at r.own r.leads) in
-              let end : fabrics.IsEndPort (fabric_of start) (port_at x.at.node port) =
-              subst (fabrics.IsEndPort (fabric_of start)) same
-              (vertex_is_end (fabric_of start) x.at (node_of a, node_there, at_least.0, at_least.1)) in
-              let h = has_lids r.origin planned.is_seat (port_at x.at.node port) (node_of a) (record { node_there = node_there; end_port = end; in_part = joined }) in
-              h ∙ ap (λ o. Some (option_map_or (λ y. base_lid_at y port) o 0, option_map_or (λ y. lmc_at y port) o 0)) there
-
-    -- what an agent keeps --------------------------------------------------------------------------
-
-    -- by a request that it answers
-    agent_keeps : (n : ℕ) (x : Asked Sends Tells cables counts along is on harmless n) (a : Agent) → agent_at s x.at.node ≡ Some a
-        → KeepsHeld plan a (after_answer a x.request x.at.port).agent × KeepsLids a (after_answer a x.request x.at.port).agent
-    agent_keeps n x a there =
-        let whole = x.for_agent.whole in
-        let most = (at_least n x a there).1 in (
-          answered_keeps plan a x.request x.at.port (is_agent n x a there) whole most (λ sets taken. carries n x a there sets),
-          answered_keeps_lids plan a x.request x.at.port (is_agent n x a there) whole most (λ sets taken. carries n x a there sets)
-              (has_planned n x a there),
-        )
-
-    -- each agent is there after a delivery, and keeps what it has
-    pub agents_keep : (n id : ℕ) (a : Agent) → agent_at s id ≡ Some a
-        → (b : Agent) × (agent_at (after_deliver s n).fabric id ≡ Some b) × (KeepsHeld plan a b × KeepsLids a b)
-    agents_keep n id a there = elim (asks_or_not Sends Tells cables counts along is on harmless n) [
-      | inl nobody ↦ (a, ap (λ (xs : List Agent). slice_get xs id) nobody.agents ∙ there, unchanged)
-      | inr x ↦ by_id x (x.at.node == id) refl
-    ]
-      where
-        unchanged : KeepsHeld plan a a × KeepsLids a a
-        unchanged = (itself plan a, λ m. refl)
-
-        by_id : (x : Asked Sends Tells cables counts along is on harmless n) → (b : Bool) → (x.at.node == id) ≡ b
-            → (b : Agent) × (agent_at (after_deliver s n).fabric id ≡ Some b) × (KeepsHeld plan a b × KeepsLids a b)
-        by_id x false other = (
-          a,
-          ap (λ (xs : List Agent). slice_get xs id) x.agents
-              ∙ others_stay s.agents x.at.node id (λ y. (after_answer y x.request x.at.port).agent) (eqb-false _ _ other)
-              ∙ there,
-          unchanged,
-        )
-        by_id x true same_is =
-            let same : x.at.node ≡ id = eqb-true _ _ same_is in
-            let here : agent_at s x.at.node ≡ Some a = ap (slice_get s.agents) same ∙ there in
-            let keeps = agent_keeps n x a here in (
-              (after_answer a x.request x.at.port).agent,
-              ap (slice_get (after_deliver s n).fabric.agents) (sym same)
-                  ∙ ap (λ (xs : List Agent). slice_get xs x.at.node) x.agents
-                  ∙ changed_at_id s.agents x.at.node a (λ y. (after_answer y x.request x.at.port).agent) here,
-              keeps,
-            )
-
-    -- where none is, none comes
-    pub none_comes : (n id : ℕ) → agent_at s id ≡ None → agent_at (after_deliver s n).fabric id ≡ None
-    none_comes n id none = elim (asks_or_not Sends Tells cables counts along is on harmless n) [
-      | inl nobody ↦ ap (λ (xs : List Agent). slice_get xs id) nobody.agents ∙ none
-      | inr x ↦ by_id x (x.at.node == id) refl
-    ]
-      where
-        by_id : (x : Asked Sends Tells cables counts along is on harmless n) → (b : Bool) → (x.at.node == id) ≡ b
-            → agent_at (after_deliver s n).fabric id ≡ None
-        by_id x false other =
-            ap (λ (xs : List Agent). slice_get xs id) x.agents
-            ∙ others_stay s.agents x.at.node id (λ y. (after_answer y x.request x.at.port).agent) (eqb-false _ _ other) ∙ none
-        by_id x true same_is =
-            let same : x.at.node ≡ id = eqb-true _ _ same_is in
-            let here : agent_at s x.at.node ≡ None = ap (slice_get s.agents) same ∙ none in
-            let left : with_changed s.agents x.at.node (λ y. (after_answer y x.request x.at.port).agent) ≡ s.agents =
-            ap (λ o. option_map_or (λ y. slice_set s.agents x.at.node (after_answer y x.request x.at.port).agent) o s.agents) here in
-            ap (λ (xs : List Agent). slice_get xs id) (x.agents ∙ left) ∙ none
-
     -- a Set that an agent takes --------------------------------------------------------------------
 
     -- an agent is asked for it
@@ -245,3 +159,96 @@ module _ (start : Simulation) (plan : PlanValue) (IsSeat : NodePort → Type 0) 
           top = λ e top switch is_top. ap (number_in linear_fdb_top) (sym data_is) ∙ c.top (attribute ∙ e) top switch is_top;
           block = λ e block is_block. sym data_is ∙ c.block (attribute ∙ e) block (ap (block_at plan a.node.guid) modifier ∙ is_block);
         }
+
+    -- where what is joined to each seat holds the plan's LIDs
+    module _ (can : (seat : NodePort) → IsSeat seat → CanBeSwept (fabric_of start) seat)
+        (has_lids : (seat : NodePort) → IsSeat seat → HasLids start plan (IsJoinedTo (fabric_of start) seat) s) where
+      -- what a Set asks for has the plan's LID
+      module _ (n : ℕ) (x : Asked Sends Tells cables counts along is on harmless n) (a : Agent) (there : agent_at s x.at.node ≡ Some a) where
+        has_planned : number_in method x.request ≡ set → number_in attribute_id x.request ≡ port_info → (port : ℕ) → has_lid a port ≡ true
+            → port_meant a (number_in attribute_modifier x.request) x.at.port ≡ Some port
+            → range_of plan.given (record { node = a.node.guid; port = port }) ≡ Some (range_at a port)
+        has_planned sets is_port port has meant = elim (sent_so n x a there sets) [
+          | inl info ↦ let clash : sm_info ≡ port_info = sym info ∙ is_port in absurd (omega (arith, clash))
+          | inr (r, planned) ↦ by_seat r planned
+        ]
+          where
+            by_seat : (r : IsRequestFor Sends Tells start x.at x.request) → IsPlannedFrom r.origin r.request
+                → range_of plan.given (record { node = a.node.guid; port = port }) ≡ Some (range_at a port)
+            by_seat r planned =
+                let same = vertex_is n x a there port has meant in
+                let joined : IsJoinedTo (fabric_of start) r.origin (port_at x.at.node port) =
+                subst (IsJoinedTo (fabric_of start) r.origin) same
+                (end_joined (fabric_of start) r.origin (can r.origin planned.is_seat) r.path x.at r.own r.leads) in
+                let end : fabrics.IsEndPort (fabric_of start) (port_at x.at.node port) =
+                subst (fabrics.IsEndPort (fabric_of start)) same
+                (vertex_is_end (fabric_of start) x.at (node_of a, node_there n x a there, (at_least n x a there).0, (at_least n x a there).1)) in
+                let h = has_lids r.origin planned.is_seat (port_at x.at.node port) (node_of a) (record {
+                  node_there = node_there n x a there;
+                  end_port = end;
+                  in_part = joined;
+                }) in
+                h ∙ ap (λ o. Some (option_map_or (λ y. base_lid_at y port) o 0, option_map_or (λ y. lmc_at y port) o 0)) there
+
+      -- what an agent keeps --------------------------------------------------------------------------
+
+      -- by a request that it answers
+      agent_keeps : (n : ℕ) (x : Asked Sends Tells cables counts along is on harmless n) (a : Agent) → agent_at s x.at.node ≡ Some a
+          → KeepsHeld plan a (after_answer a x.request x.at.port).agent × KeepsLids a (after_answer a x.request x.at.port).agent
+      agent_keeps n x a there =
+          let whole = x.for_agent.whole in
+          let most = (at_least n x a there).1 in (
+            answered_keeps plan a x.request x.at.port (is_agent n x a there) whole most (λ sets taken. carries n x a there sets),
+            answered_keeps_lids plan a x.request x.at.port (is_agent n x a there) whole most (λ sets taken. carries n x a there sets)
+                (has_planned n x a there),
+          )
+
+      -- each agent is there after a delivery, and keeps what it has
+      pub agents_keep : (n id : ℕ) (a : Agent) → agent_at s id ≡ Some a
+          → (b : Agent) × (agent_at (after_deliver s n).fabric id ≡ Some b) × (KeepsHeld plan a b × KeepsLids a b)
+      agents_keep n id a there = elim (asks_or_not Sends Tells cables counts along is on harmless n) [
+        | inl nobody ↦ (a, ap (λ (xs : List Agent). slice_get xs id) nobody.agents ∙ there, unchanged)
+        | inr x ↦ by_id x (x.at.node == id) refl
+      ]
+        where
+          unchanged : KeepsHeld plan a a × KeepsLids a a
+          unchanged = (itself plan a, λ m. refl)
+
+          by_id : (x : Asked Sends Tells cables counts along is on harmless n) → (b : Bool) → (x.at.node == id) ≡ b
+              → (b : Agent) × (agent_at (after_deliver s n).fabric id ≡ Some b) × (KeepsHeld plan a b × KeepsLids a b)
+          by_id x false other = (
+            a,
+            ap (λ (xs : List Agent). slice_get xs id) x.agents
+                ∙ others_stay s.agents x.at.node id (λ y. (after_answer y x.request x.at.port).agent) (eqb-false _ _ other)
+                ∙ there,
+            unchanged,
+          )
+          by_id x true same_is =
+              let same : x.at.node ≡ id = eqb-true _ _ same_is in
+              let here : agent_at s x.at.node ≡ Some a = ap (slice_get s.agents) same ∙ there in
+              let keeps = agent_keeps n x a here in (
+                (after_answer a x.request x.at.port).agent,
+                ap (slice_get (after_deliver s n).fabric.agents) (sym same)
+                    ∙ ap (λ (xs : List Agent). slice_get xs x.at.node) x.agents
+                    ∙ changed_at_id s.agents x.at.node a (λ y. (after_answer y x.request x.at.port).agent) here,
+                keeps,
+              )
+
+      -- where none is, none comes
+      pub none_comes : (n id : ℕ) → agent_at s id ≡ None → agent_at (after_deliver s n).fabric id ≡ None
+      none_comes n id none = elim (asks_or_not Sends Tells cables counts along is on harmless n) [
+        | inl nobody ↦ ap (λ (xs : List Agent). slice_get xs id) nobody.agents ∙ none
+        | inr x ↦ by_id x (x.at.node == id) refl
+      ]
+        where
+          by_id : (x : Asked Sends Tells cables counts along is on harmless n) → (b : Bool) → (x.at.node == id) ≡ b
+              → agent_at (after_deliver s n).fabric id ≡ None
+          by_id x false other =
+              ap (λ (xs : List Agent). slice_get xs id) x.agents
+              ∙ others_stay s.agents x.at.node id (λ y. (after_answer y x.request x.at.port).agent) (eqb-false _ _ other) ∙ none
+          by_id x true same_is =
+              let same : x.at.node ≡ id = eqb-true _ _ same_is in
+              let here : agent_at s x.at.node ≡ None = ap (slice_get s.agents) same ∙ none in
+              let left : with_changed s.agents x.at.node (λ y. (after_answer y x.request x.at.port).agent) ≡ s.agents =
+              ap (λ o. option_map_or (λ y. slice_set s.agents x.at.node (after_answer y x.request x.at.port).agent) o s.agents) here in
+              ap (λ (xs : List Agent). slice_get xs id) (x.agents ∙ left) ∙ none

@@ -6,7 +6,6 @@ use Rattle.fabric_model.specs.declared.cable.NodePort.{NodePort}
 use Rattle.fabric_model.specs.Cables.{is_same_port}
 use Rattle.fabric_model.specs.FabricWalks.{IsJoinedTo}
 use Rattle.fabric_model.specs.DirectedWalk.{directed_end}
-use Rattle.smp_bytes.specs.Header.{set}
 use Rattle.smp_bytes.specs.Requests.{directed}
 use Rattle.fact_store.specs.View.{Facts, cells_of}
 use Rattle.fabric_sim.specs.Simulation.{Simulation, fabric_of}
@@ -52,7 +51,7 @@ use Rattle.manager_laws.specs.StaysInForce.{HoldsLids}
 use Rattle.manager_laws.specs.OwnRuns.{WritesSwept}
 use Rattle.manager_laws.proofs.masters.Acting.{AreCarried, Carried, Plans, WritesCarried, event_plans}
 use Rattle.manager_laws.proofs.masters.Deliveries.{IsPlannedFrom, Sends}
-use Rattle.manager_laws.proofs.masters.Scenes.{SendsSo}
+use Rattle.manager_laws.proofs.masters.Traces.{SendsSo}
 
 -- an old sweep may be left where none began
 abbrev pub Old : Bool → Type 0
@@ -155,46 +154,47 @@ module _ (from : Scene) (held : Facts) (planning : Planning) (seat : NodePort) (
       (λ j. plan_of (planning_is j).rule (planning_is j).lmc (cells_of w.manager.store))
       ∙ ap (plan_of planning.rule planning.lmc) (holds_all w u one.follows) ∙ taken.1
 
-  module _ (w : Managing) (g : Goes from.fabric seat (plan_by_it planning held) ⊥ w) (none : writing_fault w.manager ≡ None)
-      (same : plan_of w.manager.planning.rule w.manager.planning.lmc (cells_of w.manager.store) ≡ plan_by_it planning held) where
-    may : MayWrite w.manager
-    may = may_write w.manager none
+-- a manager that begins to write a plan
+module _ (start : Simulation) (seat : NodePort) (plan : PlanValue) (w : Managing) (g : Goes start seat plan ⊥ w) (none : writing_fault w.manager ≡ None)
+    (same : plan_of w.manager.planning.rule w.manager.planning.lmc (cells_of w.manager.store) ≡ plan) where
+  may : MayWrite w.manager
+  may = may_write w.manager none
 
-    abbrev phases_with : Sweep → List Phase
-    phases_with s =
-        phases_of (plan_of w.manager.planning.rule w.manager.planning.lmc (cells_of w.manager.store)) (cells_of w.manager.store) s w.manager.standing.guid
-        w.manager.port
+  abbrev phases_with : Sweep → List Phase
+  phases_with s =
+      phases_of (plan_of w.manager.planning.rule w.manager.planning.lmc (cells_of w.manager.store)) (cells_of w.manager.store) s w.manager.standing.guid
+      w.manager.port
 
-    step_carried : (s : Sweep) → IsSwept from.fabric seat s → (counted : Bool) (t : Step) → IsOf (phases_with s) counted t
-        → Carried from.fabric seat (plan_by_it planning held) t
-    step_carried s swept counted t of =
-        record {
-          can = writing_goes from.fabric seat w.manager may g.fair.side.lmc s swept (plan_by_it planning held) counted t of;
-          carries = λ end leads now along a there packet asks. subst (λ p. Carries p a end.port packet) same
-              (own_carries from.fabric seat w.manager may g.fair.side.lmc s swept now along end a packet there
-              (record {
-                phase = of.phase;
-                there = of.there;
-                step = t;
-                in_phase = of.step;
-                leads = leads;
-                attribute = asks.attribute;
-                modifier = asks.modifier;
-                payload = asks.payload;
-              }));
-        }
+  step_carried : (s : Sweep) → IsSwept start seat s → (counted : Bool) (t : Step) → IsOf (phases_with s) counted t
+      → Carried start seat plan t
+  step_carried s swept counted t of =
+      record {
+        can = writing_goes start seat w.manager may g.fair.side.lmc s swept plan counted t of;
+        carries = λ end leads now along a there packet asks. subst (λ p. Carries p a end.port packet) same
+            (own_carries start seat w.manager may g.fair.side.lmc s swept now along end a packet there
+            (record {
+              phase = of.phase;
+              there = of.there;
+              step = t;
+              in_phase = of.step;
+              leads = leads;
+              attribute = asks.attribute;
+              modifier = asks.modifier;
+              payload = asks.payload;
+            }));
+      }
 
-    -- so each step of the writing that begins then carries its values
-    pub writing_carried : AreCarried from.fabric seat (plan_by_it planning held) (phases_by w.manager w.manager.sweep)
-    writing_carried = by_sweep w.manager.sweep (swept_one w.manager.sweep g.fair.side.sweep)
-      where
-        swept_one : (o : Option Sweep) → SweepIs from.fabric seat ⊥ o → IsSweptOne from.fabric seat o
-        swept_one o (inl old) = absurd old.0
-        swept_one o (inr swept) = swept
+  -- so each step of the writing that begins then carries its values
+  pub writing_carried : AreCarried start seat plan (phases_by w.manager w.manager.sweep)
+  writing_carried = by_sweep w.manager.sweep (swept_one w.manager.sweep g.fair.side.sweep)
+    where
+      swept_one : (o : Option Sweep) → SweepIs start seat ⊥ o → IsSweptOne start seat o
+      swept_one o (inl old) = absurd old.0
+      swept_one o (inr swept) = swept
 
-        by_sweep : (o : Option Sweep) → IsSweptOne from.fabric seat o → AreCarried from.fabric seat (plan_by_it planning held) (phases_by w.manager o)
-        by_sweep None swept = absurd swept
-        by_sweep (Some s) swept = step_carried s swept
+      by_sweep : (o : Option Sweep) → IsSweptOne start seat o → AreCarried start seat plan (phases_by w.manager o)
+      by_sweep None swept = absurd swept
+      by_sweep (Some s) swept = step_carried s swept
 
 -- sending -------------------------------------------------------------------------------------------------------
 
@@ -335,7 +335,7 @@ module _ (from : Scene) (held : Facts) (planning : Planning) where
         → WritesCarried from.fabric m.seat (plan_by_it planning held) (seen_by scene m) event
     carried_if Write whole = λ none.
         let knows = (whole none).0 in
-        writing_carried from held planning m.seat known (seen_by scene m) (goes_new knows) none
+        writing_carried from.fabric m.seat (plan_by_it planning held) (seen_by scene m) (goes_new knows) none
         (same_plan from held planning m.seat known (seen_by scene m) (side.follows knows) side.planning_is (whole none).1)
     carried_if event whole = tt
 

@@ -1,30 +1,24 @@
 -- Several managers: whatever they do, each goes on, no port gets another LID, and what is joined to their seats goes on holding the plan.
 use Rattle.std.proofs.Common.{◌≡◌, ◌≢◌, ◌⊎◌, inl, inr, ℕ, zero, suc, ◌++◌, ◌≤◌, true, false, List, [], ◌∷◌, refl, sym, ap, ◌∙◌, subst, arith}
 use Rattle.std.proofs.lemmas.Option.{same_Some}
-use Rattle.std.specs.Prelude.{Contains, Option, Some, None, slice_get, slice_set}
+use Rattle.std.specs.Prelude.{Option, Some, None, slice_get, slice_set}
 use Rattle.fabric_model.specs.declared.cable.NodePort.{NodePort}
 use Rattle.fabric_model.specs.FabricWalks.{IsJoinedTo}
-use Rattle.smp_bytes.proofs.Made.{directed_reads_back}
 use Rattle.fact_store.specs.View.{Facts}
 use Rattle.fabric_sim.specs.Simulation.{AreCables, fabric_of, port_count}
 use Rattle.fabric_sim.proofs.TripEnds.{along_itself, few_ports}
-use Rattle.fabric_sim.proofs.TracedCalls.{AreTraced}
 use Rattle.lft_blocks.specs.Planning.{Planning}
-use Rattle.manager_laws.specs.Scene.{Scene, ByLid, ByPath, Answer, Event, Send as SendFrom, Emit, CanHappen, after_event}
+use Rattle.manager_laws.specs.Scene.{Scene, Event, Send as SendFrom, CanHappen, after_event}
 use Rattle.manager_laws.specs.Managing as one
 use Rattle.manager_laws.specs.Managing.{Managing, ManagerEvent, Starts, after_manager_event}
 use Rattle.manager_laws.specs.Written.{plan_at}
-use Rattle.manager_laws.proofs.Answers as scenes
 use Rattle.manager_laws.proofs.Done.{seat_end}
-use Rattle.manager_laws.proofs.Fair.{AreOwnPackets}
 use Rattle.manager_laws.proofs.Goes.{Goes}
 use Rattle.manager_laws.proofs.OneSweep.{first_begins, first_of}
 use Rattle.manager_laws.proofs.Sound.{CanBeSwept}
 use Rattle.manager_laws.proofs.SweepBegins.{starting}
 use Rattle.manager_laws.proofs.Swept as swept_laws
-use Rattle.manager_laws.proofs.TracedScenes.{WereTraced}
 use Rattle.manager_laws.proofs.WritingSweeps.{Ground}
-use Rattle.subnet_view.proofs.Members.{contains_none}
 use Rattle.manager_laws.specs.Takeover.{plan_by_it}
 use Rattle.manager_laws.proofs.takeover.HeldOn.{AreListed, HeldOn, held_of_now}
 use Rattle.manager_laws.proofs.takeover.Listed.{are_listed}
@@ -35,9 +29,9 @@ use Rattle.manager_laws.specs.Masters.{AllCanBe, Around, At, CanBe, IsAt, IsItsO
 use Rattle.manager_laws.specs.Masters.{IsWholeSweep, acting, after_masters_event, after_masters_events, seated_after, seen_by}
 use Rattle.manager_laws.specs.StaysInForce.{AllHold, AllInUse, AllSweepWhole, InUseAlong, MastersChangeNothing, MastersKeepLids, MastersWriteTheSame, ShareLids}
 use Rattle.manager_laws.specs.StaysInForce.{SweepsWhole}
-use Rattle.manager_laws.proofs.masters.Deliveries.{Sends, Tells}
-use Rattle.manager_laws.proofs.masters.Harmless.{AreHarmless}
-use Rattle.manager_laws.proofs.masters.Scenes.{SendsSo, SentSo, Stands, held_on, stands_on}
+use Rattle.manager_laws.proofs.masters.Scenes.{Stands, held_on, stands_on}
+use Rattle.manager_laws.proofs.masters.Traces.{SendsSo, SentSo, first_traces, others_so}
+use Rattle.manager_laws.proofs.masters.Carrying.{first_plans}
 use Rattle.manager_laws.proofs.masters.Side.{Known, Old, SendsOne, Side, around_side, own_scene, own_side, same_plan, sending_so}
 
 -- lists -----------------------------------------------------------------------------------------------------------
@@ -158,23 +152,10 @@ module _ (held : Facts) (planning : Planning) (t0 : Masters) (h : ShareLids held
   holds_on w event st can_happen so seat is now =
       held_on t0.scene (plan_by_it planning held) IsSeat cables counts can listed w event st can_happen so seat is now
 
-  -- others set nothing
-  others_so : (event : Event) → CanHappen event → SetsInfoOnly event → SentSo t0.scene (plan_by_it planning held) IsSeat event
-  others_so (SendFrom seat (ByLid packet)) can_happen nothing = nothing
-  others_so (SendFrom seat (ByPath method attribute modifier tid path payload)) (fits, low, short, begins) nothing = λ sets.
-      let holds = (directed_reads_back method attribute modifier tid path payload fits short).0 in
-      inl (holds.attribute_id ∙ nothing (sym holds.method ∙ sets))
-  others_so (Emit at (ByLid packet)) (can, sets) nothing = λ is. absurd (sets is)
-  others_so (Emit at (ByPath method attribute modifier tid path payload)) ((fits, low, short, begins), sets) nothing = λ is.
-      let holds = (directed_reads_back method attribute modifier tid path payload fits short).0 in
-      absurd (sets (sym holds.method ∙ is))
-  others_so (Emit at (Answer which given payload)) can nothing = absurd can
-  others_so event can_happen nothing = tt
-
   -- something happens on the fabric
   around : (t : Masters) (event : Event) → AllStand t → CanBe t (Around event) → SetsInfoOnly event → AllStand (after_masters_event t (Around event))
   around t event all can_be nothing =
-      let stands = on t.scene event all.stands can_be.0 (others_so event can_be.0 nothing) in
+      let stands = on t.scene event all.stands can_be.0 (others_so t0.scene (plan_by_it planning held) IsSeat event can_be.0 nothing) in
       record {
         stands = stands;
         sides = λ which m there. around_side t0.scene held planning t.scene m (all.sides which m there) (known m.seat (is_seat t all which m there)) event
@@ -258,7 +239,7 @@ module _ (held : Facts) (planning : Planning) (t0 : Masters) (h : ShareLids held
 
   next_held : (t : Masters) (event : MastersEvent) → AllStand t → CanBe t event → SweepsWhole t event → AllHeld t → AllHeld (after_masters_event t event)
   next_held t (Around event) all can_be whole now = λ which m there.
-      holds_on t.scene event all.stands can_be.0 (others_so event can_be.0 whole) m.seat (is_seat t all which m there) (now which m there)
+      holds_on t.scene event all.stands can_be.0 (others_so t0.scene (plan_by_it planning held) IsSeat event can_be.0 whole) m.seat (is_seat t all which m there) (now which m there)
   next_held t (At which event) all can_be whole now = acts_held t which event all can_be whole (slice_get t.managers which) refl now
 
   -- at first ------------------------------------------------------------------------------------------------------
@@ -270,13 +251,7 @@ module _ (held : Facts) (planning : Planning) (t0 : Masters) (h : ShareLids held
       record {
         goes = subst (λ b. Goes t0.scene.fabric m.seat (plan_by_it planning held) (Old b) (seen_by t0.scene m)) (sym none.0)
             (starting (seen_by t0.scene m) starts (plan_by_it planning held));
-        plans = record {
-          all = [];
-          outgoing = subst (AreOwnPackets t0.scene.fabric m.seat (plan_by_it planning held) 0 [] t0.scene.handed) (sym starts.at_rest.outgoing) tt;
-          out = subst (AreOwnPackets t0.scene.fabric m.seat (plan_by_it planning held) 0 [] t0.scene.handed) (sym starts.out) tt;
-          known = λ x at. absurd (contains_none x at);
-          waits = inl (λ p at is. contains_none p (subst (λ ps. Contains ps p) starts.at_rest.pending at));
-        };
+        plans = first_plans (seen_by t0.scene m) starts (plan_by_it planning held);
         planning_is = h.plans which m there;
         swept = λ knows. absurd (cc (sym none.1 ∙ knows));
         follows = λ knows. absurd (cc (sym none.1 ∙ knows));
@@ -287,14 +262,9 @@ module _ (held : Facts) (planning : Planning) (t0 : Masters) (h : ShareLids held
       let quiet = h.starts.quiet in
       record {
         stands = record {
-          continues = scenes.begun t0.scene quiet;
+          traces = first_traces t0.scene (plan_by_it planning held) IsSeat quiet;
           seen = nothing_seen (HasLidsOf (fabric_of t0.scene.fabric)) t0.scene;
           lids = λ p. refl;
-          flights = subst (AreTraced (Sends t0.scene.fabric (plan_by_it planning held) IsSeat) (Tells t0.scene.fabric (plan_by_it planning held) IsSeat)
-              t0.scene.fabric) (sym quiet.flights) tt;
-          handed = subst (WereTraced (Sends t0.scene.fabric (plan_by_it planning held) IsSeat) (Tells t0.scene.fabric (plan_by_it planning held) IsSeat)
-              t0.scene.fabric) (sym quiet.handed) tt;
-          harmless = subst AreHarmless (sym quiet.flights) tt;
           has_lids = λ seat is. (known seat is).lids;
         };
         sides = side_first;
@@ -308,12 +278,12 @@ module _ (held : Facts) (planning : Planning) (t0 : Masters) (h : ShareLids held
       let is = is_seat t all which m there in
       let k = known m.seat is in
       in_use t0.scene.fabric m.seat (plan_by_it planning held) (listed m.seat is) k.ground planning.rule planning.lmc held h.has_room refl k.agrees
-      (seat_end (first_of t0.scene m.seat 1 false) 1 1 (k.begins 1 (omega arith, omega arith) false)) t.scene all.stands.continues (now which m there)
+      (seat_end (first_of t0.scene m.seat 1 false) 1 1 (k.begins 1 (omega arith, omega arith) false)) t.scene all.stands.traces.continues (now which m there)
 
   -- what holds the plan now is what was there at first
   held_of : (t : Masters) → AllStand t → AllHold held planning t → AllHeld t
   held_of t all holds which m there =
-      held_of_now t0.scene.fabric t.scene.fabric (plan_by_it planning held) m.seat all.stands.continues.fabric.along (holds which m there)
+      held_of_now t0.scene.fabric t.scene.fabric (plan_by_it planning held) m.seat all.stands.traces.continues.fabric.along (holds which m there)
 
   -- what a manager would write
   pub plans_the_same : (t : Masters) → AllStand t → (which : ℕ) (m : Seated) → IsAt t which m → m.knows_one_sweep ≡ true → IsWholeSweep m.manager.sweep

@@ -41,7 +41,7 @@ use Rattle.manager_laws.proofs.masters.Deliveries.{taken_carries}
 use Rattle.manager_laws.proofs.masters.Known.{after_both, knows_one_sweep_means}
 use Rattle.manager_laws.proofs.masters.Runs.{all_run, first_run}
 use Rattle.manager_laws.proofs.masters.Segments.{IsAround, OwnStep, Segment, own_step, segment}
-use Rattle.manager_laws.proofs.masters.Together.{AllStand, IsSeat, after_all, cables, can, counts, ends, first_stand, known, is_seat, next, plans_the_same}
+use Rattle.manager_laws.proofs.masters.Together.{AllStand, IsSeat, after_all, cables, counts, ends, first_stand, known, is_seat, next, plans_the_same}
 
 -- of all managers from that of one ------------------------------------------------------------------------------------
 
@@ -113,8 +113,8 @@ module _ (facts : Facts) (planning : Planning) (t0 : Masters) (h : ShareLids fac
   -- each Set that an agent takes carries the plan's values
   around_keeps : (t : Masters) → AllStand facts planning t0 h t → (event : Event) → KeepsPlan (plan_by_it planning facts) no_sets t.scene.fabric event
   around_keeps t all (Deliver n) = λ at a packet takes. inr (taken_carries t0.scene.fabric (plan_by_it planning facts) (IsSeat facts planning t0 h)
-      (cables facts planning t0 h) (counts facts planning t0 h) (can facts planning t0 h) all.stands.continues.fabric.along all.stands.continues.fabric.is
-      all.stands.flights all.stands.harmless all.stands.has_lids n at a packet takes)
+      (cables facts planning t0 h) (counts facts planning t0 h) all.stands.traces.continues.fabric.along all.stands.traces.continues.fabric.is
+      all.stands.traces.flights all.stands.traces.harmless n at a packet takes)
   around_keeps t all event = tt
 
   module _ (which : ℕ) where
@@ -288,7 +288,7 @@ module _ (facts : Facts) (planning : Planning) (t0 : Masters) (h : ShareLids fac
       all_hold k n there =
           let start = t0.scene.fabric in
           let now = t5.scene.fabric in
-          let along = all5.stands.continues.fabric.along in
+          let along = all5.stands.traces.continues.fabric.along in
           let distinct = (h.starts.each which m0 at_first).distinct in
           holds_there (fabric_of now) plan (cells_of facts) (IsJoinedTo (fabric_of now) m0.seat) (IsJoinedTo (fabric_of now) n.seat)
           (λ i j a b one two same. distinct i j a b (nodes_stay start now along i a one) (nodes_stay start now along j b two) same)

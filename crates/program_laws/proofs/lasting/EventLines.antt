@@ -9,10 +9,9 @@ use Rattle.acting_manager.specs.Acting.{Acting}
 use Rattle.acting_manager.specs.Working.{is_writing}
 use Rattle.program_laws.specs.Deciding.{Around, Deciding, DecidingEvent, Hear, Send, Tell, after_deciding_event, after_deciding_events}
 use Rattle.program_laws.specs.ManagedEnds.{StaysAbout}
-use Rattle.program_laws.specs.ManagedWritings.{begins_writing}
+use Rattle.program_laws.specs.ManagedWritings.{NoneBegins, begins_writing}
 use Rattle.program_laws.specs.SweepTime.{line_by, line_heard, lines_of}
 use Rattle.program_laws.specs.Wakes.{Line, after_line, after_lines}
-use Rattle.program_laws.proofs.lasting.FirstPlans.{NoneBegins}
 use Rattle.program_laws.proofs.wakes.AtSeats.{event_acting}
 
 -- the event of a line ---------------------------------------------------------------------------------------------------------

@@ -20,7 +20,7 @@ use Rattle.acting_manager.specs.Planned.{comparison_of, planned}
 use Rattle.acting_manager.specs.Working.{Told, acted_if_idle, is_idle, is_writing, sent, yielding_at_once}
 use Rattle.manager_laws.specs.Scene.{Handed}
 use Rattle.program_laws.specs.Deciding.{Around, Deciding, DecidingEvent, Hear, Send, Tell, after_deciding_event, after_deciding_events, hearing_at, sending_from, telling}
-use Rattle.program_laws.specs.ManagedWritings.{begins_writing}
+use Rattle.program_laws.specs.ManagedWritings.{NoneBegins, begins_writing}
 use Rattle.program_laws.specs.Wakes.{Line, after_line, before_deciding}
 use Rattle.program_laws.proofs.wakes.Deciding.{caught_about, sent_about}
 use Rattle.program_laws.proofs.lasting.Told.{Lasts, Of, Property, catches_up, lasts_until, sends}
@@ -169,11 +169,6 @@ event_first d (Hear time which) f e = by_packet (slice_get d.scene.handed which)
             → IsFirst (cond b (telling time what d) d).acting
         by_port true g = line_first (time, what) d.acting f g
         by_port false g = f
-
--- none of the events begins a writing
-abbrev pub NoneBegins : List DecidingEvent → Deciding → Type 0
-NoneBegins [] d = Unit {0}
-NoneBegins (event ∷ events) d = (begins_writing d event ≡ false) × NoneBegins events (after_deciding_event d event)
 
 pub events_first : (events : List DecidingEvent) (d : Deciding) → IsFirst d.acting → NoneBegins events d → IsFirst (after_deciding_events events d).acting
 events_first [] d f none = f

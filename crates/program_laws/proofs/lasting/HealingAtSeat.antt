@@ -3,9 +3,7 @@ use Rattle.std.proofs.Common.{◌≡◌, ◌∙◌, ◌⊎◌, inl, inr, ℕ, �
 use Rattle.std.proofs.lemmas.List.{append_assoc}
 use Rattle.std.proofs.lemmas.Option.{none-some}
 use Rattle.std.specs.List.{AllByRecursion, list_any}
-use Rattle.lft_blocks.specs.Plan.{PlanValue}
 use Rattle.manager_laws.specs.Managing.{Starts}
-use Rattle.manager_laws.specs.Sets.{OwnSets}
 use Rattle.manager_laws.specs.Written.{own_sets, plan_at}
 use Rattle.sm_manager.specs.Writing.{is_written}
 use Rattle.sm_policy.specs.Policy.{is_sweeping}
@@ -16,12 +14,12 @@ use Rattle.acting_manager.specs.Acting.{Acting}
 use Rattle.acting_manager.specs.Working.{after_told, is_writing}
 use Rattle.program_laws.specs.AnsweredPings.{WritesManaged}
 use Rattle.program_laws.specs.AnsweredWritings.{KeepsWriting, NoWritingGivenUp}
-use Rattle.program_laws.specs.Deciding.{Around, CanDecide, Deciding, DecidingEvent, Hear, Send, Tell, after_deciding_event, after_deciding_events}
+use Rattle.program_laws.specs.Deciding.{CanDecide, Deciding, DecidingEvent, after_deciding_event, after_deciding_events}
 use Rattle.program_laws.specs.FreshWork.{works}
 use Rattle.program_laws.specs.HealingAtSeat.{HealsAtSeat, OthersKeep, ServesAt}
 use Rattle.program_laws.specs.ManagedEnds.{StaysAbout}
-use Rattle.program_laws.specs.ManagedPings.{AllKeepManaged, managed_at_end, managed_at_writing}
-use Rattle.program_laws.specs.ManagedWritings.{IsNew, begins_writing, managing_of}
+use Rattle.program_laws.specs.ManagedPings.{managed_at_end, managed_at_writing}
+use Rattle.program_laws.specs.ManagedWritings.{IsNew, NoneBegins, begins_writing, managing_of}
 use Rattle.program_laws.specs.StandingPlans.{KeepsWritten}
 use Rattle.program_laws.specs.SweepTime.{lines_of}
 use Rattle.program_laws.specs.Wakes.{ArePrompt, HasDecided, Line, NoneLeaves, after_line, after_lines, longest_turn}
@@ -30,24 +28,16 @@ use Rattle.program_laws.proofs.lasting.Answered.{none_both}
 use Rattle.program_laws.proofs.lasting.AnsweredPings.{ends_written}
 use Rattle.program_laws.proofs.lasting.EventLines.{RunsSince, UpTo, events_to, lines_of_both, none_begins, runs_since}
 use Rattle.program_laws.proofs.lasting.EventLines.RunsSince.{Since, Throughout}
-use Rattle.program_laws.proofs.lasting.FirstPlans.{IsFirst, LastWriting, NoneBegins, events_first, last_writing}
+use Rattle.program_laws.proofs.lasting.FirstPlans.{IsFirst, LastWriting, events_first, last_writing}
 use Rattle.program_laws.proofs.lasting.FirstPlans.LastWriting.{Nothing, Something}
 use Rattle.program_laws.proofs.lasting.Healing.{AllGoOnBy, Found, IsUndisturbedSo, ends_so, found, sweeps, undisturbed_so, well_later}
 use Rattle.program_laws.proofs.lasting.StandingPings.{strict_whole}
 use Rattle.program_laws.proofs.managed.Moves.{both, first_of, later_of}
+use Rattle.program_laws.proofs.managed.OnePlan.{last_keeps}
 use Rattle.program_laws.proofs.managed.OneSweeps.{writes_what_one_sweep_saw}
 use Rattle.program_laws.proofs.managed.Pinged.{managed_pings_arrive}
 use Rattle.program_laws.proofs.wakes.AtSeats.{event_acting, events_acting, events_both, lines_both}
 use Rattle.program_laws.proofs.wakes.NextSweep.{has_more, none_first, none_later}
-
--- others keep the plan, and the manager begins no other writing
-keep_all : (plan : PlanValue) (own : OwnSets) (events : List DecidingEvent) (d : Deciding) → OthersKeep plan own events d → NoneBegins events d
-    → AllKeepManaged plan own events d
-keep_all plan own [] d keep none = tt
-keep_all plan own (Around event ∷ events) d keep none = (keep.0, keep_all plan own events _ keep.1 none.1)
-keep_all plan own (Send which ∷ events) d keep none = (tt, keep_all plan own events _ keep none.1)
-keep_all plan own (Tell time what ∷ events) d keep none = (none.0, keep_all plan own events _ keep none.1)
-keep_all plan own (Hear time which ∷ events) d keep none = (none.0, keep_all plan own events _ keep none.1)
 
 -- the manager does not give up what it writes, and no request while it writes
 abbrev pub WritesOn : Line → Acting → Type 0
@@ -156,7 +146,7 @@ module _ (d : Deciding) (before events : List DecidingEvent) (n : ℕ) (r : IsUn
           begins_can = later_can.0;
           after_can = later_can.1;
           writes = writes;
-          keep = keep_all _ _ since now others none;
+          keep = last_keeps _ _ since now others none;
         }
 
     -- its plan serves, if it is written

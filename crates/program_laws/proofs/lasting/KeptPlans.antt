@@ -15,13 +15,13 @@ use Rattle.acting_manager.specs.Planned.{planned}
 use Rattle.acting_manager.specs.Working.{acted_if_idle, is_idle, is_writing, sent}
 use Rattle.acting_manager.specs.declared.note.Note.TheVariants.{Wrote}
 use Rattle.program_laws.specs.Deciding.{Deciding, DecidingEvent, after_deciding_event, after_deciding_events}
-use Rattle.program_laws.specs.ManagedWritings.{begins_writing}
+use Rattle.program_laws.specs.ManagedWritings.{NoneBegins, begins_writing}
 use Rattle.program_laws.specs.SweepTime.{line_by}
 use Rattle.program_laws.specs.Wakes.{Line, after_line, after_lines, before_deciding}
 use Rattle.program_laws.proofs.lasting.AnsweredWritings.{writes_idle, writes_now}
 use Rattle.program_laws.proofs.lasting.EventLines.{AtMostOne, told_one}
 use Rattle.program_laws.proofs.lasting.EventLines.AtMostOne.{NoLine, OneLine}
-use Rattle.program_laws.proofs.lasting.FirstPlans.{IsKept, KeepsOrWrites, NoneBegins, acted_keeps, kept_lasts, leaves_keep}
+use Rattle.program_laws.proofs.lasting.FirstPlans.{IsKept, KeepsOrWrites, acted_keeps, kept_lasts, leaves_keep}
 use Rattle.program_laws.proofs.lasting.Told.{catches_up, lasts_until, sends}
 use Rattle.program_laws.proofs.managed.Calm.{Calm, NoMore, is_ready}
 use Rattle.program_laws.proofs.managed.Outcomes.{Outcome, acts}

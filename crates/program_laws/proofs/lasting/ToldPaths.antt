@@ -48,13 +48,12 @@ use Rattle.manager_laws.specs.Sets.{OwnSets}
 use Rattle.program_laws.specs.AnsweredPings.{WritesManaged}
 use Rattle.program_laws.specs.Deciding.{Deciding, DecidingEvent, StandsFor, after_deciding_event, after_deciding_events}
 use Rattle.program_laws.specs.ManagedPings.{AllKeepManaged, managed_at_end, managed_at_writing}
-use Rattle.program_laws.specs.ManagedWritings.{WritesOneSweep, managing_of}
+use Rattle.program_laws.specs.ManagedWritings.{NoneBegins, WritesOneSweep, managing_of}
 use Rattle.program_laws.specs.SweepTime.{line_by}
 use Rattle.program_laws.specs.ToldPaths.{PathsAreToldAtSeats, TellsManaged, ToldPathsArrive}
 use Rattle.program_laws.specs.Wakes.{Line, after_line, after_lines, before_deciding}
 use Rattle.program_laws.proofs.lasting.AnsweredWritings.{begun_manager}
 use Rattle.program_laws.proofs.lasting.EventLines.{some_line}
-use Rattle.program_laws.proofs.lasting.FirstPlans.{NoneBegins}
 use Rattle.program_laws.proofs.lasting.KeptPlans.{begun_kept, events_kept}
 use Rattle.program_laws.proofs.lasting.StandingPings.{strict_whole}
 use Rattle.program_laws.proofs.managed.Keeping.{begins_none}

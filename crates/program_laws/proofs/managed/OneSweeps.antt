@@ -278,6 +278,19 @@ module _ (w : Managing) (d d' : Deciding) (k : Known w d) (stays : d'.seat ≡ d
 
 -- a whole run ------------------------------------------------------------------------------------------
 
+-- the manager at its seat stands for a new one
+pub first_stands : (d : Deciding) → IsNew d → StandsFor (managing_of d) d
+first_stands d new =
+    let acting = new.acting in
+    record {
+      scene = refl;
+      seat = refl;
+      manager = refl;
+      printed = subst (AllByRecursion (Contains (managing_of d).out)) (sym new.printed) tt;
+      held = subst (HoldsOnly (Contains (managing_of d).out)) (sym acting) (record { queued = tt; outs = tt; ready = tt });
+      newest = subst (λ (a : Acting). a.newest < 2 ^ 32) (sym acting) new.few;
+    }
+
 pub begins_known : (d : Deciding) → IsNew d → Known (managing_of d) d
 begins_known d new =
     let m = new_manager new.port_guid new.port new.priority new.conduct new.planning in
@@ -290,14 +303,7 @@ begins_known d new =
       can_be = tt;
       at = w;
       leads = refl;
-      stands = record {
-        scene = refl;
-        seat = refl;
-        manager = refl;
-        printed = subst (AllByRecursion (Contains w.out)) (sym new.printed) tt;
-        held = subst (HoldsOnly (Contains w.out)) (sym acting) (record { queued = tt; outs = tt; ready = tt });
-        newest = subst (λ (a : Acting). a.newest < 2 ^ 32) (sym acting) new.few;
-      };
+      stands = first_stands d new;
       newest = subst (λ (a : Acting). IsNewestTo a.newest a.manager) (sym acting) (record { knows = knows_nothing new.newest; sweep = tt });
       one = λ e. let no = sym (ap (λ (a : Acting). a.policy.activity) acting) ∙ e in absurd (cc);
       stood = λ e. let no = sym (ap (λ (a : Acting). a.policy.written.stands) acting) ∙ e in absurd (cc);

@@ -7,6 +7,7 @@ ghost use Rattle.program_laws.specs.InTurn.{WorksInTurn};
 ghost use Rattle.program_laws.specs.Leading.{LoneManagersLeadInTime, SomeLoneManagerLeads};
 ghost use Rattle.program_laws.specs.LoneHealing.{LoneManagersHeal, LoneManagersHealAtSeat, SomeLoneManagerHeals};
 ghost use Rattle.program_laws.specs.NextSweep.{SweepsAgainInTime};
+ghost use Rattle.program_laws.specs.OnePlan.{OnePlanServes};
 ghost use Rattle.program_laws.specs.OtherMasters.{MastersGiveWay};
 ghost use Rattle.program_laws.specs.RestTime.{RestsEndInTime};
 ghost use Rattle.program_laws.specs.StandingPings.{StandingPingsArrive};
@@ -135,4 +136,10 @@ pub fn some_lone_manager_leads()
 /// what it writes: a new one on an adapter with one port and no cable, which is told the time and its adapter's answers.
 pub fn some_lone_manager_heals()
     ensures { SomeLoneManagerHeals }
+{}
+
+/// Of `heals_at_seat`, the condition on Sets that agents take holds, and so pings arrive at the moment that it tells of, if
+/// all writings of the manager are of one plan, and other senders set only SMInfo, from the start.
+pub fn one_plan_serves()
+    ensures { OnePlanServes }
 {}

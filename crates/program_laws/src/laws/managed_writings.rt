@@ -3,6 +3,7 @@ ghost use Rattle.program_laws.specs.AnsweredPings.{AnsweredPingsArrive};
 ghost use Rattle.program_laws.specs.AnsweredWritings.{AnsweredWritingsAreWritten};
 ghost use Rattle.program_laws.specs.ManagedPings.{ManagedPingsArrive, SomeManagerDecides};
 ghost use Rattle.program_laws.specs.ManagedWritings.{WritesNothingElse, WritesWhatOneSweepSaw};
+ghost use Rattle.program_laws.specs.OnePlan.{LastPlanIsKept, OnePlanIsKept, SomeManagerWritesOnePlan};
 ghost use Rattle.program_laws.specs.StandingPlans.{SettlesWhenWritten, StandingPlansAreWritten};
 ghost use Rattle.program_laws.specs.ToldPaths.{PathsAreToldAtSeats, SomePathIsToldAtASeat, ToldPathsArrive};
 
@@ -88,4 +89,22 @@ pub fn paths_are_told_at_seats()
 /// LIDs of both adapters: that of `some_manager_decides`, once it has written its plan.
 pub fn some_path_is_told_at_a_seat()
     ensures { SomePathIsToldAtASeat }
+{}
+
+/// If all writings that a new manager begins are of one plan, and other senders set only SMInfo, from the start, then after
+/// each of its writings each Set that an agent takes is one of that writing's own or carries the plan's values. At first
+/// no packet is on its way, and GUIDs differ; the shell is faithful; no cable moves.
+pub fn one_plan_is_kept()
+    ensures { OnePlanIsKept }
+{}
+
+/// So the condition on Sets that `managed_pings_arrive` and the other laws of a last writing ask for holds, if that is the
+/// manager's first writing, or all before it were of the same plan, and other senders set only SMInfo, from the start.
+pub fn last_plan_is_kept()
+    ensures { LastPlanIsKept }
+{}
+
+/// Some manager's writings are of one plan under the conditions of `one_plan_is_kept`: that of `some_manager_decides`.
+pub fn some_manager_writes_one_plan()
+    ensures { SomeManagerWritesOnePlan }
 {}
