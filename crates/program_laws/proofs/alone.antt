@@ -6,6 +6,7 @@ pub mod Hearing
 pub mod InfoOnly
 pub mod Leading
 pub mod LoneAtSeat
+pub mod LoneExample
 pub mod LoneHealing
 pub mod Moves
 pub mod Needs

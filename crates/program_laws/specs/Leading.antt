@@ -27,3 +27,13 @@ LoneManagersLeadInTime =
     (n : ℕ) (a : Acting) (lines : List Line) (r : IsLone n a lines) (late : ℕ) → late ≤ pause → ArePrompt late lines a
     → a.time + 17 * longest_wait r.decided.timing + (20 * (n + 4)) * longest_turn late a.window.limits < (after_lines lines a).time
     → Leads lines a
+
+-- an example: a manager that is alone for so long, with no line late
+pub record SomeLoneManagerLeads : Type 0 where
+  pub bound : ℕ
+  pub acting : Acting
+  pub lines : List Line
+  pub lone : IsLone bound acting lines
+  pub prompt : ArePrompt 0 lines acting
+  pub long : acting.time + 17 * longest_wait lone.decided.timing + (20 * (bound + 4)) * longest_turn 0 acting.window.limits
+      < (after_lines lines acting).time

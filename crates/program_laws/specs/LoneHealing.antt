@@ -50,6 +50,19 @@ LoneManagersHeal =
     → a.time + 19 * longest_wait r.decided.timing + (26 * (n + 4)) * longest_turn late a.window.limits < (after_lines lines a).time
     → Heals lines a
 
+-- an example: a manager that is alone for so long, with no line late
+pub record SomeLoneManagerHeals : Type 0 where
+  pub bound : ℕ
+  pub acting : Acting
+  pub lines : List Line
+  pub lone : IsLone bound acting lines
+  pub whole : SweepsAreWhole lines acting
+  pub free : StaysFree lines acting
+  pub written : AllEndWritten lines acting
+  pub prompt : ArePrompt 0 lines acting
+  pub long : acting.time + 19 * longest_wait lone.decided.timing + (26 * (bound + 4)) * longest_turn 0 acting.window.limits
+      < (after_lines lines acting).time
+
 -- at its seat ---------------------------------------------------------------------------------------------
 
 -- while the manager writes, it gives up no request by any of the lines

@@ -37,10 +37,10 @@ use Rattle.program_laws.proofs.lasting.GoodLines.{goes_on, awake_good, begins_go
 -- as it is when its sweep has begun (`s`), when its node has answered (`n`), when its port has answered too, before it decides
 -- (`x`), and once it has decided (`r`)
 
-abbrev s1 : Acting
+abbrev pub s1 : Acting
 s1 = swept_on 0 1 first
 
-to_begin1 : IsToBegin 0 1 first
+pub to_begin1 : IsToBegin 0 1 first
 to_begin1 =
     record {
       before = refl;
@@ -58,16 +58,16 @@ good1 : GoodLine (0, Told.Time) first
 unfolding with_bytes
 good1 = begins_good 0 1 first to_begin1 (record { tries = refl; left = omega arith; asked = omega arith }) (omega arith) refl refl refl
 
-abbrev node1 : Line
+abbrev pub node1 : Line
 node1 = answer 0 0 s1
 
-abbrev n1 : Acting
+abbrev pub n1 : Acting
 n1 = after_line node1 s1
 
-abbrev port1 : Line
+abbrev pub port1 : Line
 port1 = answer 0 0 n1
 
-abbrev x1 : Acting
+abbrev pub x1 : Acting
 x1 = before_deciding port1 n1
 
 node_good1 : GoodLine node1 s1
@@ -80,7 +80,7 @@ judges1 : Judges x1
 unfolding after_answer get_of set_of changed_port with_bytes
 judges1 = record { idle = refl; stays = refl; is_sweep = refl; judges = refl }
 
-has_swept1 : HasSwept 1 0 x1.manager
+pub has_swept1 : HasSwept 1 0 x1.manager
 unfolding after_answer get_of set_of changed_port with_bytes
 has_swept1 = record { swept = refl; planning_is = refl; store_is = refl; no_fault = refl; has_plan = refl; some = omega arith }
 
@@ -111,12 +111,12 @@ over_is1 : x1 ≡ over1
 unfolding after_answer get_of set_of changed_port with_bytes
 over_is1 = refl
 
-abbrev phases : List Phase
+abbrev pub phases : List Phase
 phases =
     record { counts = true; steps = step ∷ [] } ∷ record { counts = true; steps = [] } ∷ record { counts = true; steps = [] }
     ∷ record { counts = false; steps = [] } ∷ record { counts = false; steps = [] } ∷ []
 
-phases_are : phases_with alone x1.manager (Some (sweep_in x1.manager.sweep)) (cells_at 1 (tells 1 0)) ≡ phases
+pub phases_are : phases_with alone x1.manager (Some (sweep_in x1.manager.sweep)) (cells_at 1 (tells 1 0)) ≡ phases
 unfolding after_answer get_of set_of changed_port with_bytes
 phases_are = refl
 
@@ -139,7 +139,7 @@ module _ (f : Facts) (s : Sweep) where
       → judging_of (Some the_plan) over_first ≡ writing_so the_plan to_write phases
   writes_so may are = judged_new the_plan over_first refl ∙ written_so the_plan to_write phases may are
 
-abbrev r1 : Acting
+abbrev pub r1 : Acting
 r1 = at_write x1.manager.store (Some (sweep_of 1 (sweep_in x1.manager.sweep)))
 
 told1 : after_told port1.0 port1.1 n1 ≡ shown (writing_so the_plan (to_write x1.manager.store (sweep_in x1.manager.sweep)) phases)
@@ -150,7 +150,7 @@ told1 =
     (subst (λ (x : Acting). writing_fault x.manager ≡ None) over_is1 (may_write 1 0 x1.manager has_swept1))
     (subst (λ (x : Acting). phases_by x.manager x.manager.sweep ≡ phases) over_is1 (phases_so 1 0 x1.manager has_swept1 ∙ phases_are)))
 
-leads1 : after_line port1 n1 ≡ r1
+pub leads1 : after_line port1 n1 ≡ r1
 leads1 = ap given_away told1 ∙ writing_is x1.manager.store (sweep_in x1.manager.sweep)
 
 none_lost1 : list_any tells_loss (after_told port1.0 port1.1 n1).notes ≡ false
@@ -163,18 +163,18 @@ port_good1 =
     awake_good port1 n1 r1 leads1 (record { tries = refl; left = omega arith; asked = omega arith }) (omega arith) refl tt refl refl none_lost1
     (λ e k. swept1) (λ e k. absurd (both_ways _ refl k))
 
-gone1 : raised x1.manager.store 2 ≡ view_at 2 []
+pub gone1 : raised x1.manager.store 2 ≡ view_at 2 []
 gone1 =
     ap (λ (f : Facts). raised f 2) (facts_are 1 0 x1.manager has_swept1)
     ∙ forgets 1 2 (tells 1 0) (omega arith) refl
 
 -- its writing --------------------------------------------------------------------------------------------------------
 
-abbrev set1 : Line
+abbrev pub set1 : Line
 set1 = (0, Told.Packet (after_answer (adapter 0) (set_packet 1 step) 1).packet None)
 
 module _ (f : Facts) (swept : Option Sweep) where
-  set_leads : after_line set1 (at_write f swept) ≡ at_rest 1 0 1 true f swept
+  pub set_leads : after_line set1 (at_write f swept) ≡ at_rest 1 0 1 true f swept
   unfolding after_answer get_of set_of changed_port with_bytes
   set_leads = refl
 

@@ -4,8 +4,8 @@ ghost use Rattle.program_laws.specs.FreshWork.{WorksAgainInTime};
 ghost use Rattle.program_laws.specs.Healing.{HealsInTime, SomeManagerHeals};
 ghost use Rattle.program_laws.specs.HealingAtSeat.{HealsAtSeat};
 ghost use Rattle.program_laws.specs.InTurn.{WorksInTurn};
-ghost use Rattle.program_laws.specs.Leading.{LoneManagersLeadInTime};
-ghost use Rattle.program_laws.specs.LoneHealing.{LoneManagersHeal, LoneManagersHealAtSeat};
+ghost use Rattle.program_laws.specs.Leading.{LoneManagersLeadInTime, SomeLoneManagerLeads};
+ghost use Rattle.program_laws.specs.LoneHealing.{LoneManagersHeal, LoneManagersHealAtSeat, SomeLoneManagerHeals};
 ghost use Rattle.program_laws.specs.NextSweep.{SweepsAgainInTime};
 ghost use Rattle.program_laws.specs.OnePlan.{OnePlanServes};
 ghost use Rattle.program_laws.specs.OtherMasters.{MastersGiveWay};
@@ -130,4 +130,16 @@ pub fn one_plan_serves()
 /// plan, and for each request of a sweep. No control comes meanwhile, and numbers are left for its Sets.
 pub fn turns_are_few()
     ensures { TurnsAreFew }
+{}
+
+/// There is a manager that is alone for as long as `lone_managers_lead_in_time` asks: a new one on an adapter with one port and
+/// no cable, which is told the time and its adapter's answers.
+pub fn some_lone_manager_leads()
+    ensures { SomeLoneManagerLeads }
+{}
+
+/// There is a manager that is alone for as long as `lone_managers_heal` asks, whose sweeps are whole, and which has room for
+/// what it writes: a new one on an adapter with one port and no cable, which is told the time and its adapter's answers.
+pub fn some_lone_manager_heals()
+    ensures { SomeLoneManagerHeals }
 {}
