@@ -1,4 +1,4 @@
-/* What a writing changes, for the log: cables that are gone or new, and entries; and where a path leads. Nodes are called
+/* What a writing changes, for the log: cables that are gone or new, and entries. And where a path leads. Nodes are called
    by a node name map. */
 #include <errno.h>
 #include <stdarg.h>
