@@ -139,8 +139,8 @@ int wins(const struct other *other);
 const struct other *greatest_heard(const char *state, const char *or_state);
 
 /* changes.c: what a writing changes, and where a path leads. */
-/* Reads the first line of a text as sscanf does, which would look for the end of the text: that takes long where it is
-   that of a large subnet. */
+/* Reads the first line of a text as sscanf does. That looks for the end of the text at each call, which takes seconds in
+   all for the lines of a large subnet. */
 int scan_line(const char *text, const char *format, ...) __attribute__((format(scanf, 2, 3)));
 /* Reads a node name map, and ends if it is none. */
 void read_name_map(const char *path);
@@ -150,8 +150,8 @@ void print_node(char *text, size_t room, uint64_t guid);
 const char *called_as(const struct other *other);
 /* Keeps the links of a text of facts, and which node has the seat's port, for places. */
 void read_places(const char *facts);
-/* Writes the place where a path ends, behind ": ": the last node on it that is known, and the port by which it goes on
-   from there. Writes nothing if there is no path, or no node on it is known. */
+/* Writes the place to which a path leads, behind ": ": the last node on the way that is known, and the port by which the
+   path goes on. Writes nothing if there is no path, or not even the first node is known. */
 void print_place(char *text, size_t room, const struct path *path);
 /* Keeps the cables of a text of facts. */
 void note_cables(const char *facts);
