@@ -446,11 +446,18 @@ static void set_number(const char *name, int value)
 
 static void show_silent(void)
 {
+	const struct path *path;
 	size_t i;
 
 	act("%zu without an answer", silent_requests());
-	for (i = 0; i < silent_requests(); i++)
-		act("%s", silent_request(i));
+	for (i = 0; i < silent_requests(); i++) {
+		path = silent_path(i);
+		if (path)
+			act("%s, %u hops, the last by port %u", silent_request(i), path->hops,
+			    path->hops ? path->port[path->hops] : 0);
+		else
+			act("%s, no path", silent_request(i));
+	}
 }
 
 static void show_counts(void)

@@ -8,7 +8,7 @@
 #include <string.h>
 #include "../../tools/seat/seat.h"
 
-enum { LONGEST = 4096, MOST_ANSWERS = 16, CLOCK = 1700000000, BEGIN = 1000 };
+enum { LONGEST = 4096, MOST_ANSWERS = 16, CLOCK = 1700000000, BEGIN = 1000, NO_PATH = 255 };
 #define WAIT 0.03125	/* seconds that it waits for packets */
 
 /* What the process answers to a line that begins with a word. */
@@ -24,6 +24,7 @@ struct carried carried;
 static struct answer answers[MOST_ANSWERS];
 static double clock_now = BEGIN;
 static int gone, silent, is_hushed;
+static struct path paths[MOST_SILENT];	/* of what has no answer; `hops` is NO_PATH for none */
 static unsigned long long wake = NEVER;
 static char told_by_leave[LONGEST];	/* the notes of the answer to `leave` */
 
@@ -118,10 +119,13 @@ void tell_time_if_due(void)
 {
 }
 
+/* Reads the path of a packet in place of its digits: ports behind 0, or 00 for none. */
 void read_packet(const char *hex, uint8_t *bytes)
 {
-	(void) hex;
 	memset(bytes, 0, PACKET);
+	bytes[7] = strcmp(hex, "00") ? 0 : NO_PATH;
+	for (; (hex = strchr(hex, ',')); hex++)
+		bytes[128 + ++bytes[7]] = atoi(hex + 1);
 }
 
 int manager_is_gone(void)
@@ -163,8 +167,10 @@ void begin_silent(void)
 
 void note_silent(const uint8_t *packet)
 {
-	(void) packet;
-	silent++;
+	struct path *path = &paths[silent++];
+
+	path->hops = packet[7];
+	memcpy(path->port, packet + 128, sizeof path->port);
 }
 
 size_t silent_requests(void)
@@ -175,6 +181,11 @@ size_t silent_requests(void)
 const char *silent_request(size_t place)
 {
 	return place ? "another request" : "a request";
+}
+
+const struct path *silent_path(size_t place)
+{
+	return paths[place].hops == NO_PATH ? NULL : &paths[place];
 }
 
 void write_status(const struct standing *status)
@@ -200,6 +211,20 @@ static void set_answer(const char *word, char *text)
 	for (text = answers[i].text; *text; text++)
 		if (*text == '|')
 			*text = '\n';
+}
+
+/* Has it read a node name map, whose lines are separated by `|`. */
+static void give_names(const char *text)
+{
+	FILE *file = tmpfile();
+	char path[32];
+
+	for (; *text; text++)
+		putc(*text == '|' ? '\n' : *text, file);
+	fflush(file);
+	snprintf(path, sizeof path, "/dev/fd/%d", fileno(file));
+	read_name_map(path);
+	fclose(file);
 }
 
 /* Ends each of the notes by a line feed; they are separated by `|`. */
@@ -269,6 +294,8 @@ static void take(char *line)
 
 	if (sscanf(line, "answer %31s %n", word, &at) == 1 && at)
 		set_answer(word, line + at);
+	else if (!strncmp(line, "names ", 6))
+		give_names(line + 6);
 	else if (sscanf(line, "set %31s %lf", name, &value) == 2)
 		set_number(name, value);
 	else if (sscanf(line, "wait %lf", &value) == 1)

@@ -21,11 +21,18 @@ struct out {
 	uint32_t number;
 };
 
+/* A request without an answer. */
+struct silent {
+	struct path path;
+	int has_path;	/* 0 if it goes by a LID */
+	char text[SILENT_TEXT];
+};
+
 static int umad = -1, directed, routed, issm = -1;
 static struct out outs[MOST_KEPT];	/* the oldest first */
 static int out_count;
 static uint32_t next_number;
-static char silent[MOST_SILENT][SILENT_TEXT];
+static struct silent silent[MOST_SILENT];
 static size_t silent_count;
 
 /* Becomes the port's only subnet manager: the open file says so to the kernel. */
@@ -210,12 +217,18 @@ size_t silent_requests(void)
 
 const char *silent_request(size_t place)
 {
-	return silent[place];
+	return silent[place].text;
+}
+
+const struct path *silent_path(size_t place)
+{
+	return silent[place].has_path ? &silent[place].path : NULL;
 }
 
 void note_silent(const uint8_t *packet)
 {
-	char *text = silent[silent_count];
+	struct silent *it = &silent[silent_count];
+	char *text = it->text;
 	int i, length = 0, place = place_of_tid(packet + 8);
 
 	if (place >= 0)
@@ -224,6 +237,9 @@ void note_silent(const uint8_t *packet)
 	if (silent_count == MOST_SILENT)
 		return;
 	silent_count++;
+	it->has_path = is_directed(packet);
+	it->path.hops = packet[7];
+	memcpy(it->path.port, packet + 128, sizeof it->path.port);
 	length = snprintf(text, SILENT_TEXT, is_directed(packet) ? "path 0" : "by LID");
 	for (i = 1; is_directed(packet) && i <= packet[7] && length < SILENT_TEXT - 48; i++)
 		length += snprintf(text + length, SILENT_TEXT - length, ",%u", packet[128 + i]);

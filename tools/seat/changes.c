@@ -1,5 +1,7 @@
-/* What a writing changes, for the log: cables that are gone or new, and entries. Nodes are called by a node name map. */
+/* What a writing changes, for the log: cables that are gone or new, and entries. And where a path leads. Nodes are called
+   by a node name map. */
 #include <errno.h>
+#include <stdarg.h>
 #include <stdlib.h>
 #include <string.h>
 #include "seat.h"
@@ -23,7 +25,8 @@ struct links {
 
 static struct named *names;
 static size_t name_count;
-static struct links before, after;
+static struct links before, after, known;
+static uint64_t own_node;	/* the GUID of the node of the seat's port, or 0 if that is not known */
 
 static int by_guid(const void *one, const void *other)
 {
@@ -95,20 +98,34 @@ static const char *next_line(const char *line)
 	return line ? line + 1 : "";
 }
 
-static int end_order(const struct link *a, const struct link *b)
+int scan_line(const char *text, const char *format, ...)
 {
+	char line[LONGEST_LINE];
+	va_list values;
+	int count;
+
+	snprintf(line, sizeof line, "%.*s", (int) strcspn(text, "\n"), text);
+	va_start(values, format);
+	count = vsscanf(line, format, values);
+	va_end(values);
+	return count;
+}
+
+static int by_end(const void *one, const void *other)
+{
+	const struct link *a = one, *b = other;
+
 	return a->guid != b->guid ? (a->guid < b->guid ? -1 : 1) : (int) a->port - (int) b->port;
 }
 
-/* Reads the links in a text of facts, each cable once, by its lesser end. Facts are sorted by their ends. */
+/* Reads the links in a text of facts. They are sorted by their ends. */
 static void read_links(const char *facts, struct links *links)
 {
 	struct link it;
 
 	for (links->count = 0; *facts; facts = next_line(facts)) {
 		if (strncmp(facts, "link ", 5) ||
-		    sscanf(facts, "link %" SCNx64 "/%u %" SCNx64 "/%u", &it.guid, &it.port, &it.far, &it.far_port) != 4 ||
-		    it.guid > it.far || (it.guid == it.far && it.port > it.far_port))
+		    scan_line(facts, "link %" SCNx64 "/%u %" SCNx64 "/%u", &it.guid, &it.port, &it.far, &it.far_port) != 4)
 			continue;
 		if (links->count == links->room) {
 			links->room = 2 * links->room + 64;
@@ -118,20 +135,27 @@ static void read_links(const char *facts, struct links *links)
 	}
 }
 
+/* Returns 1 for a link from the lesser end of its cable, by which that is counted, and else 0. */
+static unsigned cables_of(const struct link *link)
+{
+	return link->guid < link->far || (link->guid == link->far && link->port <= link->far_port);
+}
+
 /* Counts the cables that only one of two lists has. */
 static void count_cables(unsigned *gone, unsigned *come)
 {
 	const struct link *a = before.all, *b = after.all;
 	size_t i = 0, j = 0;
-	int order;
+	int order, is_kept;
 
 	*gone = *come = 0;
 	while (i < before.count || j < after.count) {
-		order = i == before.count ? 1 : j == after.count ? -1 : end_order(a + i, b + j);
-		if (!order && (a[i].far != b[j].far || a[i].far_port != b[j].far_port))
-			++*gone, ++*come;
-		*gone += order < 0;
-		*come += order > 0;
+		order = i == before.count ? 1 : j == after.count ? -1 : by_end(a + i, b + j);
+		is_kept = !order && a[i].far == b[j].far && a[i].far_port == b[j].far_port;
+		if (order <= 0)
+			*gone += is_kept ? 0 : cables_of(a + i);
+		if (order >= 0)
+			*come += is_kept ? 0 : cables_of(b + j);
 		i += order <= 0;
 		j += order >= 0;
 	}
@@ -140,7 +164,7 @@ static void count_cables(unsigned *gone, unsigned *come)
 /* Returns the line of the first switch in the text of a plan from a line on, or its end, and its GUID. */
 static const char *switch_from(const char *line, uint64_t *guid)
 {
-	while (*line && sscanf(line, "switch %" SCNx64, guid) != 1)
+	while (*line && (strncmp(line, "switch ", 7) || scan_line(line, "switch %" SCNx64, guid) != 1))
 		line = next_line(line);
 	return line;
 }
@@ -192,6 +216,47 @@ static void count_all(const char *old, const char *new, unsigned long *entries, 
 		if (is_new)
 			new = switch_from(next_line(new), &b);
 	}
+}
+
+void read_places(const char *facts)
+{
+	unsigned port, generation, nodes = 0;
+	uint64_t node, guid;
+
+	read_links(facts, &known);
+	for (own_node = 0; *facts; facts = next_line(facts)) {
+		if (strncmp(facts, "portguid ", 9) ||
+		    scan_line(facts, "portguid %" SCNx64 "/%u %" SCNx64 " @%u", &node, &port, &guid, &generation) != 4 ||
+		    guid != own_port.guid || port != (unsigned) own_port.number)
+			continue;
+		own_node = nodes++ ? 0 : node;	/* one GUID of two nodes tells nothing */
+	}
+}
+
+/* Returns the link of a port, or NULL if it is not known. */
+static const struct link *link_of(uint64_t node, unsigned port)
+{
+	struct link key = { .guid = node, .port = port };
+
+	return known.count ? bsearch(&key, known.all, known.count, sizeof key, by_end) : NULL;
+}
+
+void print_place(char *text, size_t room, const struct path *path)
+{
+	const struct link *link;
+	char name[LONGEST_NAME];
+	uint64_t node = own_node;
+	int i;
+
+	*text = 0;
+	if (path && !path->hops)
+		snprintf(text, room, ": at the seat's own port");
+	if (!path || !path->hops || !node)
+		return;
+	for (i = 1; i < path->hops && (link = link_of(node, path->port[i])); i++)
+		node = link->far;
+	print_node(name, sizeof name, node);
+	snprintf(text, room, ": behind port %u of %s", path->port[i], name);
 }
 
 void note_cables(const char *facts)

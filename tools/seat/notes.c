@@ -54,7 +54,9 @@ static uint64_t owner_of(unsigned lid)
 
 	for (; *line; line = strchr(line, '\n') + 1) {
 		lmc = 0;
-		count = sscanf(line, "lid %u %" SCNx64 "/%u lmc %u", &first, &guid, &port, &lmc);
+		if (strncmp(line, "lid ", 4))
+			continue;
+		count = scan_line(line, "lid %u %" SCNx64 "/%u lmc %u", &first, &guid, &port, &lmc);
 		if (count >= 3 && lid >= first && lid < first + (1u << lmc))
 			return guid;
 	}
@@ -172,14 +174,20 @@ static void read_progress(void)
 	read_others(shown("managers"));
 }
 
+/* Says which requests have no answer, and where their paths lead by what the sweep saw all the same. */
 static void say_silent(void)
 {
+	char place[200];
 	size_t i;
 
 	note(WARNING, "NOT WHOLE: %lu requests without an answer (%lu of other managers), %lu ports over %d hops away",
 	     status.unanswered, status.silent, status.too_far, MOST_HOPS);
-	for (i = 0; i < silent_requests() && (i < 5 || options.verbose); i++)
-		note(WARNING, "no answer: %s", silent_request(i));
+	if (silent_requests())
+		read_places(shown("facts"));
+	for (i = 0; i < silent_requests() && (i < 5 || options.verbose); i++) {
+		print_place(place, sizeof place, silent_path(i));
+		note(WARNING, "no answer: %s%s", silent_request(i), place);
+	}
 }
 
 /* Says which master the sweep saw, if there is one besides this manager. */

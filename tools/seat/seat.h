@@ -91,6 +91,8 @@ enum { MOST_SILENT = 20, SILENT_TEXT = 120 };
 void begin_silent(void);
 size_t silent_requests(void);
 const char *silent_request(size_t place);
+/* Returns the path of such a request, or NULL if it goes by a LID. */
+const struct path *silent_path(size_t place);
 /* Notes a request without an answer, with its path in the form that smpquery -D takes. */
 void note_silent(const uint8_t *packet);
 
@@ -136,13 +138,21 @@ int wins(const struct other *other);
 /* Returns the greatest manager that the process hears and that is in one of two states, or NULL. */
 const struct other *greatest_heard(const char *state, const char *or_state);
 
-/* changes.c: what a writing changes. */
+/* changes.c: what a writing changes, and where a path leads. */
+/* Reads the first line of a text as sscanf does. That looks for the end of the text at each call, which takes seconds in
+   all for the lines of a large subnet. */
+int scan_line(const char *text, const char *format, ...) __attribute__((format(scanf, 2, 3)));
 /* Reads a node name map, and ends if it is none. */
 void read_name_map(const char *path);
 /* Writes a node's name, or its GUID if the map does not have it. */
 void print_node(char *text, size_t room, uint64_t guid);
 /* Returns a manager's GUID, behind the name of its node if the map has that. The next call's text takes its place. */
 const char *called_as(const struct other *other);
+/* Keeps the links of a text of facts, and which node has the seat's port, for places. */
+void read_places(const char *facts);
+/* Writes the place to which a path leads, behind ": ": the last node on the way that is known, and the port by which the
+   path goes on. Writes nothing if there is no path, or not even the first node is known. */
+void print_place(char *text, size_t room, const struct path *path);
 /* Keeps the cables of a text of facts. */
 void note_cables(const char *facts);
 /* Notes why a plan is written, how many cables are otherwise than those that are kept, and how many entries differ. */
