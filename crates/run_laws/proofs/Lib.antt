@@ -1,5 +1,6 @@
 pub mod Alike
 pub mod Bringing
+pub mod Deciders
 pub mod Example
 pub mod Known
 pub mod Lived

@@ -1,4 +1,5 @@
 pub mod Accounts
+pub mod Deciders
 pub mod Lines
 pub mod OneManager
 pub mod Reached

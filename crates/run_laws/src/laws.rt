@@ -1,5 +1,6 @@
 //! The laws of what a run prints.
 ghost use Rattle.run_laws.specs.Accounts.{RunsAreAccountedFor};
+ghost use Rattle.run_laws.specs.Deciders.{DecidersAreTold};
 ghost use Rattle.run_laws.specs.OneManager.{RunsOfOneAreReached, SomeRunOfOne};
 ghost use Rattle.run_laws.specs.Lines.{LaterLinesComeBehind, MergedManagersPlanAlike, SameTakenInPlansAlike};
 ghost use Rattle.run_laws.specs.Lines.{SameTakenInSameLines, SweepLinesTell, WrittenLinesTell};
@@ -30,6 +31,12 @@ pub fn later_lines_come_behind()
 #[tactic(auto, using(crate::proofs::Known::runs_are_accounted_for))]
 pub fn runs_are_accounted_for()
     ensures { RunsAreAccountedFor }
+{}
+
+/// In the world that a run leaves, each manager that decides by itself is what being told things, each at its time, one
+/// after the other, leaves of a new one: the time, packets. Each time, it has given out its notes and its packets.
+pub fn deciders_are_told()
+    ensures { DecidersAreTold }
 {}
 
 /// Two managers that are asked, of one run or of two, print the same facts and the same plan, whatever else they did

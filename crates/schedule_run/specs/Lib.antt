@@ -7,3 +7,4 @@ pub mod RunText
 pub mod Waiting
 pub mod World
 pub use Rattle.serve_run.specs.Working
+pub use Rattle.serve_run.specs.Acting
