@@ -1,7 +1,7 @@
 -- What a step of whole tables gives: only one result and, if it goes by an order, no credit loop.
 use Rattle.std.specs.Prelude.{◌≡◌, ℕ, true, List, [], Option, Some}
 use Rattle.fact_store.specs.View.{Facts, cells_of, AreInRange}
-use Rattle.lid_assign.specs.Lids.{IsNoRoom, lids}
+use Rattle.lid_assign.specs.Lids.{IsNoRoom}
 use Rattle.lft_blocks.specs.Rule.{RuleValue}
 use Rattle.subnet_view.specs.Reading.{Cells}
 use Rattle.held_tables.specs.Held.{HeldPlan}

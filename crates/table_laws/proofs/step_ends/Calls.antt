@@ -1,7 +1,7 @@
 -- Calls of `next`, one after the other, come to follow the plan's order, and then end.
 use Rattle.std.proofs.Common.{◌≡◌, ◌∙◌, ◌<◌, ◌≤◌, ◌⊎◌, ◌+◌, ◌-◌, ◌*◌, ℕ, zero, suc, Bool, true, false, cond, List, [], Option, None, Some, length, refl, sym, ap, subst, arith, inl, inr}
 use Rattle.std.specs.Prelude.{nat_lt}
-use Rattle.std.proofs.lemmas.Bool.{cases_eq, cases_lt, le-ltb, lt-ltb}
+use Rattle.std.proofs.lemmas.Bool.{cases_eq, le-ltb, lt-ltb}
 use Rattle.fact_store.specs.View.{Facts, cells_of, AreInRange}
 use Rattle.subnet_view.specs.Reading.{Cells, switches}
 use Rattle.lid_assign.specs.Lids.{IsNoRoom}
@@ -15,11 +15,11 @@ use Rattle.next_tables.proofs.by_order.ToldRight.{rightness_is_told}
 use Rattle.table_laws.specs.PlanLaws.{plan_position}
 use Rattle.two_orders.specs.Growth.{grown_by, positions_in}
 use Rattle.next_run.specs.Agreement.{AgreeTo, AreGrown, TellsPositions, order_of_plan}
-use Rattle.next_run.specs.Between.{Goal, IsGoal, goal_between}
+use Rattle.next_run.specs.Between.{Goal, IsGoal}
 use Rattle.next_run.specs.GoalLaws.{next_towards as next_to}
 use Rattle.next_run.specs.HandedStages.{AreHandedSteps, HaveOwnLids, IsStage, IsWholePlan, handed}
 use Rattle.next_run.specs.Orders.{edges_in, told_positions}
-use Rattle.next_run.specs.LastOrder.{named_positions, near_positions}
+use Rattle.next_run.specs.LastOrder.{near_positions}
 use Rattle.next_run.specs.NextRun.{IsGoalFrom, IsGoalNear, IsGoalOf, IsTaken, next_towards, stepped}
 use Rattle.next_run.specs.StepLoops.{IsLoopInStep}
 use Rattle.next_run.specs.StepOrderText.{order_of_step}
@@ -32,7 +32,7 @@ use Rattle.two_orders.proofs.Agreement.{grown_are_vertices}
 use Rattle.subnet_view.specs.Graph.{graph_of}
 use Rattle.subnet_view.proofs.Graphs.{graph_law}
 use Rattle.spread_routes.proofs.Indices.{leads_below}
-use Rattle.table_laws.specs.Calls.{AreCalls, CallsComeToFollow, CallsMakeNoLoop, FollowPlan, FollowingCallsEnd, Follows, ImplyGrown, most_calls, order_given}
+use Rattle.table_laws.specs.Calls.{AreCalls, CallsComeToFollow, CallsMakeNoLoop, FollowPlan, FollowingCallsEnd, Follows, most_calls, order_given}
 use Rattle.table_laws.specs.StepEnds.{AreEnough}
 use Rattle.table_laws.proofs.step_ends.HandedOrder.{named_again}
 use Rattle.table_laws.proofs.step_ends.NoLoop.{right_tables_make_no_loop, told_steps_make_no_loop}
