@@ -220,6 +220,12 @@ const char *shown(const char *word)
 	return line;
 }
 
+/* A light sweep, which has no answer here. */
+int take_light(uint8_t *packet)
+{
+	return !packet;
+}
+
 /* The port. */
 int open_own_port(struct own_port *port)
 {

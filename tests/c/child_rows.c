@@ -247,6 +247,11 @@ void notify_alive(void)
 {
 }
 
+void keep_light(const char *hex)
+{
+	printf("asks %.4s\n", hex);
+}
+
 void send_packet(const struct packet *packet)
 {
 	act("sends %02x%02x..%02x to %u", packet->bytes[0], packet->bytes[1], packet->bytes[PACKET - 1], packet->lid);

@@ -138,7 +138,7 @@ def check_paces(program: Program) -> None:
         wanted = [waking(f"note sweep\nsend {first_request(newest + 1)}\n", 1500)]
         wanted.append(waking(f"floor {newest + 1}\n" if newest else "", 1500))
         check(answers == wanted, f"--newest {newest}: {answers}")
-    for every in 1000, 1001, 4096, 10000, 59999, 60000:
+    for every in 1000, 1001, 4096, 10000, 3599999, 3600000:
         _, last, wake, _ = settled(program, one, "--every", str(every))
         check(wake == last + every, f"--every {every}: from {last} to {wake}")
     for count in 1, 2, 5, 64:

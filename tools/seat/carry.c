@@ -160,6 +160,20 @@ static void forget(int place)
 	memmove(outs + place, outs + place + 1, (out_count - place) * sizeof *outs);
 }
 
+uint32_t number_request(struct packet *packet)
+{
+	put(packet->bytes + 8, 8, next_number);	/* the kernel keeps the low half */
+	put_key(packet);
+	return next_number++;
+}
+
+void send_numbered(const struct packet *packet)
+{
+	int is_info = get(packet->bytes + 16, 2) == SM_INFO;
+
+	send_out(packet, options.timeout_ms * (is_info ? SM_INFO_TIMES : 1));
+}
+
 /* Keeps a request that goes out for the first time, under a number of its own, and returns it. */
 static struct out *keep_out(const struct packet *packet)
 {
@@ -169,10 +183,8 @@ static struct out *keep_out(const struct packet *packet)
 		forget(0);	/* the process waits for it no longer */
 	out = &outs[out_count++];
 	out->packet = *packet;
-	out->number = next_number++;
 	memcpy(out->tid, packet->bytes + 8, sizeof out->tid);
-	put(out->packet.bytes + 8, 8, out->number);	/* the kernel keeps the low half */
-	put_key(&out->packet);
+	out->number = number_request(&out->packet);
 	carried.sets += packet->bytes[3] == SET;
 	return out;
 }
@@ -182,10 +194,9 @@ static void send_request(const struct packet *packet)
 {
 	int place = place_of_tid(packet->bytes + 8);
 	struct out *out = place < 0 ? keep_out(packet) : &outs[place];
-	int is_info = get(packet->bytes + 16, 2) == SM_INFO;
 
 	carried.again += place >= 0;
-	send_out(&out->packet, options.timeout_ms * (is_info ? SM_INFO_TIMES : 1));
+	send_numbered(&out->packet);
 }
 
 void send_packet(const struct packet *packet)
@@ -305,7 +316,7 @@ static void note_port(const uint8_t *request, const uint8_t *packet)
 		note_lids(path, request[7], get(info + 16, 2), info[34] & 7);
 }
 
-static int answers(const uint8_t *packet, const uint8_t *request)
+int is_answer_to(const uint8_t *packet, const uint8_t *request)
 {
 	return packet[1] == request[1] && get(packet + 16, 2) == get(request + 16, 2) &&
 	       get(packet + 20, 4) == get(request + 20, 4);
@@ -323,6 +334,15 @@ static void check_own_port(const uint8_t *packet)
 		    (unsigned long long) own_port.guid, (unsigned long long) get(info + 20, 8), info[36]);
 }
 
+/* Linux leaves 1 here if a path has no hops; the standard has 0. */
+static void mend_pointer(uint8_t *packet)
+{
+	if (is_directed(packet) && packet[7] == 0 && packet[6] == 1) {
+		packet[6] = 0;
+		carried.pointers++;
+	}
+}
+
 /* Passes an answer to the process. */
 static void on_answer(uint8_t *packet, unsigned lid)
 {
@@ -331,16 +351,13 @@ static void on_answer(uint8_t *packet, unsigned lid)
 
 	if (place >= 0)
 		out = outs[place];
-	if (place < 0 || !answers(packet, out.packet.bytes)) {
-		carried.late++;
+	if (place < 0 || !is_answer_to(packet, out.packet.bytes)) {
+		mend_pointer(packet);
+		carried.late += !take_light(packet);
 		return;
 	}
 	carried.answered++;
-	/* Linux leaves 1 here if a path has no hops; the standard has 0. */
-	if (is_directed(packet) && packet[7] == 0 && packet[6] == 1) {
-		packet[6] = 0;
-		carried.pointers++;
-	}
+	mend_pointer(packet);
 	memcpy(packet + 8, out.tid, sizeof out.tid);
 	check_own_port(packet);
 	keep_manager(packet);

@@ -92,7 +92,7 @@ void start_manager(uint32_t newest)
 	add_option(words, &count, "--routing", seat.routing);
 	add_option(words, &count, "--roots", seat.roots);
 	add_option(words, &count, "--order", seat.order);
-	add_number(words, &count, "--every", 1000UL * seat.sweep_seconds, numbers[0], sizeof numbers[0]);
+	add_number(words, &count, "--every", 1000UL * (seat.heavy_seconds ? seat.heavy_seconds : seat.sweep_seconds), numbers[0], sizeof numbers[0]);
 	add_number(words, &count, "--poll", seat.poll_ms, numbers[1], sizeof numbers[1]);
 	add_number(words, &count, "--timeout", options.timeout_ms, numbers[2], sizeof numbers[2]);
 	add_number(words, &count, "--tries", options.tries, numbers[3], sizeof numbers[3]);
@@ -319,6 +319,8 @@ static void take_line(const char *line)
 {
 	if (!strncmp(line, "send ", 5))
 		take_packet(line + 5);
+	else if (!strncmp(line, "light ", 6) && strlen(line + 6) == 2 * PACKET)
+		keep_light(line + 6);
 	else if (!strncmp(line, "note ", 5))
 		add_line(&notes, &notes_length, &notes_room, line + 5);
 	else if (!strncmp(line, "wake ", 5))

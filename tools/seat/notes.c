@@ -15,7 +15,7 @@ static struct standing status;
 static char state[16], *kept_plan;
 static char heard[240];	/* the first trap since the last writing, as it is told */
 static unsigned more_heard, left_not_active, left_of_others;
-static int failures, end_status = -1, has_handed_over;
+static int failures, end_status = -1, has_handed_over, is_sweeping;
 static uint32_t newest;
 static double began, given_up;	/* with --once, when it is given up to wait for the master; 0 for not yet */
 
@@ -37,6 +37,11 @@ static void end_once(const char *why)
 int is_master(void)
 {
 	return !strcmp(state, "master");
+}
+
+int rests(void)
+{
+	return is_master() && status.is_settled && !is_sweeping;
 }
 
 static int is_standby(void)
@@ -158,6 +163,7 @@ static void heard_failure(void)
 static void heard_sweep(void)
 {
 	newest++;
+	is_sweeping = 1;
 	began = now();
 	status.generation = newest;
 	status.sweep_began = time(NULL);
@@ -206,6 +212,7 @@ static void say_master(void)
 
 static void heard_swept(int is_whole)
 {
+	is_sweeping = 0;
 	read_progress();
 	status.is_whole = is_whole;
 	if (options.verbose)
@@ -434,7 +441,7 @@ uint32_t begin_notes(void)
 	*state = 0;
 	status.state = state;
 	forget_written();
-	has_handed_over = 0;
+	has_handed_over = is_sweeping = 0;
 	if (options.after && !newest)
 		newest = newest_in(options.after);
 	if (newest < clock)

@@ -39,6 +39,8 @@ static const char usage_text[] =
 "  -o, --order FILE       with spread or balance: the order by which it grows\n"
 "  -i, --ibsm PROGRAM     the program; else the one beside this one, that of this checkout, or ibsm on the path\n"
 "  -s, --sweep S          as master, a sweep each S seconds, 1 to 60 (10)\n"
+"      --heavy S          as master, a sweep each S seconds, 1 to 3600, and each --sweep seconds a light one, which asks\n"
+"                         switches alone\n"
 "  -m, --poll MS          as standby, the master is polled each MS milliseconds (1000)\n"
 "  -a, --after FILE       number sweeps above the newest of this recording or store, and by the clock\n"
 "  -d, --dry-run          sweep once, print the plan, and write nothing\n"
@@ -107,12 +109,13 @@ static void catch_signals(void)
 	signal(SIGXFSZ, SIG_IGN);
 }
 
-enum { PARTIAL = 256, SM_KEY, ONCE, CHILD_MEMORY, CHILD_TIME };
+enum { PARTIAL = 256, SM_KEY, ONCE, HEAVY, CHILD_MEMORY, CHILD_TIME };
 
 static const struct option words[] = {
 	{ "priority", 1, 0, 'p' }, { "sm-key", 1, 0, SM_KEY }, { "lmc", 1, 0, 'l' }, { "routing", 1, 0, 'R' },
 	{ "roots", 1, 0, 'f' },
-	{ "order", 1, 0, 'o' }, { "ibsm", 1, 0, 'i' }, { "sweep", 1, 0, 's' }, { "poll", 1, 0, 'm' },
+	{ "order", 1, 0, 'o' }, { "ibsm", 1, 0, 'i' }, { "sweep", 1, 0, 's' }, { "heavy", 1, 0, HEAVY },
+	{ "poll", 1, 0, 'm' },
 	{ "after", 1, 0, 'a' }, { "dry-run", 0, 0, 'd' }, { "status", 1, 0, 'S' }, { "names", 1, 0, 'N' },
 	{ "partial", 0, 0, PARTIAL }, { "once", 0, 0, ONCE },
 	{ "child-memory", 1, 0, CHILD_MEMORY }, { "child-time", 1, 0, CHILD_TIME }, { "ca", 1, 0, 'C' },
@@ -146,6 +149,7 @@ static void take_option(int letter)
 	case 'o': seat.order = optarg; break;
 	case 'i': seat.program = optarg; break;
 	case 's': seat.sweep_seconds = number_in(optarg, "--sweep", 1, 60); break;
+	case HEAVY: seat.heavy_seconds = number_in(optarg, "--heavy", 1, 3600); break;
 	case 'm': seat.poll_ms = number_in(optarg, "--poll", 1, 600000); break;
 	case 'a': options.after = optarg; break;
 	case 'd': seat.dry_run = 1; break;
@@ -236,6 +240,7 @@ int main(int count, char **texts)
 			tell("look");
 		}
 		tell_time_if_due();
+		sweep_lightly();
 		look_at_time();
 		if (manager_is_gone() && !is_ended()) {
 			stop_manager();

@@ -14,7 +14,7 @@ enum administration_method { GET_TABLE = 0x12, GET_TRACE_TABLE = 0x13, GET_MULTI
 
 struct seat_options {
 	char *program, *status_file, *names_file, *sm_key, *lmc, *routing, *roots, *order;
-	int priority, sweep_seconds, poll_ms, dry_run, partial, once;
+	int priority, sweep_seconds, heavy_seconds, poll_ms, dry_run, partial, once;	/* no heavy_seconds: 0 */
 	int child_mbytes, child_seconds;	/* what the process may take, 0 for as much as it likes */
 };
 
@@ -96,6 +96,21 @@ const struct path *silent_path(size_t place);
 /* Notes a request without an answer, with its path in the form that smpquery -D takes. */
 void note_silent(const uint8_t *packet);
 
+/* Gives a request a number of its own, and the key of the port to which it goes. Returns the number. */
+uint32_t number_request(struct packet *packet);
+/* Sends a request that has these. */
+void send_numbered(const struct packet *packet);
+/* Returns whether a packet has the class, attribute and modifier of a request. */
+int is_answer_to(const uint8_t *packet, const uint8_t *request);
+
+/* light.c: sweeps that ask switches alone. */
+/* Keeps a request that the process prints. */
+void keep_light(const char *hex);
+/* Begins a light sweep if one is due, or goes on with the one that runs. */
+void sweep_lightly(void);
+/* Takes an answer to a light sweep. Returns 0 if it is none. */
+int take_light(uint8_t *packet);
+
 /* administration.c: requests of hosts. */
 /* Takes requests for subnet administration at a port. Returns a number less than 0 if another process has them. */
 int open_administration(int umad);
@@ -112,6 +127,8 @@ void heard_notes(const char *notes);
 void end_dry_run_if(const char *notes);
 /* Returns whether the process is master, as far as it has told. */
 int is_master(void);
+/* Returns whether it is master, nothing is left to write, and it does not sweep, as far as it has told. */
+int rests(void);
 /* With --once, returns the exit status once the subnet is up or cannot be brought up, and before that -1. */
 int status_of_once(void);
 /* Notes a trap. */

@@ -1,6 +1,6 @@
 -- What a manager that decides by itself answers as subnet administration (SA). InfiniBand Architecture Specification,
 -- Volume 1: subnet administration.
-use Rattle.std.specs.Prelude.{ℕ, ◌&&◌, List, Option, Some, None, option_map, if◌then◌else◌}
+use Rattle.std.specs.Prelude.{ℕ, Bool, ◌&&◌, List, Option, Some, None, option_map, if◌then◌else◌}
 use Rattle.fact_store.specs.View.{cells_of}
 use Rattle.lft_blocks.specs.Plan.{PlanValue}
 use Rattle.sweep.specs.Sweep.{Sweep}
@@ -13,6 +13,10 @@ use Rattle.sa_answers.specs.Reply.{answer_to}
 use Rattle.sa_answers.specs.Told.{Told}
 use Rattle.acting_manager.specs.Acting.{Acting}
 
+-- whether the manager is master, the plan of its last writing is written, and no other manager may have written since
+abbrev pub stands : Acting → Bool
+stands a = is_in Master a.manager.standing && (a.policy.written.stands && is_written a.manager)
+
 -- what is told by the facts of a manager, its last sweep if that is done, and the plan of its last writing, if there is
 -- one
 abbrev pub told_by : Manager → Option Sweep → Option PlanValue → Option Told
@@ -22,9 +26,7 @@ told_by m s plan = None
 -- what is told: nothing if the manager is not master, if the plan of its last writing is not written, if another manager
 -- may have written since, or while a sweep runs, since then not every image is there
 abbrev pub told_of : Acting → Option Told
-told_of a =
-    if is_in Master a.manager.standing && (a.policy.written.stands && is_written a.manager)
-    then told_by a.manager (swept_of a.manager.sweep) a.kept else None
+told_of a = if stands a then told_by a.manager (swept_of a.manager.sweep) a.kept else None
 
 -- the answer to the packet `packet`; None if it is no request of subnet administration, or if nothing is told
 abbrev pub administered : Acting → List ℕ → Option (List ℕ)

@@ -191,7 +191,7 @@ impl ActingManager {
 }
 
 /// Returns whether the last sweep of `manager` has every answer except those of other managers.
-fn is_whole(manager: &Manager) -> bool
+pub(crate) fn is_whole(manager: &Manager) -> bool
     ensures { result ≡ is_whole manager.now }
 {
     is_whole_by(manager.progress(), manager.silent_managers())

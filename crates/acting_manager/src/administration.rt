@@ -3,7 +3,7 @@ ghost use Rattle.std.specs.Prelude.{◌≡◌, option_map};
 ghost use Rattle.sa_answers.specs.Reply.{answer_to};
 ghost use Rattle.sm_manager.specs.Manager.{swept_of};
 ghost use Rattle.acting_manager.specs.Acting.{value_of};
-ghost use Rattle.acting_manager.specs.Administration.{administered, told_by, told_of};
+ghost use Rattle.acting_manager.specs.Administration.{administered, stands, told_by, told_of};
 
 use crate::acting_manager::ActingManager;
 use sa_answers::{Told, answer_of};
@@ -27,12 +27,20 @@ impl ActingManager {
     fn answer_told(&self, request: &SaRequest) -> Option<[u8; 256]>
         ensures { result ≡ option_map (λ told. answer_to told request.now) (told_of (value_of self.now)) }
     {
-        let is_master = self.manager.state().number() == SmState::Master.number();
-        if is_master && self.policy.written.stands && self.manager.written() {
+        if self.stands() {
             self.answer_by(request)
         } else {
             None
         }
+    }
+
+    /// Returns whether the manager is master, the plan of its last writing is written, and no other manager may have
+    /// written since.
+    pub(crate) fn stands(&self) -> bool
+        ensures { result ≡ stands (value_of self.now) }
+    {
+        let is_master = self.manager.state().number() == SmState::Master.number();
+        is_master && self.policy.written.stands && self.manager.written()
     }
 
     /// Returns the answer to `request` by the facts, the last sweep and the plan of the last writing, or `None` if the

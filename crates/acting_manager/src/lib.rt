@@ -11,6 +11,7 @@ mod drops;
 mod heard;
 mod judging;
 pub mod laws;
+mod light;
 mod note;
 mod plans;
 mod reads;

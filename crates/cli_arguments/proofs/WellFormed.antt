@@ -129,14 +129,14 @@ module _ (routings : Bor (List (Bor Text))) (known : AreRoutings routings) (c : 
     sm_key = is_so (is_key (word (codes "sm-key"))) (neither _ _ right).1;
   }
 
-  names_pace : (e p w r o n : Rule) → arg_by_id c (codes "every") ≡ Some e → e.parser ≡ Some (Signed (pos 1000) (pos 60000))
+  names_pace : (e p w r o n : Rule) → arg_by_id c (codes "every") ≡ Some e → e.parser ≡ Some (Signed (pos 1000) (pos 3600000))
       → arg_by_id c (codes "poll") ≡ Some p → p.parser ≡ Some (Signed (pos 1) (pos 600000))
       → arg_by_id c (codes "timeout") ≡ Some w → w.parser ≡ Some (Signed (pos 1) (pos 600000))
       → arg_by_id c (codes "tries") ≡ Some r → r.parser ≡ Some (Signed (pos 1) (pos 101))
       → arg_by_id c (codes "outstanding") ≡ Some o → o.parser ≡ Some (Signed (pos 1) (pos 64))
       → arg_by_id c (codes "newest") ≡ Some n → n.parser ≡ Some (Signed (pos 0) (pos 4294967294)) → NamesPace word
   names_pace e p w r o n is_e parser_e is_p parser_p is_w parser_w is_r parser_r is_o parser_o is_n parser_n = record {
-    every = number_named (codes "every") 1000 60000 e is_e parser_e;
+    every = number_named (codes "every") 1000 3600000 e is_e parser_e;
     poll = number_named (codes "poll") 1 600000 p is_p parser_p;
     timeout = number_named (codes "timeout") 1 600000 w is_w parser_w;
     tries = number_named (codes "tries") 1 101 r is_r parser_r;

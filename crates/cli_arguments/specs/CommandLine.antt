@@ -92,9 +92,9 @@ priority_rule = record (text_rule (codes "PRIORITY")) { parser = Some (Signed (p
 abbrev pub of_seat : List Rule
 of_seat = text_rule (codes "GUID") ∷ port_rule ∷ priority_rule ∷ option_rule (codes "sm-key") ∷ []
 
--- the option for the time from the end of a master's sweep to its next one, from 1000 to 60000 milliseconds
+-- the option for the time from the end of a master's sweep to its next one, from 1000 to 3600000 milliseconds
 abbrev pub every_rule : Rule
-every_rule = number_rule (codes "every") 1000 60000
+every_rule = number_rule (codes "every") 1000 3600000
 
 -- the option for the time from one poll of a standby to its next one, from 1 to 600000 milliseconds
 abbrev pub poll_rule : Rule

@@ -61,7 +61,7 @@ pub record NamesSeat (word : Text → Option Text) : Type 0 where
 
 -- the options of a manager that decides by itself, if named, are numbers in their ranges
 pub record NamesPace (word : Text → Option Text) : Type 0 where
-  pub every : IsNumberWithin 1000 60000 (word (codes "every"))
+  pub every : IsNumberWithin 1000 3600000 (word (codes "every"))
   pub poll : IsNumberWithin 1 600000 (word (codes "poll"))
   pub timeout : IsNumberWithin 1 600000 (word (codes "timeout"))
   pub tries : IsNumberWithin 1 101 (word (codes "tries"))

@@ -89,9 +89,9 @@ pub(crate) fn every<'a>(alloc: Global) -> Arg<'a>
         alloc,
         EVERY,
         "MS",
-        "As master, sweeps MS milliseconds after the last sweep, 1000 to 60000; 10000 by default",
+        "As master, sweeps MS milliseconds after the last sweep, 1000 to 3600000; 10000 by default",
     )
-    .value_parser(value_parser!(u32).range(1000..=60000))
+    .value_parser(value_parser!(u32).range(1000..=3600000))
 }
 
 /// Builds the option for the time between the polls of a standby.

@@ -52,12 +52,12 @@ number_range otherwise least most (Some word) h k = between least most (number_i
 
 module _ (word : List ℕ → Option (List ℕ)) where
   abbrev IsTimed : Timing → Type 0
-  IsTimed timing = IsBetween 1000 60000 timing.every × IsBetween 1 600000 timing.poll
+  IsTimed timing = IsBetween 1000 3600000 timing.every × IsBetween 1 600000 timing.poll
 
   timing_range : NamesPace word → IfSome (timing_asked word) IsTimed
   timing_range q =
-      then_some (IsBetween 1000 60000) IsTimed (number_or 10000 (word (codes "every"))) _
-      (number_range 10000 1000 60000 (word (codes "every")) (omega arith, omega arith) q.every) (λ every e.
+      then_some (IsBetween 1000 3600000) IsTimed (number_or 10000 (word (codes "every"))) _
+      (number_range 10000 1000 3600000 (word (codes "every")) (omega arith, omega arith) q.every) (λ every e.
       mapped (IsBetween 1 600000) IsTimed (number_or 1000 (word (codes "poll"))) _
       (number_range 1000 1 600000 (word (codes "poll")) (omega arith, omega arith) q.poll) (λ poll p. (e, p)))
 

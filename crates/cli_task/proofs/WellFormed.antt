@@ -245,7 +245,7 @@ module _ (word : List ℕ → Option (List ℕ)) (files : Option (List (List ℕ
   manage_asks : NamesSeat word → NamesPlanning word → NamesPace word → Asks (codes "manage")
   manage_asks s p q =
       let serving = serving_there s p in
-      let every = known (number_or 10000 (word (codes "every"))) (number_given 10000 1000 60000 (word (codes "every")) (omega arith) q.every) in
+      let every = known (number_or 10000 (word (codes "every"))) (number_given 10000 1000 3600000 (word (codes "every")) (omega arith) q.every) in
       let poll = known (number_or 1000 (word (codes "poll"))) (number_given 1000 1 600000 (word (codes "poll")) (omega arith) q.poll) in
       let timeout = known (number_or 500 (word (codes "timeout"))) (number_given 500 1 600000 (word (codes "timeout")) (omega arith) q.timeout) in
       let tries = known (number_or 4 (word (codes "tries"))) (number_given 4 1 101 (word (codes "tries")) (omega arith) q.tries) in

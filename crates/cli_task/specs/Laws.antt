@@ -20,7 +20,7 @@ IsBetween least most n = (least ≤ n) × (n ≤ most)
 -- seconds, polls and waits for answers at least 1 millisecond and at most 10 minutes, has 1 to 64 requests out at a time
 -- and sends each 1 to 101 times, and there is a generation above the newest one
 pub record IsPaced (asked : Managing) : Type 0 where
-  pub every : IsBetween 1000 60000 asked.timing.every
+  pub every : IsBetween 1000 3600000 asked.timing.every
   pub poll : IsBetween 1 600000 asked.timing.poll
   pub outstanding : IsBetween 1 64 asked.limits.outstanding
   pub tries : IsBetween 1 101 asked.limits.tries

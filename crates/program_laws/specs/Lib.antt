@@ -1,4 +1,5 @@
 pub mod Framed
+pub mod LightSweeps
 pub mod Live
 pub mod LivePings
 pub mod Says

@@ -17,9 +17,9 @@ use Rattle.schedule_file.specs.declared.command.Ask.TheVariants.{Poll}
 use Rattle.serve_lines.specs.declared.serve_line.ServeLine.{ServeLine}
 use Rattle.serve_lines.specs.declared.serve_line.ServeLine.TheVariants.{Ask, Floor, Packet, Timeout, GiveUp, Managers, Wrong}
 use Rattle.serve_lines.specs.declared.manage_line.ManageLine.TheVariants.{Told, Wrong as WrongTold}
-use Rattle.serve_lines.specs.declared.manage_line.ManageWord.TheVariants.{Packet as PacketSaid, Sa as SaSaid, Look, Leave, Managers as ManagersSaid}
+use Rattle.serve_lines.specs.declared.manage_line.ManageWord.TheVariants.{Packet as PacketSaid, Sa as SaSaid, Look, Light, LightAnswer, Leave, Managers as ManagersSaid}
 use Rattle.serve_lines.specs.ServeLine.{bare_of, line_in, line_of, most_bytes, of_one, packet_behind, packet_in, packet_of, show_of, transaction_of}
-use Rattle.serve_lines.specs.ManageLine.{behind_time, line_in as told_in, manage_line_of, time_of, word_of}
+use Rattle.serve_lines.specs.ManageLine.{behind_time, light_of, line_in as told_in, manage_line_of, time_of, word_of}
 use Rattle.serve_lines.specs.Read.{IsPacket, IsRead, IsSaid, IsTold, ReadLinesAreInRange, ToldLinesAreInRange}
 
 either : {A : Type 0} (Q : A → Type 0) (b : Bool) (x y : Option A) → IfSome x Q → IfSome y Q → IfSome (cond b x y) Q
@@ -121,14 +121,19 @@ read_lines_are_in_range line =
 word_range : (word : List ℕ) → IfSome (word_of word) IsSaid
 word_range word =
     either IsSaid (bytes_eq word (codes "look")) (Some Look) _ tt
+    (either IsSaid (bytes_eq word (codes "light")) (Some Light) _ tt
     (either IsSaid (bytes_eq word (codes "leave")) (Some Leave) _ tt
     (either IsSaid (bytes_eq word (codes "managers")) (Some ManagersSaid) _ tt
-    (mapped (λ _. Unit {0}) IsSaid (shown_by word) _ (always _) (λ what _. tt))))
+    (mapped (λ _. Unit {0}) IsSaid (shown_by word) _ (always _) (λ what _. tt)))))
+
+light_range : (word hex : List ℕ) → IfSome (light_of word hex) IsSaid
+light_range word hex =
+    either IsSaid (bytes_eq word (codes "light")) _ None (mapped IsLong IsSaid (packet_of hex) LightAnswer (packet_long hex) (λ bytes long. long)) tt
 
 said_range : (words : List (List ℕ)) → IfSome (behind_time words) IsSaid
 said_range [] = tt
 said_range (word ∷ []) = word_range word
-said_range (word ∷ hex ∷ []) = tt
+said_range (word ∷ hex ∷ []) = light_range word hex
 said_range (word ∷ hex ∷ between ∷ rest) =
     either IsSaid (bytes_eq word (codes "sa")) _ _
     (behind_range IsSaid (λ packet. SaSaid packet.0 packet.1) (λ packet h. h) (codes "packet") hex between rest)

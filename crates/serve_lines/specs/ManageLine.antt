@@ -6,11 +6,11 @@ use Rattle.std.specs.Str.{bytes_eq}
 use Rattle.text_words.specs.Text.{words}
 use Rattle.text_words.specs.Numbers.{number_up_to}
 use Rattle.schedule_file.specs.ManagerWords.{shown_by}
-use Rattle.serve_lines.specs.ServeLine.{most_bytes, packet_behind}
+use Rattle.serve_lines.specs.ServeLine.{most_bytes, packet_behind, packet_of}
 use Rattle.serve_lines.specs.declared.manage_line.ManageLine.{ManageLine}
 use Rattle.serve_lines.specs.declared.manage_line.ManageLine.TheVariants.{Told, Empty, Wrong}
 use Rattle.serve_lines.specs.declared.manage_line.ManageWord.{ManageWord}
-use Rattle.serve_lines.specs.declared.manage_line.ManageWord.TheVariants.{Time, Packet, Sa, Look, Leave, Show, Managers}
+use Rattle.serve_lines.specs.declared.manage_line.ManageWord.TheVariants.{Time, Packet, Sa, Look, Light, LightAnswer, Leave, Show, Managers}
 
 -- words ------------------------------------------------------------------------------------------
 
@@ -23,9 +23,14 @@ time_of word = number_up_to (2 ^ 64 - 1) word
 abbrev pub word_of : List ℕ → Option ManageWord
 word_of word =
     if bytes_eq word (codes "look") then Some Look
+    else if bytes_eq word (codes "light") then Some Light
     else if bytes_eq word (codes "leave") then Some Leave
     else if bytes_eq word (codes "managers") then Some Managers
     else option_map Show (shown_by word)
+
+-- what two words say: `light` and a packet in hex digits; None if the grammar has no such words
+abbrev pub light_of : List ℕ → List ℕ → Option ManageWord
+light_of word hex = if bytes_eq word (codes "light") then option_map LightAnswer (packet_of hex) else None
 
 -- what three words and those after them say: those behind `sa` are those behind `packet`; None if the grammar has no
 -- such words
@@ -39,7 +44,7 @@ long_of word hex between rest =
 abbrev pub behind_time : List (List ℕ) → Option ManageWord
 behind_time [] = Some Time
 behind_time (word ∷ []) = word_of word
-behind_time (word ∷ hex ∷ []) = None
+behind_time (word ∷ hex ∷ []) = light_of word hex
 behind_time (word ∷ hex ∷ between ∷ rest) = long_of word hex between rest
 
 -- lines ------------------------------------------------------------------------------------------

@@ -5,7 +5,7 @@ use Rattle.serve_lines.specs.ServeLine.{line_of}
 use Rattle.serve_lines.specs.declared.manage_line.ManageLine.{ManageLine}
 use Rattle.serve_lines.specs.declared.manage_line.ManageLine.TheVariants.{Told}
 use Rattle.serve_lines.specs.declared.manage_line.ManageWord.{ManageWord}
-use Rattle.serve_lines.specs.declared.manage_line.ManageWord.TheVariants.{Packet as PacketSaid, Sa as SaSaid}
+use Rattle.serve_lines.specs.declared.manage_line.ManageWord.TheVariants.{LightAnswer, Packet as PacketSaid, Sa as SaSaid}
 use Rattle.serve_lines.specs.declared.serve_line.ServeLine.{ServeLine}
 use Rattle.serve_lines.specs.declared.serve_line.ServeLine.TheVariants.{Floor, Packet}
 
@@ -27,6 +27,7 @@ ReadLinesAreInRange = (line : List ℕ) → IsRead (line_of line)
 abbrev pub IsSaid : ManageWord → Type 0
 IsSaid (PacketSaid bytes from) = IsPacket bytes from
 IsSaid (SaSaid bytes from) = IsPacket bytes from
+IsSaid (LightAnswer bytes) = length bytes ≡ 256
 IsSaid said = Unit {0}
 
 -- what a line tells a manager that decides by itself is in range: the time fits in 64 bits, and a packet and its LID

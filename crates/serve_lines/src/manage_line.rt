@@ -23,6 +23,10 @@ pub enum ManageWord {
     Sa([u8; 256], Lid),
     /// The operator asks for a sweep.
     Look,
+    /// The requests of a light sweep are shown.
+    Light,
+    /// A packet that may answer one of them is looked at.
+    LightAnswer([u8; 256]),
     /// The manager is to hand over and to end.
     Leave,
     /// What the line asks about the manager is shown.

@@ -105,7 +105,7 @@ fn packet_in(word: &[u8], hex: &[u8], between: &[u8], lid: &[u8]) -> Option<([u8
 
 /// Parses the 256 bytes of a packet, each written as two hex digits of either case. Returns `None` unless `word` is 512
 /// hex digits.
-fn packet_of(word: &[u8]) -> Option<[u8; 256]>
+pub(crate) fn packet_of(word: &[u8]) -> Option<[u8; 256]>
     ensures { result ≡ packet_of word.now }
 {
     let mut bytes = [0; 256];

@@ -3,11 +3,12 @@ ghost use Rattle.std.specs.Prelude.{◌≡◌};
 ghost use Rattle.std.specs.Char.{is_digit};
 ghost use Rattle.std.specs.List.{list_all};
 ghost use Rattle.text_words.specs.Text.{words};
-ghost use Rattle.serve_lines.specs.ManageLine.{behind_time, line_in, long_of, manage_line_of, time_of, word_of};
+ghost use Rattle.serve_lines.specs.ManageLine.{behind_time, light_of, line_in, long_of, manage_line_of};
+ghost use Rattle.serve_lines.specs.ManageLine.{time_of, word_of};
 ghost use Rattle.serve_lines.specs.ServeLine.{most_bytes};
 
 use crate::manage_line::{ManageLine, ManageWord};
-use crate::read::{MOST_BYTES, packet_behind};
+use crate::read::{MOST_BYTES, packet_behind, packet_of};
 use schedule_file::shown_by;
 use text_words::{is_word, split_word};
 
@@ -68,8 +69,22 @@ fn behind_time(rest: &[u8]) -> Option<ManageWord>
     let Some((hex, rest)) = split_word(rest) else {
         return word_of(word);
     };
-    let (between, rest) = split_word(rest)?;
+    let Some((between, rest)) = split_word(rest) else {
+        return light_of(word, hex);
+    };
     long_of(word, hex, between, rest)
+}
+
+/// Parses the words `word` and `hex` as `light` and a packet in hex digits. Returns `None` if the grammar has no such
+/// words.
+fn light_of(word: &[u8], hex: &[u8]) -> Option<ManageWord>
+    ensures { result ≡ light_of word.now hex.now }
+{
+    if is_word(word, "light") {
+        Some(ManageWord::LightAnswer(packet_of(hex)?))
+    } else {
+        None
+    }
 }
 
 /// Parses the words `word`, `hex` and `between`, and then those of `rest`. Returns `None` if the grammar has no such
@@ -92,6 +107,8 @@ fn word_of(word: &[u8]) -> Option<ManageWord>
 {
     if is_word(word, "look") {
         Some(ManageWord::Look)
+    } else if is_word(word, "light") {
+        Some(ManageWord::Light)
     } else if is_word(word, "leave") {
         Some(ManageWord::Leave)
     } else if is_word(word, "managers") {

@@ -1,6 +1,6 @@
 -- A manager that decides by itself and is told lines: what each line does, and what is printed.
-use Rattle.std.specs.Prelude.{ℕ, List, [], ◌∷◌, ◌++◌, Option, None, Some, codes, decimal}
-use Rattle.std.specs.List.{flat_map}
+use Rattle.std.specs.Prelude.{ℕ, Bool, true, false, List, [], ◌∷◌, ◌++◌, Option, None, Some, codes, decimal}
+use Rattle.std.specs.List.{flat_map, range_with_len}
 use Rattle.hex.specs.Hex.{encode_lower}
 use Rattle.schedule_lines.specs.Lines.{answer_word}
 use Rattle.schedule_lines.specs.ManagerAsks.{text_of}
@@ -8,7 +8,7 @@ use Rattle.schedule_lines.specs.Outcome.{Outcome, and_then, quiet, shows}
 use Rattle.serve_lines.specs.declared.manage_line.ManageLine.{ManageLine}
 use Rattle.serve_lines.specs.declared.manage_line.ManageLine.TheVariants.{Told, Empty, Wrong}
 use Rattle.serve_lines.specs.declared.manage_line.ManageWord.{ManageWord}
-use Rattle.serve_lines.specs.declared.manage_line.ManageWord.TheVariants.{Time, Packet, Sa, Look, Leave, Show, Managers}
+use Rattle.serve_lines.specs.declared.manage_line.ManageWord.TheVariants.{Time, Packet, Sa, Look, Light, LightAnswer, Leave, Show, Managers}
 use Rattle.sm_state.specs.State.{state_word}
 use Rattle.sm_policy.specs.declared.act.Act.{Act}
 use Rattle.sm_policy.specs.declared.act.Act.TheVariants.{Wait, Poll, Announce, Sweep, Rediscover, HandOver, Yield, Judge, Write, Settle}
@@ -17,6 +17,7 @@ use Rattle.sm_policy.specs.declared.write_cause.WriteCause.TheVariants.{New, Aga
 use Rattle.sm_policy.specs.declared.ports.Ports.{Ports}
 use Rattle.acting_manager.specs.Acting.{Acting}
 use Rattle.acting_manager.specs.Administration.{administered}
+use Rattle.acting_manager.specs.LightSweep.{is_same, light_count, light_request}
 use Rattle.acting_manager.specs.Working as working
 use Rattle.acting_manager.specs.Working.{after_told, given_away, wake_of}
 use Rattle.acting_manager.specs.declared.note.Note.{Note}
@@ -95,6 +96,20 @@ unfoldable pub sa_line : ℕ → Option (List ℕ) → List ℕ
 sa_line to None = []
 sa_line to (Some packet) = codes "sa " ++ encode_lower packet ++ codes " to " ++ decimal to ++ codes "\n"
 
+-- the line of a request of a light sweep; empty if there is none
+unfoldable pub light_line : Option (List ℕ) → List ℕ
+light_line None = []
+light_line (Some packet) = codes "light " ++ encode_lower packet ++ codes "\n"
+
+-- the lines of the requests of a light sweep, in the order of the vertices that the last sweep reached
+abbrev pub light_lines : Acting → List ℕ
+light_lines a = flat_map (λ i. light_line (light_request a i)) (range_with_len 0 (light_count a))
+
+-- the line that says whether a switch is as the last sweep read it
+abbrev pub same_line : Bool → List ℕ
+same_line true = codes "light same\n"
+same_line false = codes "light changed\n"
+
 -- lines ------------------------------------------------------------------------------------------
 
 -- the outcome of a line that has the time `time`, before what the manager has to give out. What a line shows changes
@@ -104,6 +119,8 @@ after_word a time Time = quiet (after_told time working.Time a)
 after_word a time (Packet bytes from) = quiet (after_told time (working.Packet bytes (Some from)) a)
 after_word a time (Sa bytes from) = shows (sa_line from (administered a bytes)) a
 after_word a time Look = quiet (after_told time working.Look a)
+after_word a time Light = shows (light_lines a) a
+after_word a time (LightAnswer bytes) = shows (same_line (is_same a bytes)) a
 after_word a time Leave = quiet (after_told time working.Leave a)
 after_word a time (Show what) = shows (text_of what None a.manager) a
 after_word a time Managers = shows (flat_map seen_line a.manager.seen) a

@@ -2,6 +2,7 @@
 #![tactic(auto)]
 
 mod decided;
+mod light;
 mod managers;
 mod notes;
 mod outgoing;

@@ -3,7 +3,7 @@ use Rattle.std.proofs.Common.{◌≡◌, ℕ, zero, suc, ◌+◌, ◌/◌, ◌%�
 use Rattle.std.proofs.lemmas.Bool.{cond_both}
 use Rattle.std.specs.Prelude.{◌&&◌, ◌||◌, ◌==◌, nat_le, nat_lt, codes, decimal, slice_index, Option, Some, None}
 use Rattle.std.specs.Fmt.{digit_glyph, digits, digits_onto}
-use Rattle.std.specs.List.{flat_map, enumerate_from}
+use Rattle.std.specs.List.{flat_map, enumerate_from, range_with_len}
 use Rattle.std.specs.Option.{option_map_or}
 use Rattle.hex.specs.Hex.{encode_lower, encode_with, lower_digits}
 use Rattle.text_words.proofs.Splits.{differs}
@@ -71,10 +71,11 @@ use Rattle.sm_policy.specs.declared.write_cause.WriteCause.TheVariants as cause
 use Rattle.sm_policy.specs.declared.ports.Ports.{Ports}
 use Rattle.acting_manager.specs.Acting.{Acting}
 use Rattle.acting_manager.specs.Administration.{administered}
+use Rattle.acting_manager.specs.LightSweep.{is_same, light_count, light_request}
 use Rattle.acting_manager.specs.Working.{wake_of}
 use Rattle.acting_manager.specs.declared.note.Note.{Note}
 use Rattle.acting_manager.specs.declared.note.Note.TheVariants as note
-use Rattle.serve_run.specs.Decided.{act_word, after_manage, after_word, cause_text, decided, note_line, note_text, ports_text, sa_line, wake_line, wake_text}
+use Rattle.serve_run.specs.Decided.{act_word, after_manage, after_word, cause_text, decided, light_line, note_line, note_text, ports_text, sa_line, same_line, wake_line, wake_text}
 use Rattle.program_laws.specs.Framed.{AnswersEndOnce, EndsOnce, has_dot, is_line_end}
 
 -- texts ---------------------------------------------------------------------------------------------------
@@ -461,11 +462,22 @@ unfolding sa_line
 sa_passes to None = nothing
 sa_passes to (Some packet) = head (codes "sa ") refl refl then encoded packet then mid (codes " to ") refl refl then number to then newline
 
+light_passes : (request : Option (List ℕ)) → Passes true (light_line request) true
+unfolding light_line
+light_passes None = nothing
+light_passes (Some packet) = head (codes "light ") refl refl then encoded packet then newline
+
+same_passes : (is_so : Bool) → Passes true (same_line is_so) true
+same_passes true = told _ refl refl
+same_passes false = told _ refl refl
+
 word_passes : (a : Acting) (time : ℕ) (what : ManageWord) → Passes true (after_word a time what).text true
 word_passes a time word.Time = nothing
 word_passes a time (word.Packet bytes from) = nothing
 word_passes a time (word.Sa bytes from) = sa_passes from (administered a bytes)
 word_passes a time word.Look = nothing
+word_passes a time word.Light = each (λ i. light_line (light_request a i)) (λ i. light_passes (light_request a i)) (range_with_len 0 (light_count a))
+word_passes a time (word.LightAnswer bytes) = same_passes (is_same a bytes)
 word_passes a time word.Leave = nothing
 word_passes a time (word.Show what) = shown_passes what a.manager
 word_passes a time word.Managers = each seen_line seen_passes a.manager.seen
