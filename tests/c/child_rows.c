@@ -88,6 +88,20 @@ static void say_packets(int count)
 	say_lines(strdup("note sent|wake 77"));
 }
 
+/* Says requests of a light sweep. */
+static void say_light(int count)
+{
+	int i, k;
+
+	for (k = 0; k < count; k++) {
+		printf("light ");
+		for (i = 0; i < PACKET; i++)
+			printf("%02x", (i + 11 * k) & 255);
+		printf("\n");
+	}
+	say_lines(strdup(""));
+}
+
 static void do_next(char *what, char *line, int count, char **words)
 {
 	int i;
@@ -114,6 +128,8 @@ static void do_next(char *what, char *line, int count, char **words)
 		say_halves();
 	else if (!strncmp(what, "packets ", 8))
 		say_packets(atoi(what + 8));
+	else if (!strncmp(what, "light ", 6))
+		say_light(atoi(what + 6));
 	else if (!strncmp(what, "rests ", 6)) {
 		rest(atof(what + 6));
 		printf("rested\n.\n");
@@ -294,7 +310,7 @@ static void set_number(const char *name, int value)
 		const char *name;
 		int *place;
 	} numbers[] = {
-		{ "priority", &seat.priority }, { "sweep", &seat.sweep_seconds }, { "poll", &seat.poll_ms },
+		{ "priority", &seat.priority }, { "sweep", &seat.sweep_seconds }, { "heavy", &seat.heavy_seconds }, { "poll", &seat.poll_ms },
 		{ "timeout", &options.timeout_ms }, { "tries", &options.tries }, { "outstanding", &options.outstanding },
 		{ "partial", &seat.partial }, { "dry-run", &seat.dry_run }, { "child-memory", &seat.child_mbytes },
 		{ "child-time", &seat.child_seconds }, { "ended", &ended }, { "hush", &is_hushed },

@@ -310,6 +310,8 @@ static void take(char *line)
 		leave();
 	else if (sscanf(line, "note %n", &at) == 0 && at)
 		hear(line + at);
+	else if (!strcmp(line, "rests"))
+		act(rests() ? "rests" : "does not rest");
 	else if (!strcmp(line, "begin"))
 		act("newest %d", (int) (begin_notes() - CLOCK));
 	else

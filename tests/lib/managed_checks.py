@@ -6,7 +6,7 @@ from collections.abc import Sequence
 
 import sample_fabrics
 from built_program import check
-from live_agents import PORT_INFO, Agents, field
+from live_agents import GET, PORT_INFO, SWITCH_INFO, Agents, field
 from sample_fabrics import Fabric
 from served_lines import (
     ASKED, ASKS, FIRST_TIME, MASTER, REPRESS, TRAPPED, WHO, asked_path, first_request, managed_up, seat, tells,
@@ -26,6 +26,7 @@ WRONG = (
         f"packet {ASKS} from", f"packet {ASKS} from 65536", f"packet {ASKS} from 7 7", f"packet {ASKS[2:]} from 7",
         f"packet {ASKS}00 from 7", f"packet g{ASKS[1:]} from 7", f"sa {ASKS}", f"sa {ASKS} to 7",
         f"sa {ASKS} from 65536", f"sa {ASKS[2:]} from 7", f"sa packet {ASKS} from 7", f"{ASKED} 0",
+        "Light", "light light", f"light {ASKS[2:]}", f"light {ASKS}00", f"light {ASKS} from 7", f"look {ASKS}",
         "state".ljust(MOST - 1), "look " * 200,
     )),
     "0".ljust(MOST + 1), " " * (MOST + 1), "#" * (MOST + 1), "0 #" * MOST,
@@ -61,6 +62,10 @@ MANAGED_ROWS = [
     (f"1000 packet {ASKS.upper()} from 65535", f"send {tells(3)} to 65535\n", 1500),
     # No master, which tells hosts nothing.
     (f"1000 sa {ASKS} from 7", "", 1500),
+    # Nor does it sweep lightly.
+    ("1000 light", "", 1500),
+    (f"1000 light {FIRST}", "light changed\n", 1500),
+    (f"1000 light {'00' * 256}", "light changed\n", 1500),
     # Not a master, which would repress it. That it asks for a sweep shows only later.
     (f"1000 {TRAPPED}", "", 1500),
     ("1000 look", "", 1500),
@@ -214,6 +219,65 @@ def check_rates(program: Program) -> None:
         served.end()
         answer = bytes.fromhex(told[1])
         check(answer[4:6] == bytes(2) and answer[111] == 0x80 | rate, f"the rate of {link}: {answer[111]}, not {rate}")
+
+
+class Flapped(Agents):
+    """The agents of a fabric, whose switches say that a port has changed its state if `has_changed`."""
+
+    has_changed = False
+
+    def told(self, name: str, came_by: int, packet: bytes) -> bytes | None:
+        data = super().told(name, came_by, packet)
+        if data is None or field(packet, 16, 2) != SWITCH_INFO or not self.has_changed:
+            return data
+        return data[:11] + bytes([data[11] | 4]) + data[12:]
+
+
+def lightly(served: Served, time: int) -> tuple[list[bytes], int]:
+    """Returns the requests of a light sweep, and how many other lines are printed."""
+    lines = served.ask(f"{time} light".encode()).decode().splitlines()
+    asked = [bytes.fromhex(it.removeprefix("light ")) for it in lines if it.startswith("light ")]
+    return asked, len(lines) - len(asked)
+
+
+# What is bent in an answer to a light sweep: a byte, and bits of it.
+BENT = {
+    "no packet": (0, 2), "a request": (3, 0x80), "a status": (5, 4), "an earlier sweep": (11, 0x80),
+    "no such vertex": (12, 0x80), "another attribute": (17, 1), "the first byte": (64, 0x80),
+    "PortStateChange": (75, 4), "the last byte": (127, 1),
+}
+
+
+def check_light_sweeps(program: Program) -> None:
+    """Checks whom a master asks in a light sweep, and what it says of answers: that nothing has changed only if a switch
+    answers without a fault as it did in the last sweep, where it did not say that a port had changed its state."""
+    fabric = sample_fabrics.two_levels(2, 3, 4)
+    switches = [name for name in fabric.nodes if fabric.is_switch(name)]
+    for has_changed in False, True:
+        served, agents = Served(program, seat(fabric), command="manage"), Flapped(fabric, ("H1", 1))
+        agents.has_changed = has_changed
+        time = int(managed_up(lambda line: served.ask(line.encode()).decode().splitlines(), agents)[-1].split()[0])
+        requests, others = lightly(served, time)
+
+        def said(packet: bytes) -> str:
+            return served.ask(f"{time} light {packet.hex()}".encode()).decode().splitlines()[0]
+
+        check(len(requests) == len(switches) and others == 1, f"a light sweep asks {len(requests)} of {len(switches)}")
+        check({(it[3], field(it, 16, 4), it[64:128]) for it in requests} == {(GET, SWITCH_INFO << 16, bytes(64))}, "Gets")
+        check({agents.way(it, ("H1", 1))[0] for it in requests} == set(switches), "each switch is asked")
+        check(len({it[8:16] for it in requests}) == len(requests), "each request has a TransactionID of its own")
+        check(lightly(served, time) == (requests, 1), "a light sweep changes nothing")
+        for request in requests:
+            told, wanted = agents.answer(request), "light changed" if has_changed else "light same"
+            check(said(told) == wanted, f"a switch that is as it was, {has_changed=}: {said(told)}")
+            for what, (at, bits) in BENT.items():
+                bent = told[:at] + bytes([told[at] ^ bits]) + told[at + 1 :]
+                check(said(bent) == "light changed", f"{what} is taken for the same")
+        # While it sweeps, it asks nobody, and knows nothing.
+        served.ask(f"{time + 10000}".encode())
+        check(lightly(served, time) == ([], 1), "there is no light sweep while a sweep runs")
+        check(said(agents.answer(requests[0])) == "light changed", "nothing is known while a sweep runs")
+        served.end()
 
 
 def check_pauses(program: Program) -> None:

@@ -12,10 +12,15 @@ use Rattle.sa_bytes.specs.SaPacket.{is_sa_request}
 use Rattle.sa_answers.specs.Reply.{answer_to}
 use Rattle.sa_answers.specs.Told.{Told}
 use Rattle.acting_manager.specs.Acting.{Acting}
+use Rattle.acting_manager.specs.Acts.{is_whole}
 
 -- whether the manager is master, the plan of its last writing is written, and no other manager may have written since
 abbrev pub stands : Acting → Bool
 stands a = is_in Master a.manager.standing && (a.policy.written.stands && is_written a.manager)
+
+-- the last sweep, if it is over and has every answer but those of managers, and the plan of the last writing stands
+abbrev pub standing_sweep : Acting → Option Sweep
+standing_sweep a = if stands a && is_whole a.manager then swept_of a.manager.sweep else None
 
 -- what is told by the facts of a manager, its last sweep if that is done, and the plan of its last writing, if there is
 -- one

@@ -3,7 +3,6 @@ pub mod ActingLaws
 pub mod Acts
 pub mod Administration
 pub mod Heard
-pub mod LightSweep
 pub mod Planned
 pub mod Reads
 pub mod Working

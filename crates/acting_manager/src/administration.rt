@@ -1,14 +1,16 @@
-//! Answers of subnet administration.
-ghost use Rattle.std.specs.Prelude.{◌≡◌, option_map};
+//! Answers of subnet administration, and whether the plan of the last writing stands.
+ghost use Rattle.std.specs.Prelude.{◌≡◌, option_copied, option_map};
 ghost use Rattle.sa_answers.specs.Reply.{answer_to};
 ghost use Rattle.sm_manager.specs.Manager.{swept_of};
 ghost use Rattle.acting_manager.specs.Acting.{value_of};
-ghost use Rattle.acting_manager.specs.Administration.{administered, stands, told_by, told_of};
+ghost use Rattle.acting_manager.specs.Administration.{administered, standing_sweep, stands, told_by, told_of};
 
 use crate::acting_manager::ActingManager;
+use crate::acts::is_whole;
 use sa_answers::{Told, answer_of};
 use sa_bytes::SaRequest;
 use sm_state::SmState;
+use sweep::Sweep;
 
 impl ActingManager {
     /// Returns the answer to `packet`, a request of subnet administration that came to the manager's port. Returns
@@ -36,11 +38,23 @@ impl ActingManager {
 
     /// Returns whether the manager is master, the plan of its last writing is written, and no other manager may have
     /// written since.
-    pub(crate) fn stands(&self) -> bool
+    fn stands(&self) -> bool
         ensures { result ≡ stands (value_of self.now) }
     {
         let is_master = self.manager.state().number() == SmState::Master.number();
         is_master && self.policy.written.stands && self.manager.written()
+    }
+
+    /// Returns the last sweep if it is over and has every answer but those of managers, the manager is master, the plan of
+    /// its last writing is written, and no other manager may have written since.
+    pub fn standing_sweep(&self) -> Option<&Sweep>
+        ensures { option_copied result ≡ standing_sweep (value_of self.now) }
+    {
+        if self.stands() && is_whole(&self.manager) {
+            self.manager.swept()
+        } else {
+            None
+        }
     }
 
     /// Returns the answer to `request` by the facts, the last sweep and the plan of the last writing, or `None` if the

@@ -11,7 +11,6 @@ mod drops;
 mod heard;
 mod judging;
 pub mod laws;
-mod light;
 mod note;
 mod plans;
 mod reads;

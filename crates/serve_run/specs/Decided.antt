@@ -1,6 +1,7 @@
 -- A manager that decides by itself and is told lines: what each line does, and what is printed.
-use Rattle.std.specs.Prelude.{ℕ, Bool, true, false, List, [], ◌∷◌, ◌++◌, Option, None, Some, codes, decimal}
+use Rattle.std.specs.Prelude.{ℕ, Bool, true, false, List, [], ◌∷◌, ◌++◌, length, Option, None, Some, codes, decimal}
 use Rattle.std.specs.List.{flat_map, range_with_len}
+use Rattle.std.specs.Option.{option_map_or}
 use Rattle.hex.specs.Hex.{encode_lower}
 use Rattle.schedule_lines.specs.Lines.{answer_word}
 use Rattle.schedule_lines.specs.ManagerAsks.{text_of}
@@ -9,6 +10,7 @@ use Rattle.serve_lines.specs.declared.manage_line.ManageLine.{ManageLine}
 use Rattle.serve_lines.specs.declared.manage_line.ManageLine.TheVariants.{Told, Empty, Wrong}
 use Rattle.serve_lines.specs.declared.manage_line.ManageWord.{ManageWord}
 use Rattle.serve_lines.specs.declared.manage_line.ManageWord.TheVariants.{Time, Packet, Sa, Look, Light, LightAnswer, Leave, Show, Managers}
+use Rattle.sweep.specs.Sweep as swept
 use Rattle.sm_state.specs.State.{state_word}
 use Rattle.sm_policy.specs.declared.act.Act.{Act}
 use Rattle.sm_policy.specs.declared.act.Act.TheVariants.{Wait, Poll, Announce, Sweep, Rediscover, HandOver, Yield, Judge, Write, Settle}
@@ -16,8 +18,8 @@ use Rattle.sm_policy.specs.declared.write_cause.WriteCause.{WriteCause}
 use Rattle.sm_policy.specs.declared.write_cause.WriteCause.TheVariants.{New, Again, For}
 use Rattle.sm_policy.specs.declared.ports.Ports.{Ports}
 use Rattle.acting_manager.specs.Acting.{Acting}
-use Rattle.acting_manager.specs.Administration.{administered}
-use Rattle.acting_manager.specs.LightSweep.{is_same, light_count, light_request}
+use Rattle.acting_manager.specs.Administration.{administered, standing_sweep}
+use Rattle.light_sweep.specs.LightSweep.{is_same, light_request}
 use Rattle.acting_manager.specs.Working as working
 use Rattle.acting_manager.specs.Working.{after_told, given_away, wake_of}
 use Rattle.acting_manager.specs.declared.note.Note.{Note}
@@ -101,14 +103,22 @@ unfoldable pub light_line : Option (List ℕ) → List ℕ
 light_line None = []
 light_line (Some packet) = codes "light " ++ encode_lower packet ++ codes "\n"
 
--- the lines of the requests of a light sweep, in the order of the vertices that the last sweep reached
-abbrev pub light_lines : Acting → List ℕ
-light_lines a = flat_map (λ i. light_line (light_request a i)) (range_with_len 0 (light_count a))
+-- the lines of the requests of a light sweep after the sweep `s`, in the order of the vertices that it reached
+abbrev pub light_lines : swept.Sweep → List ℕ
+light_lines s = flat_map (λ i. light_line (light_request s i)) (range_with_len 0 (length s.reached))
+
+-- the lines of the requests of a light sweep; none if a sweep is needed
+abbrev pub light_text : Acting → List ℕ
+light_text a = option_map_or light_lines (standing_sweep a) []
 
 -- the line that says whether a switch is as the last sweep read it
 abbrev pub same_line : Bool → List ℕ
 same_line true = codes "light same\n"
 same_line false = codes "light changed\n"
+
+-- the line that says whether a switch is as the last sweep read it, by the bytes `packet`; it is not if a sweep is needed
+abbrev pub answered_line : Acting → List ℕ → List ℕ
+answered_line a packet = same_line (option_map_or (λ s. is_same s packet) (standing_sweep a) false)
 
 -- lines ------------------------------------------------------------------------------------------
 
@@ -119,8 +129,8 @@ after_word a time Time = quiet (after_told time working.Time a)
 after_word a time (Packet bytes from) = quiet (after_told time (working.Packet bytes (Some from)) a)
 after_word a time (Sa bytes from) = shows (sa_line from (administered a bytes)) a
 after_word a time Look = quiet (after_told time working.Look a)
-after_word a time Light = shows (light_lines a) a
-after_word a time (LightAnswer bytes) = shows (same_line (is_same a bytes)) a
+after_word a time Light = shows (light_text a) a
+after_word a time (LightAnswer bytes) = shows (answered_line a bytes) a
 after_word a time Leave = quiet (after_told time working.Leave a)
 after_word a time (Show what) = shows (text_of what None a.manager) a
 after_word a time Managers = shows (flat_map seen_line a.manager.seen) a

@@ -9,7 +9,7 @@ ghost use Rattle.serve_run.specs.Decided.{after_manage, after_word, decided, giv
 ghost use Rattle.serve_run.specs.Lives.{Lives};
 ghost use Rattle.serve_run.specs.Served.{send_line};
 
-use crate::light::{show_light, write_same};
+use crate::light::{show_light, write_answered};
 use crate::managers::show_managers;
 use crate::notes::{note_all, write_wake};
 use crate::outgoing::{write_outgoing, write_sa};
@@ -68,7 +68,7 @@ fn do_word<W: Sink>(
         ManageWord::Sa(bytes, from) => write_sa(sink, acting.administer(&bytes), from)?,
         ManageWord::Look => acting.look(time)?,
         ManageWord::Light => show_light(sink, acting)?,
-        ManageWord::LightAnswer(bytes) => write_same(sink, acting.is_same(&bytes))?,
+        ManageWord::LightAnswer(bytes) => write_answered(sink, acting, &bytes)?,
         ManageWord::Leave => acting.leave(time)?,
         ManageWord::Show(what) => show_manager(sink, None, acting.manager(), what)?,
         ManageWord::Managers => show_managers(sink, acting.manager().seen_managers())?,

@@ -44,26 +44,25 @@ module _ (f g : Fabric) (origin : NodePort) where
       elim between [
         | inl e ↦ absurd (omega (arith, e))
         | inr switch ↦
-          elim (entered (suc n) c v (record { joined = joined_more a c s step; is = inr switch }) w) [
-            | inl e ↦ inr (record { from = a; start = s; step = subst (λ (x : NodePort). AreNeighbors f a x) e step })
-            | inr e ↦ inr e
-          ]
+            elim (entered (suc n) c v (record { joined = joined_more a c s step; is = inr switch }) w) [
+              | inl e ↦ inr (record { from = a; start = s; step = subst (λ (x : NodePort). AreNeighbors f a x) e step })
+              | inr e ↦ inr e
+            ]
       ]
 
   module _ (own : g.across origin ≡ f.across origin)
       (switches : (p : NodePort) → IsTrue (is_switch_at f p.node) → IsJoinedTo f origin (vertex_of f p) → g.across p ≡ f.across p) where
-
     -- the cable in a port from which a walk goes on is the same
     same_out : (a p : NodePort) → IsStart a → vertex_of f p ≡ a → g.across p ≡ f.across p
     same_out a p s e =
         elim (is_switch_at f p.node) as (λ t. is_switch_at f p.node ≡ t → g.across p ≡ f.across p) [
           | true ↦ λ t. switches p t (subst (IsJoinedTo f origin) (sym e) s.joined)
           | false ↦ λ t.
-            let here : p ≡ a = sym (adapter_vertex f p t) ∙ e in
-            elim s.is [
-              | inl o ↦ subst (λ (x : NodePort). g.across x ≡ f.across x) (sym (here ∙ o)) own
-              | inr switch ↦ let same : is_switch_at f p.node ≡ is_switch_at f a.node = ap (λ (x : NodePort). is_switch_at f x.node) here in absurd (cc)
-            ]
+              let here : p ≡ a = sym (adapter_vertex f p t) ∙ e in
+              elim s.is [
+                | inl o ↦ subst (λ (x : NodePort). g.across x ≡ f.across x) (sym (here ∙ o)) own
+                | inr switch ↦ let same : is_switch_at f p.node ≡ is_switch_at f a.node = ap (λ (x : NodePort). is_switch_at f x.node) here in absurd (cc)
+              ]
         ] refl
 
     step_now : (a c : NodePort) → IsStart a → AreNeighbors f a c → AreNeighbors now a c
@@ -87,21 +86,29 @@ module _ (f g : Fabric) (origin : NodePort) where
     walk_now : (n : ℕ) (a v : NodePort) → IsStart a → Walk f a v n → Walk now a v n
     walk_now zero a v s w = w
     walk_now (suc zero) a v s (c, step, between, w) = (c, step_now a c s step, between, w)
-    walk_now (suc (suc n)) a v s (c, step, between, w) =
-        (c, step_now a c s step, between, elim between [
-          | inl e ↦ absurd (omega (arith, e))
-          | inr switch ↦ walk_now (suc n) c v (record { joined = joined_more a c s step; is = inr switch }) w
-        ])
+    walk_now (suc (suc n)) a v s (c, step, between, w) = (
+      c,
+      step_now a c s step,
+      between,
+      elim between [
+        | inl e ↦ absurd (omega (arith, e))
+        | inr switch ↦ walk_now (suc n) c v (record { joined = joined_more a c s step; is = inr switch }) w
+      ],
+    )
 
     walk_before : (n : ℕ) (a v : NodePort) → IsStart a → Walk now a v n → Walk f a v n
     walk_before zero a v s w = w
     walk_before (suc zero) a v s (c, step, between, w) = (c, step_before a c s step, between, w)
-    walk_before (suc (suc n)) a v s (c, step, between, w) =
-        (c, step_before a c s step, between, elim between [
-          | inl e ↦ absurd (omega (arith, e))
-          | inr switch ↦
+    walk_before (suc (suc n)) a v s (c, step, between, w) = (
+      c,
+      step_before a c s step,
+      between,
+      elim between [
+        | inl e ↦ absurd (omega (arith, e))
+        | inr switch ↦
             walk_before (suc n) c v (record { joined = joined_more a c s (step_before a c s step); is = inr switch }) w
-        ])
+      ],
+    )
 
     joined_now : (v : NodePort) → IsJoinedTo f origin v → IsJoinedTo now origin v
     joined_now v (n, w) = (n, walk_now n origin v first w)
@@ -123,11 +130,11 @@ module _ (f g : Fabric) (origin : NodePort) where
           elim (is_switch_at f p.node) as (λ t. is_switch_at f p.node ≡ t → g.across p ≡ f.across p) [
             | true ↦ λ t. switches p t (n, w)
             | false ↦ λ t.
-              let alone : vertex_of f p ≡ p = adapter_vertex f p t in
-              elim (entered n origin p first (subst (λ (x : NodePort). Walk f origin x n) alone w)) [
-                | inl e ↦ subst (λ (x : NodePort). g.across x ≡ f.across x) e own
-                | inr e ↦ back p t e
-              ]
+                let alone : vertex_of f p ≡ p = adapter_vertex f p t in
+                elim (entered n origin p first (subst (λ (x : NodePort). Walk f origin x n) alone w)) [
+                  | inl e ↦ subst (λ (x : NodePort). g.across x ≡ f.across x) e own
+                  | inr e ↦ back p t e
+                ]
           ] refl
 
       -- facts
@@ -176,7 +183,7 @@ module _ (f g : Fabric) (origin : NodePort) where
         switches_exist = λ x told. has_now x 0 (h.switches_exist x told);
         wires = λ x p y q. (
           λ told. wire_now x p y q ((h.wires x p y q).0 told),
-          λ there. (h.wires x p y q).1 (wire_before x p y q there)
+          λ there. (h.wires x p y q).1 (wire_before x p y q there),
         );
       }
 

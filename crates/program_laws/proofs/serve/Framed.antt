@@ -1,7 +1,7 @@
 -- No line of an answer but its last one begins with a dot.
 use Rattle.std.proofs.Common.{◌≡◌, ℕ, zero, suc, ◌+◌, ◌/◌, ◌%◌, Bool, true, false, List, [], ◌∷◌, ◌++◌, append_assoc, refl, sym, ap, ◌∙◌, arith}
 use Rattle.std.proofs.lemmas.Bool.{cond_both}
-use Rattle.std.specs.Prelude.{◌&&◌, ◌||◌, ◌==◌, nat_le, nat_lt, codes, decimal, slice_index, Option, Some, None}
+use Rattle.std.specs.Prelude.{◌&&◌, ◌||◌, ◌==◌, nat_le, nat_lt, codes, decimal, slice_index, length, Option, Some, None}
 use Rattle.std.specs.Fmt.{digit_glyph, digits, digits_onto}
 use Rattle.std.specs.List.{flat_map, enumerate_from, range_with_len}
 use Rattle.std.specs.Option.{option_map_or}
@@ -17,6 +17,7 @@ use Rattle.reply_facts.specs.ReportFault.{report_fault_name}
 use Rattle.reply_facts.specs.declared.report_fault.ReportFault.{ReportFault}
 use Rattle.reply_facts.specs.declared.report_fault.ReportFault.TheVariants as report
 use Rattle.sweep.specs.Fault.{sweep_fault_name}
+use Rattle.sweep.specs.Sweep.{Sweep}
 use Rattle.sweep.specs.declared.fault.SweepFault.{SweepFault}
 use Rattle.sweep.specs.declared.fault.SweepFault.TheVariants as sweep
 use Rattle.sm_manager.specs.Fault.{manager_fault_name}
@@ -70,12 +71,12 @@ use Rattle.sm_policy.specs.declared.write_cause.WriteCause.{WriteCause}
 use Rattle.sm_policy.specs.declared.write_cause.WriteCause.TheVariants as cause
 use Rattle.sm_policy.specs.declared.ports.Ports.{Ports}
 use Rattle.acting_manager.specs.Acting.{Acting}
-use Rattle.acting_manager.specs.Administration.{administered}
-use Rattle.acting_manager.specs.LightSweep.{is_same, light_count, light_request}
+use Rattle.acting_manager.specs.Administration.{administered, standing_sweep}
+use Rattle.light_sweep.specs.LightSweep.{is_same, light_request}
 use Rattle.acting_manager.specs.Working.{wake_of}
 use Rattle.acting_manager.specs.declared.note.Note.{Note}
 use Rattle.acting_manager.specs.declared.note.Note.TheVariants as note
-use Rattle.serve_run.specs.Decided.{act_word, after_manage, after_word, cause_text, decided, light_line, note_line, note_text, ports_text, sa_line, same_line, wake_line, wake_text}
+use Rattle.serve_run.specs.Decided.{act_word, after_manage, after_word, cause_text, decided, light_line, light_lines, note_line, note_text, ports_text, sa_line, same_line, wake_line, wake_text}
 use Rattle.program_laws.specs.Framed.{AnswersEndOnce, EndsOnce, has_dot, is_line_end}
 
 -- texts ---------------------------------------------------------------------------------------------------
@@ -467,6 +468,10 @@ unfolding light_line
 light_passes None = nothing
 light_passes (Some packet) = head (codes "light ") refl refl then encoded packet then newline
 
+asking_passes : (swept : Option Sweep) → Passes true (option_map_or light_lines swept []) true
+asking_passes None = nothing
+asking_passes (Some s) = each (λ i. light_line (light_request s i)) (λ i. light_passes (light_request s i)) (range_with_len 0 (length s.reached))
+
 same_passes : (is_so : Bool) → Passes true (same_line is_so) true
 same_passes true = told _ refl refl
 same_passes false = told _ refl refl
@@ -476,8 +481,8 @@ word_passes a time word.Time = nothing
 word_passes a time (word.Packet bytes from) = nothing
 word_passes a time (word.Sa bytes from) = sa_passes from (administered a bytes)
 word_passes a time word.Look = nothing
-word_passes a time word.Light = each (λ i. light_line (light_request a i)) (λ i. light_passes (light_request a i)) (range_with_len 0 (light_count a))
-word_passes a time (word.LightAnswer bytes) = same_passes (is_same a bytes)
+word_passes a time word.Light = asking_passes (standing_sweep a)
+word_passes a time (word.LightAnswer bytes) = same_passes (option_map_or (λ s. is_same s bytes) (standing_sweep a) false)
 word_passes a time word.Leave = nothing
 word_passes a time (word.Show what) = shown_passes what a.manager
 word_passes a time word.Managers = each seen_line seen_passes a.manager.seen

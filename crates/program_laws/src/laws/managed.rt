@@ -3,6 +3,7 @@ ghost use Rattle.program_laws.specs.AlwaysAsks.{AlwaysAsks};
 ghost use Rattle.program_laws.specs.Deciding.{DecidingIsManaging, NewOnesStand};
 ghost use Rattle.program_laws.specs.ManagedEnds.{ManagedSweepsAskFew, ManagedSweepsEnd, ManagedWritingsEnd};
 ghost use Rattle.program_laws.specs.ManagedEnds.{SweepsLoseNothing, WritingsLoseNothing};
+ghost use Rattle.program_laws.specs.LightSweeps.{QuietSwitchesKeepThePart};
 ghost use Rattle.program_laws.specs.SweepTime.{SomeSweepIsAtASeat, SweepsEndInTime};
 ghost use Rattle.program_laws.specs.WritingTime.{SomeManagerBeginsToWrite, WritingsEndInTime};
 ghost use Rattle.program_laws.specs.Wakes.{WindowsEmpty};
@@ -104,6 +105,15 @@ pub fn writings_end_in_time()
 /// once it has swept.
 pub fn some_manager_begins_to_write()
     ensures { SomeManagerBeginsToWrite }
+{}
+
+/// Facts that described exactly what was joined to a manager describe exactly what is joined to it now, if three conditions
+/// hold: the nodes are the same; no cable has come to or gone from the manager's port; nor from a port of a switch that was
+/// joined to it. So another sweep would find the same, and a light sweep will do, if each switch says by PortStateChange
+/// whether the state of a port has changed. What is set at agents may have changed.
+#[tactic(auto, using(crate::proofs::light::Quiet::quiet_switches_keep_the_part))]
+pub fn quiet_switches_keep_the_part()
+    ensures { QuietSwitchesKeepThePart }
 {}
 
 /// If a manager that decides by itself notes no request that it gives up, after the line that begins its sweep and up

@@ -3,7 +3,7 @@ use Rattle.std.specs.Prelude.{replicate}
 use Rattle.smp_bytes.specs.Header.{get, switch_info}
 use Rattle.smp_bytes.specs.Requests.{directed}
 use Rattle.sweep.specs.Sweep.{transaction_of}
-use Rattle.acting_manager.proofs.light.light_packet.Goals as goal
+use Rattle.light_sweep.proofs.light_sweep.light_packet.Goals as goal
 
 pub returns : goal.returns
 returns c =

@@ -1,7 +1,7 @@
--- A light sweep: a master asks each switch that its last sweep reached for SwitchInfo alone. PortStateChange there is 1 if
--- a port of the switch has changed its state since a Set cleared it. InfiniBand Architecture Specification, Volume 1:
--- subnet management, SwitchInfo.
-use Rattle.std.specs.Prelude.{ℕ, ◌%◌, ◌/◌, ◌^◌, Bool, false, ◌&&◌, List, length, ◌==◌, if◌then◌else◌}
+-- A light sweep: in place of a sweep, each switch that the last sweep reached is asked for SwitchInfo alone. PortStateChange
+-- there is 1 if a port of the switch has changed its state since a Set cleared it. InfiniBand Architecture Specification,
+-- Volume 1: subnet management, SwitchInfo.
+use Rattle.std.specs.Prelude.{ℕ, ◌%◌, ◌/◌, ◌^◌, Bool, false, ◌&&◌, List, ◌==◌, if◌then◌else◌}
 use Rattle.std.specs.Prelude.{Option, None, Some, is_none, option_and_then, replicate, slice_get}
 use Rattle.std.specs.Option.{option_map_or}
 use Rattle.std.specs.Str.{bytes_eq}
@@ -13,15 +13,6 @@ use Rattle.smp_bytes.specs.Requests.{directed}
 use Rattle.attr_codec.specs.SwitchInfo.{port_state_change}
 use Rattle.sweep.specs.Sweep.{Sweep, switch_image, transaction_of}
 use Rattle.sweep.specs.declared.vertex.Vertex.{Vertex}
-use Rattle.sm_manager.specs.Manager.{swept_of}
-use Rattle.acting_manager.specs.Acting.{Acting}
-use Rattle.acting_manager.specs.Acts.{is_whole}
-use Rattle.acting_manager.specs.Administration.{stands}
-
--- the last sweep, if a light sweep may stand for the next one: it is done, it has every answer but those of managers, and
--- the plan of the last writing stands
-abbrev pub light_base : Acting → Option Sweep
-light_base a = if stands a && is_whole a.manager then swept_of a.manager.sweep else None
 
 -- requests ---------------------------------------------------------------------------------------
 
@@ -30,18 +21,10 @@ light_base a = if stands a && is_whole a.manager then swept_of a.manager.sweep e
 abbrev pub light_packet : Sweep → ℕ → Vertex → List ℕ
 light_packet s i v = directed get switch_info 0 (transaction_of s.generation (i % 2 ^ 32)) v.path (replicate 64 0)
 
--- the request to the vertex at index `i` among those that a sweep reached; None if that is no switch
-abbrev pub light_packet_at : ℕ → Sweep → Option (List ℕ)
-light_packet_at i s =
+-- the request to the vertex at index `i` among those that the sweep `s` reached; None if that is no switch
+abbrev pub light_request : Sweep → ℕ → Option (List ℕ)
+light_request s i =
     option_and_then (λ v. if is_switch v.kind then Some (light_packet s i v) else None) (slice_get s.reached i)
-
--- the request to the vertex at index `i`; None if that is no switch, or if no light sweep may stand for the next sweep
-abbrev pub light_request : Acting → ℕ → Option (List ℕ)
-light_request a i = option_and_then (light_packet_at i) (light_base a)
-
--- the number of vertices that the last sweep reached; 0 if no light sweep may stand for the next one
-abbrev pub light_count : Acting → ℕ
-light_count a = option_map_or (λ s. length s.reached) (light_base a) 0
 
 -- answers ----------------------------------------------------------------------------------------
 
@@ -62,11 +45,11 @@ abbrev pub is_as_read : Sweep → List ℕ → Vertex → Bool
 is_as_read s packet v = option_map_or (is_same_info packet) (switch_image s v.guid) false
 
 -- whether `packet` answers a request of a light sweep, and says that its switch is as the sweep `s` read it
-abbrev pub says_same : List ℕ → Sweep → Bool
-says_same packet s =
+abbrev pub says_same : Sweep → List ℕ → Bool
+says_same s packet =
     answers_light s packet
     && option_map_or (is_as_read s packet) (slice_get s.reached (number_in transaction_id packet % 2 ^ 32)) false
 
--- whether the bytes `packet` answer a request of a light sweep, and say that its switch is as the last sweep read it
-abbrev pub is_same : Acting → List ℕ → Bool
-is_same a packet = is_none (fault_of packet) && option_map_or (says_same packet) (light_base a) false
+-- whether the bytes `packet` answer a request of a light sweep, and say that its switch is as the sweep `s` read it
+abbrev pub is_same : Sweep → List ℕ → Bool
+is_same s packet = is_none (fault_of packet) && says_same s packet
