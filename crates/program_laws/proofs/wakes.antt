@@ -8,6 +8,7 @@ pub mod Empties
 pub mod FreshWork
 pub mod InTime
 pub mod InTurn
+pub mod Lines
 pub mod Load
 pub mod Makes
 pub mod News

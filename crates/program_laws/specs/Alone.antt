@@ -1,6 +1,6 @@
 -- A manager that decides by itself, and is alone: it hears no word of another manager. InfiniBand Architecture Specification,
 -- Volume 1: subnet management, subnet manager (states, polling, handover); SMInfo.
-use Rattle.std.specs.Prelude.{◌≡◌, ◌≢◌, ◌≤◌, ◌<◌, ◌^◌, ℕ, Bool, true, false, ◌&&◌, ◌||◌, not, List, [], ◌∷◌, ◌==◌, Some}
+use Rattle.std.specs.Prelude.{◌≡◌, ◌≢◌, ◌≤◌, ◌<◌, ◌^◌, ℕ, Bool, true, false, ◌&&◌, ◌||◌, not, List, ◌==◌, Some}
 use Rattle.smp_bytes.specs.Field.{bytes_in, number_in}
 use Rattle.smp_bytes.specs.Header.{set, sm_info}
 use Rattle.smp_bytes.specs.Packet.{attribute_data, attribute_id, is_response, method}
@@ -16,7 +16,7 @@ use Rattle.acting_manager.specs.Acting.{Acting}
 use Rattle.acting_manager.specs.Acts.{floor_raised}
 use Rattle.acting_manager.specs.Working.{Told, is_idle, is_resting}
 use Rattle.program_laws.specs.NextSweep.{HasFewTurns}
-use Rattle.program_laws.specs.Wakes.{HasDecided, Line, NoneLeaves, after_line, after_lines, before_deciding}
+use Rattle.program_laws.specs.Wakes.{AtEachLine, HasDecided, Line, NoneLeaves, after_lines, before_deciding}
 
 -- whether `packet` is a word of another manager to the manager `own`: a Set of SMInfo, which is a control; or an answer of
 -- SMInfo, unless a sweep asked for it, and it tells of a manager that does not outrank `own`
@@ -32,14 +32,10 @@ IsNoWord (Told.Packet bytes from) a = is_word (info_of a.manager.standing) bytes
 IsNoWord what a = Unit {0}
 
 -- by the line the manager hears no word of another one; and if it decides while it rests, a generation is left for a sweep
-pub record IsAlone (line : Line) (a : Acting) : Type 0 where
+pub record HearsNobody (line : Line) (a : Acting) : Type 0 where
   pub no_word : IsNoWord line.1 a
   pub left : is_resting a.policy.activity ≡ true → is_idle (before_deciding line a).window ≡ true
       → begin_fault (floor_raised (before_deciding line a)).manager ≢ Some GenerationsSpent
-
-abbrev pub StaysAlone : List Line → Acting → Type 0
-StaysAlone [] a = Unit {0}
-StaysAlone (line ∷ lines) a = IsAlone line a × StaysAlone lines (after_line line a)
 
 -- a manager that decides by itself is alone through the lines. It may send each request once at least, one may be out, nobody
 -- tells it to leave or has told it, no other manager has disabled it, its newest generation fits in 32 bits at first, and times
@@ -49,7 +45,7 @@ pub record IsLone (n : ℕ) (a : Acting) (lines : List Line) : Type 0 where
   pub generations : decided.newest < 2 ^ 32
   pub none_left : NoneLeaves decided.lines
   pub active : a.manager.standing.state ≢ NotActive
-  pub alone : StaysAlone lines a
+  pub alone : AtEachLine HearsNobody lines a
   pub few : HasFewTurns n lines a
   pub tries : 1 ≤ a.window.limits.tries
   pub outstanding : 1 ≤ a.window.limits.outstanding

@@ -8,14 +8,14 @@ use Rattle.acting_manager.specs.Working.{is_writing}
 use Rattle.manager_laws.specs.Managing.{Starts}
 use Rattle.manager_laws.specs.Pings.{EachPingArrives}
 use Rattle.manager_laws.specs.Written.{own_sets, plan_at}
-use Rattle.program_laws.specs.AnsweredWritings.{NoWritingGivenUp}
 use Rattle.program_laws.specs.Deciding.{CanDecide, Deciding, DecidingEvent, after_deciding_event, after_deciding_events}
 use Rattle.program_laws.specs.ManagedEnds.{StaysAbout}
 use Rattle.program_laws.specs.ManagedPings.{AllKeepManaged, managed_at_end, managed_at_writing}
 use Rattle.program_laws.specs.ManagedWritings.{IsNew, begins_writing, managing_of}
 use Rattle.program_laws.specs.SweepTime.{lines_of}
-use Rattle.program_laws.specs.Wakes.{NoneLeaves}
+use Rattle.program_laws.specs.Wakes.{AtEachLine, NoneLeaves}
 use Rattle.program_laws.specs.WholeSweeps.{NothingGivenUp, too_far_in}
+use Rattle.program_laws.specs.AnsweredWritings.{KeepsWriting}
 
 -- a new manager that decides by itself begins its last writing by the event `begins`
 pub record WritesManaged (d : Deciding) (before : List DecidingEvent) (begins : DecidingEvent) (after : List DecidingEvent)
@@ -59,7 +59,7 @@ pub record IsAnsweredManaged (d : Deciding) (earlier : List DecidingEvent) (swee
   pub none_lost : NothingGivenUp
       (lines_of (between ++ writing_from begins during ends) (after_deciding_event (after_deciding_events earlier d) sweeps))
       (after_deciding_event (after_deciding_events earlier d) sweeps).acting
-  pub kept_on : NoWritingGivenUp (lines_of (during ++ ends ∷ []) (managed_at_writing d (earlier ++ sweeps ∷ between) begins))
+  pub kept_on : AtEachLine KeepsWriting (lines_of (during ++ ends ∷ []) (managed_at_writing d (earlier ++ sweeps ∷ between) begins))
       (managed_at_writing d (earlier ++ sweeps ∷ between) begins).acting
   pub near : too_far_in (managed_at_writing d (earlier ++ sweeps ∷ between) begins).acting.manager.sweep ≡ 0
 

@@ -11,7 +11,7 @@ use Rattle.sm_manager.specs.declared.pending.Pending.{Pending}
 use Rattle.acting_manager.specs.Acting.{Acting, caught_up}
 use Rattle.acting_manager.specs.Working.{Told, is_given_up, is_writing, taken, told_time}
 use Rattle.program_laws.specs.ManagedEnds.{StaysAbout}
-use Rattle.program_laws.specs.Wakes.{HasDecided, IsNoLeave, Line, NoneLeaves, after_line, after_lines}
+use Rattle.program_laws.specs.Wakes.{AtEachLine, HasDecided, IsNoLeave, Line, NoneLeaves, after_line, after_lines}
 use Rattle.program_laws.specs.WholeSweeps.{NothingGivenUp}
 
 -- whether the manager gives up what it writes when it is told the line: it stood still, or is no longer master
@@ -22,11 +22,6 @@ gives_up_writing line a = is_given_up (caught_up (taken line.1 (told_time line.0
 abbrev pub KeepsWriting : Line → Acting → Type 0
 KeepsWriting line a = gives_up_writing line a ≡ false
 
--- by none of the lines it gives up what it writes
-abbrev pub NoWritingGivenUp : List Line → Acting → Type 0
-NoWritingGivenUp [] a = Unit {0}
-NoWritingGivenUp (line ∷ lines) a = KeepsWriting line a × NoWritingGivenUp lines (after_line line a)
-
 -- if what is told answers a step that counts, it has status 0
 abbrev pub AnswersWell : Told → Manager → Type 0
 AnswersWell (Told.Packet bytes from) m =
@@ -36,8 +31,7 @@ AnswersWell what m = Unit {0}
 
 -- so it is of each of the lines
 abbrev pub AllAnswerWell : List Line → Acting → Type 0
-AllAnswerWell [] a = Unit {0}
-AllAnswerWell (line ∷ lines) a = AnswersWell line.1 a.manager × AllAnswerWell lines (after_line line a)
+AllAnswerWell = AtEachLine (λ line a. AnswersWell line.1 a.manager)
 
 -- the manager that decides by itself in `first` is told the line `begins`, by which it becomes `a`, and begins to write. It
 -- writes through the lines `during`, and is then told the line `ends`, by which its writing is over. Nobody tells it to
@@ -61,5 +55,5 @@ abbrev pub AnsweredWritingsAreWritten : Type 0
 AnsweredWritingsAreWritten =
     (first : Acting) (begins : Line) (a : Acting) (during : List Line) (ends : Line)
     → WritesThrough first begins a during ends → NothingGivenUp (during ++ ends ∷ []) a
-    → NoWritingGivenUp (during ++ ends ∷ []) a → AllAnswerWell (during ++ ends ∷ []) a
+    → AtEachLine KeepsWriting (during ++ ends ∷ []) a → AllAnswerWell (during ++ ends ∷ []) a
     → is_written (after_line ends (after_lines during a)).manager ≡ true

@@ -1,11 +1,11 @@
 -- How often the requests of a manager that decides by itself can be late between any two moments. InfiniBand Architecture
 -- Specification, Volume 1: subnet management, SMP time-outs.
-use Rattle.std.specs.Prelude.{◌≡◌, ◌≤◌, ◌<◌, ◌+◌, ◌*◌, ◌^◌, ℕ, true, false, List, [], ◌∷◌, length}
+use Rattle.std.specs.Prelude.{◌≡◌, ◌≤◌, ◌<◌, ◌+◌, ◌*◌, ◌^◌, ℕ, true, false, List, length}
 use Rattle.acting_manager.specs.Acting.{Acting}
 use Rattle.acting_manager.specs.Working.{is_idle, is_writing}
 use Rattle.manager_laws.specs.WritingEnds.{planned_steps}
 use Rattle.program_laws.specs.NextSweep.{HasFewTurns}
-use Rattle.program_laws.specs.Wakes.{HasDecided, Line, NoneLeaves, after_line, before_deciding, chances_in, control_in, next_in}
+use Rattle.program_laws.specs.Wakes.{AtEachLine, HasDecided, Line, NoneLeaves, after_line, before_deciding, chances_in, control_in, next_in}
 use Rattle.program_laws.specs.Wakes.{sets_to_come}
 
 -- little is asked by a line: it is no control; the number of the sweep's next request is at most `asked` then; where the manager
@@ -18,10 +18,6 @@ pub record AsksLittle (asked sets : ℕ) (line : Line) (a : Acting) : Type 0 whe
   pub plan : is_idle (before_deciding line a).window ≡ true → is_writing (after_line line a).policy.activity ≡ true
       → length (planned_steps (before_deciding line a).manager) ≤ sets
 
-abbrev pub AllAskLittle : ℕ → ℕ → List Line → Acting → Type 0
-AllAskLittle asked sets [] a = Unit {0}
-AllAskLittle asked sets (line ∷ lines) a = AsksLittle asked sets line a × AllAskLittle asked sets lines (after_line line a)
-
 -- a manager that decides by itself goes on through the lines, by each of which little is asked. It may send each request once
 -- at least, nobody tells it to leave or has told it, and its newest generation fits in 32 bits at first
 pub record HasLittle (asked sets : ℕ) (a : Acting) (lines : List Line) : Type 0 where
@@ -33,7 +29,7 @@ pub record HasLittle (asked sets : ℕ) (a : Acting) (lines : List Line) : Type 
   pub none_leaves : NoneLeaves lines
   pub first : next_in a.manager.sweep ≤ asked
   pub some : 1 ≤ sets
-  pub little : AllAskLittle asked sets lines a
+  pub little : AtEachLine (AsksLittle asked sets) lines a
 
 -- from any moment to a later one, the manager's requests can be late as often as those of `a` can, its Sets that were still to
 -- be sent, those of a plan, and all that a sweep asks

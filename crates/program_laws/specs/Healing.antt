@@ -1,8 +1,7 @@
 -- A manager that decides by itself has its plan written before long, whatever it is about at first, if nothing is lost and
 -- no other master is there. InfiniBand Architecture Specification, Volume 1: subnet management, subnet manager (sweeping),
 -- initialization.
-use Rattle.std.specs.Prelude.{◌≡◌, ◌≤◌, ◌<◌, ◌+◌, ◌*◌, ◌^◌, ℕ, true, false, List, [], ◌∷◌, ◌++◌, Some, None}
-use Rattle.std.specs.List.{list_any}
+use Rattle.std.specs.Prelude.{◌≡◌, ◌≤◌, ◌<◌, ◌+◌, ◌*◌, ◌^◌, ℕ, true, false, List, ◌∷◌, ◌++◌, Some, None}
 use Rattle.lft_blocks.specs.Plan.{PlanValue}
 use Rattle.sm_state.specs.declared.state.SmState.TheVariants.{Master}
 use Rattle.sm_manager.specs.PlanFaults.{writing_fault}
@@ -12,15 +11,15 @@ use Rattle.sm_policy.specs.PolicyLaws.{longest_wait}
 use Rattle.acting_manager.specs.Acting.{Acting}
 use Rattle.acting_manager.specs.Acts.{rival_seen}
 use Rattle.acting_manager.specs.Planned.{planned}
-use Rattle.acting_manager.specs.Working.{after_told, is_idle, is_resting, is_writing}
+use Rattle.acting_manager.specs.Working.{is_idle, is_resting, is_writing}
 use Rattle.program_laws.specs.FreshWork.{works}
 use Rattle.program_laws.specs.ManagedEnds.{StaysAbout}
 use Rattle.program_laws.specs.NextSweep.{HasFewTurns, IsToSweep, begins_sweep}
 use Rattle.program_laws.specs.RestTime.{sweeps_by_itself}
 use Rattle.program_laws.specs.StandingPlans.{KeepsWritten}
-use Rattle.program_laws.specs.Wakes.{ArePrompt, HasDecided, Line, NoneLeaves, after_line, after_lines, before_deciding}
+use Rattle.program_laws.specs.Wakes.{ArePrompt, AtEachLine, HasDecided, Line, NoneLeaves, after_line, after_lines, before_deciding}
 use Rattle.program_laws.specs.Wakes.{longest_turn}
-use Rattle.program_laws.specs.WholeSweeps.{tells_loss, too_far_in}
+use Rattle.program_laws.specs.WholeSweeps.{LosesNone, too_far_in}
 
 -- the manager, whose sweep is over, is to judge its plan, if the sweep has every answer: the manager is master, and saw no
 -- other; no port leads too far, and the manager did not stand still meanwhile; there is a plan, and its writing would not
@@ -37,15 +36,11 @@ pub record SweptWell (a : Acting) : Type 0 where
 -- all goes well when the manager is told a line: it gives no request up; if it rests, it is to sweep; if its sweep is over,
 -- it is to judge its plan; and `writing_so` is so of what it writes
 pub record GoesWellBy (writing_so : Line → Acting → Type 0) (line : Line) (a : Acting) : Type 0 where
-  pub none_lost : list_any tells_loss (after_told line.0 line.1 a).notes ≡ false
+  pub none_lost : LosesNone line a
   pub to_sweep : IsToSweep line a
   pub swept : is_idle (before_deciding line a).window ≡ true → is_sweeping (before_deciding line a).policy.activity ≡ true
       → SweptWell (before_deciding line a)
   pub writes : writing_so line a
-
-abbrev pub AllGoWellBy : (Line → Acting → Type 0) → List Line → Acting → Type 0
-AllGoWellBy writing_so [] a = Unit {0}
-AllGoWellBy writing_so (line ∷ lines) a = GoesWellBy writing_so line a × AllGoWellBy writing_so lines (after_line line a)
 
 -- all goes well for a manager that decides by itself, through the lines. It may send each request once at least, one may be
 -- out, nobody tells it to leave or has told it, its newest generation fits in 32 bits at first, and times fit in 64 bits
@@ -54,7 +49,7 @@ pub record IsUndisturbedBy (writing_so : Line → Acting → Type 0) (n : ℕ) (
   pub generations : decided.newest < 2 ^ 32
   pub none_left : NoneLeaves decided.lines
   pub first : is_resting a.policy.activity ≡ true → is_idle a.window ≡ true → sweeps_by_itself a ≡ true
-  pub well : AllGoWellBy writing_so lines a
+  pub well : AtEachLine (GoesWellBy writing_so) lines a
   pub few : HasFewTurns n lines a
   pub tries : 1 ≤ a.window.limits.tries
   pub outstanding : 1 ≤ a.window.limits.outstanding
@@ -72,7 +67,7 @@ abbrev pub GoesWell : Line → Acting → Type 0
 GoesWell = GoesWellBy EndsWritten
 
 abbrev pub AllGoWell : List Line → Acting → Type 0
-AllGoWell = AllGoWellBy EndsWritten
+AllGoWell = AtEachLine (GoesWellBy EndsWritten)
 
 abbrev pub IsUndisturbed : ℕ → Acting → List Line → Type 0
 IsUndisturbed = IsUndisturbedBy EndsWritten

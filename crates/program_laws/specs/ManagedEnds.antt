@@ -1,6 +1,6 @@
 -- A sweep and a writing of a manager that decides by itself end. InfiniBand Architecture Specification, Volume 1: subnet
 -- management, topology discovery, initialization.
-use Rattle.std.specs.Prelude.{◌≡◌, ◌≤◌, ◌<◌, ◌+◌, ◌^◌, ℕ, Bool, true, false, List, [], ◌∷◌}
+use Rattle.std.specs.Prelude.{◌≡◌, ◌≤◌, ◌<◌, ◌+◌, ◌^◌, ℕ, Bool, true, false, List}
 use Rattle.std.specs.List.{AllByRecursion}
 use Rattle.fabric_sim.specs.Simulation.{fabric_of}
 use Rattle.plan_steps.specs.Planning.{Planning}
@@ -14,13 +14,12 @@ use Rattle.manager_laws.specs.Managing.{Managing, Starts}
 use Rattle.manager_laws.specs.SweepEnds.{most_requests}
 use Rattle.manager_laws.specs.WritingEnds.{IsOver}
 use Rattle.program_laws.specs.Deciding.{CanDecide, Deciding, DecidingEvent, StandsFor, after_deciding_events}
-use Rattle.program_laws.specs.Wakes.{GetsOn, HasDecided, IsNoLeave, Line, NoneLeaves, after_line, before_deciding, next_in}
+use Rattle.program_laws.specs.Wakes.{AtEachLine, GetsOn, HasDecided, IsNoLeave, Line, NoneLeaves, after_line, before_deciding, next_in}
 use Rattle.program_laws.specs.Wakes.{sets_to_come}
 
 -- after each of the lines, what the manager is about passes the test
 abbrev pub StaysAbout : (Activity → Bool) → List Line → Acting → Type 0
-StaysAbout test [] a = Unit {0}
-StaysAbout test (line ∷ lines) a = (test (after_line line a).policy.activity ≡ true) × StaysAbout test lines (after_line line a)
+StaysAbout test = AtEachLine (λ line a. test (after_line line a).policy.activity ≡ true)
 
 -- let a manager that decides by itself sweep. As long as it sweeps, whatever it is told, it gets on with its requests
 -- (`GetsOn`): after so many wakes the sweep is over. It may send each request once at least, one may be out, and nobody

@@ -35,6 +35,11 @@ abbrev pub after_lines : List Line → Acting → Acting
 after_lines [] a = a
 after_lines (line ∷ lines) a = after_lines lines (after_line line a)
 
+-- each line, and the manager that is told it, are as `IsSo` says
+abbrev pub AtEachLine : (Line → Acting → Type 0) → List Line → Acting → Type 0
+AtEachLine IsSo [] a = Unit {0}
+AtEachLine IsSo (line ∷ lines) a = IsSo line a × AtEachLine IsSo lines (after_line line a)
+
 -- `a` is what a new manager that decides by itself is after some lines
 pub record HasDecided (a : Acting) : Type 0 where
   pub port_guid : ℕ
@@ -89,8 +94,7 @@ before_deciding line a = caught_up (all_overdue (stopped (caught_up (taken line.
 
 -- after each line some request waits for its turn or is out, so that the manager decides nothing
 abbrev pub StaysBusy : List Line → Acting → Type 0
-StaysBusy [] a = Unit {0}
-StaysBusy (line ∷ lines) a = (is_idle (before_deciding line a).window ≡ false) × StaysBusy lines (after_line line a)
+StaysBusy = AtEachLine (λ line a. is_idle (before_deciding line a).window ≡ false)
 
 -- what has to end -----------------------------------------------------------------------------------------
 
@@ -155,8 +159,7 @@ IsBy late time (Some wake) = time ≤ wake + late
 
 -- no line comes more than `late` milliseconds after the time for which the manager asked
 abbrev pub ArePrompt : ℕ → List Line → Acting → Type 0
-ArePrompt late [] a = Unit {0}
-ArePrompt late (line ∷ lines) a = IsBy late line.0 (wake_of a) × ArePrompt late lines (after_line line a)
+ArePrompt late = AtEachLine (λ line a. IsBy late line.0 (wake_of a))
 
 -- the longest time in milliseconds until something of what is left ends: until a request is late, and the manager is
 -- told so

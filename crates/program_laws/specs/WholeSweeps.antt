@@ -11,18 +11,20 @@ use Rattle.acting_manager.specs.declared.note.Note.{Note}
 use Rattle.acting_manager.specs.declared.note.Note.TheVariants.{GivenUp}
 use Rattle.program_laws.specs.ManagedEnds.{StaysAbout}
 use Rattle.program_laws.specs.NextSweep.{begins_sweep}
-use Rattle.program_laws.specs.Wakes.{HasDecided, IsNoLeave, Line, NoneLeaves, after_line, after_lines, before_deciding}
+use Rattle.program_laws.specs.Wakes.{AtEachLine, HasDecided, IsNoLeave, Line, NoneLeaves, after_line, after_lines, before_deciding}
 
 -- whether a note tells that a request has no answer, or one that it refuses
 abbrev pub tells_loss : Note → Bool
 tells_loss (GivenUp packet) = true
 tells_loss note = false
 
--- by none of the lines the manager notes that it gave up a request
+-- by the line the manager notes no request that it gave up
+abbrev pub LosesNone : Line → Acting → Type 0
+LosesNone line a = list_any tells_loss (after_told line.0 line.1 a).notes ≡ false
+
+-- so it is of each of the lines
 abbrev pub NothingGivenUp : List Line → Acting → Type 0
-NothingGivenUp [] a = Unit {0}
-NothingGivenUp (line ∷ lines) a =
-    (list_any tells_loss (after_told line.0 line.1 a).notes ≡ false) × NothingGivenUp lines (after_line line a)
+NothingGivenUp = AtEachLine LosesNone
 
 -- the number of ports that lead too far for the sweep; 0 if there is no sweep
 abbrev pub too_far_in : Option Sweep → ℕ

@@ -10,9 +10,9 @@ use Rattle.request_window.specs.declared.limits.Limits.{Limits}
 use Rattle.acting_manager.specs.Acting.{Acting}
 use Rattle.acting_manager.specs.Acts.{floor_raised}
 use Rattle.acting_manager.specs.Working.{is_idle, is_resting, pause}
-use Rattle.program_laws.specs.Alone.{IsNoWord, StaysAlone}
+use Rattle.program_laws.specs.Alone.{HearsNobody, IsNoWord}
 use Rattle.program_laws.specs.NextSweep.{HasFewTurns}
-use Rattle.program_laws.specs.Wakes.{ArePrompt, Line, NoneLeaves, after_line, after_lines, before_deciding}
+use Rattle.program_laws.specs.Wakes.{ArePrompt, AtEachLine, Line, NoneLeaves, after_line, after_lines, before_deciding}
 use Rattle.program_laws.proofs.alone.Hearing.{is_awake}
 use Rattle.program_laws.proofs.alone.InfoOnly.{InfoOnly, lived_info}
 use Rattle.program_laws.proofs.alone.Needs.{IsRest}
@@ -28,6 +28,7 @@ use Rattle.program_laws.proofs.wakes.FreshWork.{GoesOn, goes_first, goes_later}
 use Rattle.program_laws.proofs.wakes.InTime.{a_line_soon, has_soon}
 use Rattle.program_laws.proofs.wakes.News.{has_news, times_rise}
 use Rattle.program_laws.proofs.wakes.NextSweep.{few_later, has_more, none_first, prompt_later, same_limits}
+use Rattle.program_laws.proofs.wakes.Lines.{so_later}
 
 pub record IsCalm (n late : ℕ) (timing : Timing) (limits : Limits) (lines : List Line) (a : Acting) : Type 0 where
   pub goes : GoesOn a lines
@@ -35,15 +36,11 @@ pub record IsCalm (n late : ℕ) (timing : Timing) (limits : Limits) (lines : Li
   pub none_left : NoneLeaves goes.decided.lines
   pub timing_is : goes.decided.timing ≡ timing
   pub limits_is : a.window.limits ≡ limits
-  pub alone : StaysAlone lines a
+  pub alone : AtEachLine HearsNobody lines a
   pub few : HasFewTurns n lines a
   pub prompt : ArePrompt late lines a
   pub time : (after_lines lines a).time < 2 ^ 64
   pub short : late ≤ pause
-
-alone_later : (some rest : List Line) (a : Acting) → StaysAlone (some ++ rest) a → StaysAlone rest (after_lines some a)
-alone_later [] rest a alone = alone
-alone_later (line ∷ some) rest a alone = alone_later some rest (after_line line a) alone.1
 
 module _ (n late : ℕ) (timing : Timing) (limits : Limits) where
   abbrev Calm : List Line → Acting → Type 0
@@ -65,7 +62,7 @@ module _ (n late : ℕ) (timing : Timing) (limits : Limits) where
         none_left = none_both c.goes.decided.lines some c.none_left (none_first some rest c.goes.none_leaves);
         timing_is = c.timing_is;
         limits_is = same_limits some a c.goes.decided ∙ c.limits_is;
-        alone = alone_later some rest a c.alone;
+        alone = so_later HearsNobody some rest a c.alone;
         few = few_later n some rest a c.few;
         prompt = prompt_later late some rest a c.prompt;
         time = subst (λ (b : Acting). b.time < 2 ^ 64) (lines_both some rest a) c.time;

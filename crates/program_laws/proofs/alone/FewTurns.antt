@@ -33,8 +33,8 @@ use Rattle.acting_manager.specs.Planned.{comparison_of, planned}
 use Rattle.acting_manager.specs.Working.{given_away, is_idle, is_writing, sent}
 use Rattle.acting_manager.specs.declared.note.Note.TheVariants.{Swept, Wrote}
 use Rattle.manager_laws.specs.WritingEnds.{steps_to_come}
-use Rattle.program_laws.specs.FewTurns.{AllAskLittle, AsksLittle, TurnsAreFew}
-use Rattle.program_laws.specs.Wakes.{HasDecided, Line, NoneLeaves, after_line, after_lines, before_deciding, chances_in, chances_out, controls_in, next_in, sets_to_come}
+use Rattle.program_laws.specs.FewTurns.{AsksLittle, TurnsAreFew}
+use Rattle.program_laws.specs.Wakes.{AtEachLine, HasDecided, Line, NoneLeaves, after_line, after_lines, before_deciding, chances_in, chances_out, controls_in, next_in, sets_to_come}
 use Rattle.program_laws.proofs.lasting.Answered.{none_both}
 use Rattle.program_laws.proofs.wakes.Awaited.{writings_lose_nothing}
 use Rattle.program_laws.proofs.wakes.Chances.{load}
@@ -46,6 +46,7 @@ use Rattle.program_laws.proofs.wakes.Sending.{only_sends}
 use Rattle.program_laws.proofs.wakes.Settled.{has_settled, settled_given}
 use Rattle.program_laws.proofs.wakes.Waking.{Falls, any_falls, looked_manager}
 use Rattle.program_laws.proofs.wakes.Writing.{acted_writes, idle_load, plan_sent}
+use Rattle.program_laws.proofs.wakes.Lines.{so_later}
 
 -- decisions that write nothing --------------------------------------------------------------------------------------------------
 
@@ -297,7 +298,7 @@ module _ (asked sets top : ℕ) (limits : Limits) (tries : 1 ≤ limits.tries) (
   -- lines -------------------------------------------------------------------------------------------------------------------------
 
   lines_little : (some_lines rest : List Line) (a : Acting) (h : HasDecided a) → h.newest < 2 ^ 32 → NoneLeaves h.lines → a.window.limits ≡ limits
-      → a.is_leaving ≡ false → NoneLeaves (some_lines ++ rest) → AllAskLittle asked sets (some_lines ++ rest) a → IsLittle a
+      → a.is_leaving ≡ false → NoneLeaves (some_lines ++ rest) → AtEachLine (AsksLittle asked sets) (some_lines ++ rest) a → IsLittle a
       → IsLittle (after_lines some_lines a)
   lines_little [] rest a h generations none_left same stays_on remains all little = little
   lines_little (line ∷ some_lines) rest a h generations none_left same stays_on remains all little =
@@ -307,17 +308,14 @@ module _ (asked sets top : ℕ) (limits : Limits) (tries : 1 ≤ limits.tries) (
       (line_stays line a h (subst (λ (l : Limits). 1 ≤ l.tries) (sym same) tries) stays_on (remains.0, tt)) remains.1 all.1
       (line_little line a h generations none_left same stays_on (remains.0, tt) all.0 little)
 
-next_few : (asked sets : ℕ) (some rest : List Line) (a : Acting) → AllAskLittle asked sets (some ++ rest) a → next_in a.manager.sweep ≤ asked
+next_few : (asked sets : ℕ) (some rest : List Line) (a : Acting) → AtEachLine (AsksLittle asked sets) (some ++ rest) a → next_in a.manager.sweep ≤ asked
     → next_in (after_lines some a).manager.sweep ≤ asked
 next_few asked sets [] rest a all first = first
 next_few asked sets (line ∷ some) rest a all first = next_few asked sets some rest (after_line line a) all.1 all.0.few
 
-all_later : (asked sets : ℕ) (some rest : List Line) (a : Acting) → AllAskLittle asked sets (some ++ rest) a
-    → AllAskLittle asked sets rest (after_lines some a)
-all_later asked sets [] rest a all = all
-all_later asked sets (line ∷ some) rest a all = all_later asked sets some rest (after_line line a) all.1
 
-no_controls : (asked sets : ℕ) (some rest : List Line) (a : Acting) → AllAskLittle asked sets (some ++ rest) a → controls_in some ≡ 0
+
+no_controls : (asked sets : ℕ) (some rest : List Line) (a : Acting) → AtEachLine (AsksLittle asked sets) (some ++ rest) a → controls_in some ≡ 0
 no_controls asked sets [] rest a all = refl
 no_controls asked sets (line ∷ some) rest a all =
     let here = all.0.no_control in
@@ -328,13 +326,13 @@ pub turns_are_few : TurnsAreFew
 turns_are_few asked sets a lines r first some rest are =
     let limits = a.window.limits in
     let top = chances_in a.window + limits.tries * (sets_to_come a.manager + sets) in
-    let all = subst (λ ls. AllAskLittle asked sets ls a) are r.little in
+    let all = subst (λ ls. AtEachLine (AsksLittle asked sets) ls a) are r.little in
     let b = after_lines first a in
     let little = lines_little asked sets top limits r.tries r.some (few_sets limits.tries sets (sets_to_come a.manager) (chances_in a.window)) first (some ++ rest) a
     r.decided r.generations r.none_left refl r.stays_on (subst NoneLeaves are r.none_leaves) all
     (at_first limits.tries (chances_in a.window) (requests_in a.manager.outgoing) (sets_to_come a.manager) sets (next_in a.manager.sweep)
     (ap requests_in (has_settled a r.decided).given)) in
-    let here = all_later asked sets first (some ++ rest) a all in
+    let here = so_later (AsksLittle asked sets) first (some ++ rest) a all in
     let same = same_limits first a r.decided in
     few_then limits.tries (load limits b.window) (requests_in b.manager.outgoing) (sets_to_come b.manager) (next_in b.manager.sweep)
     (next_in (after_lines some b).manager.sweep) (controls_in some) asked (chances_in a.window) (sets_to_come a.manager) sets (chances_in b.window)

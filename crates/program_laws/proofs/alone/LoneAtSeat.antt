@@ -10,13 +10,13 @@ use Rattle.acting_manager.specs.Working.{pause}
 use Rattle.program_laws.specs.AnsweredWritings.{KeepsWriting}
 use Rattle.program_laws.specs.Deciding.{CanDecide, Deciding, DecidingEvent, after_deciding_event, after_deciding_events}
 use Rattle.program_laws.specs.HealingAtSeat.{ServesAt}
-use Rattle.program_laws.specs.LoneHealing.{IsLoneAt, LoneManagersHealAtSeat, LosesNoSet, StaysFree}
+use Rattle.program_laws.specs.LoneHealing.{HasRoomWhenSwept, IsLoneAt, LoneManagersHealAtSeat, KeepsSets}
 use Rattle.program_laws.specs.SweepTime.{line_by, lines_of}
 use Rattle.program_laws.specs.WholeSweeps.{SweepsAreWhole}
-use Rattle.program_laws.specs.Wakes.{ArePrompt, Line, after_line, after_lines, longest_turn}
+use Rattle.program_laws.specs.Wakes.{ArePrompt, AtEachLine, Line, after_line, after_lines, longest_turn}
 use Rattle.program_laws.proofs.alone.Calm.{IsCalm, calm_later}
 use Rattle.program_laws.proofs.alone.Leading.{found_in_time, lone_calm}
-use Rattle.program_laws.proofs.alone.LoneHealing.{AllSo, all_keep_writing, free_later, in_time, too_soon, undisturbed, whole_later}
+use Rattle.program_laws.proofs.alone.LoneHealing.{all_keep_writing, in_time, too_soon, undisturbed, whole_later}
 use Rattle.program_laws.proofs.alone.Needs.{IsLed}
 use Rattle.program_laws.proofs.alone.Runs.{Found}
 use Rattle.program_laws.proofs.alone.Voids.{KeepsOn}
@@ -26,6 +26,7 @@ use Rattle.program_laws.proofs.lasting.Healing.{IsUndisturbedSo}
 use Rattle.program_laws.proofs.lasting.HealingAtSeat.{WritesOn, so_serves}
 use Rattle.program_laws.proofs.managed.Moves.{both, first_of, later_of}
 use Rattle.program_laws.proofs.wakes.AtSeats.{events_acting, events_both}
+use Rattle.program_laws.proofs.wakes.Lines.{so_later}
 
 -- the events that tell some lines ----------------------------------------------------------------------------------------------------
 
@@ -68,11 +69,7 @@ events_at (event ∷ events) d (line ∷ some) rest e =
 
 -- serving soon -------------------------------------------------------------------------------------------------------------------------
 
-none_later : (some rest : List Line) (a : Acting) → LosesNoSet (some ++ rest) a → LosesNoSet rest (after_lines some a)
-none_later [] rest a none = none
-none_later (line ∷ some) rest a none = none_later some rest (after_line line a) none.1
-
-all_write : (lines : List Line) (a : Acting) → AllSo KeepsWriting lines a → LosesNoSet lines a → AllSo WritesOn lines a
+all_write : (lines : List Line) (a : Acting) → AtEachLine KeepsWriting lines a → AtEachLine KeepsSets lines a → AtEachLine WritesOn lines a
 all_write [] a keep none = tt
 all_write (line ∷ lines) a keep none = ((keep.0, none.0), all_write lines (after_line line a) keep.1 none.1)
 
@@ -85,15 +82,15 @@ record IsQuietBy (n late by : ℕ) (timing : Timing) (limits : Limits) (lines : 
   soon : a.time ≤ by
 
 quiet_then : (n late by : ℕ) (timing : Timing) (limits : Limits) (first rest : List Line) (a : Acting) → IsCalm n late timing limits (first ++ rest) a
-    → SweepsAreWhole (first ++ rest) a → StaysFree (first ++ rest) a → LosesNoSet (first ++ rest) a
+    → SweepsAreWhole (first ++ rest) a → AtEachLine HasRoomWhenSwept (first ++ rest) a → AtEachLine KeepsSets (first ++ rest) a
     → IsLed (after_lines first a).manager (after_lines first a).policy → KeepsOn (after_lines first a)
     → (after_lines first a).time ≤ by → IsQuietBy n late by timing limits rest (after_lines first a)
 quiet_then n late by timing limits first rest a c whole free none led keeps soon =
     let b = after_lines first a in
     let v = calm_later n late timing limits first rest a c in
     record {
-      undisturbed = undisturbed n late timing limits WritesOn rest b v (whole_later first rest a whole) (free_later first rest a free)
-          (all_write rest b (all_keep_writing n late timing limits rest b v led keeps) (none_later first rest a none)) led;
+      undisturbed = undisturbed n late timing limits WritesOn rest b v (whole_later first rest a whole) (so_later HasRoomWhenSwept first rest a free)
+          (all_write rest b (all_keep_writing n late timing limits rest b v led keeps) (so_later KeepsSets first rest a none)) led;
       timing_is = v.timing_is;
       limits_is = v.limits_is;
       prompt = v.prompt;
@@ -141,8 +138,8 @@ module _ (n : ℕ) (d : Deciding) (before events : List DecidingEvent) (r : IsLo
         (subst (IsQuietBy n late by r.lone.decided.timing a.window.limits (lines_of at.later now)) (sym (events_acting at.first start))
         (quiet_then n late by r.lone.decided.timing a.window.limits (lines_of at.first start) (lines_of at.later now) a
         (subst (λ ls. IsCalm n late r.lone.decided.timing a.window.limits ls a) lines_are (lone_calm n late a (lines_of events start) r.lone short prompt))
-        (subst (λ ls. SweepsAreWhole ls a) lines_are r.whole) (subst (λ ls. StaysFree ls a) lines_are r.free)
-        (subst (λ ls. LosesNoSet ls a) lines_are r.none_lost)
+        (subst (λ ls. SweepsAreWhole ls a) lines_are r.whole) (subst (λ ls. AtEachLine HasRoomWhenSwept ls a) lines_are r.free)
+        (subst (λ ls. AtEachLine KeepsSets ls a) lines_are r.none_lost)
         (subst (λ (b : Acting). IsLed b.manager b.policy) first_is f.led) (subst KeepsOn first_is f.keeps_on)
         (subst (λ (b : Acting). b.time ≤ by) first_is f.soon)))
 

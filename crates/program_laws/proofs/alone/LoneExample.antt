@@ -26,14 +26,14 @@ use Rattle.acting_manager.specs.Acts.{floor_raised, is_whole, judging_of}
 use Rattle.acting_manager.specs.Working.{Told, is_idle, is_resting, is_writing, wake_of}
 use Rattle.manager_laws.specs.WritingEnds.{planned_steps, steps_of}
 use Rattle.manager_laws.proofs.Computed.{sweep_in}
-use Rattle.program_laws.specs.Alone.{IsAlone, IsLone, IsNoWord, StaysAlone}
-use Rattle.program_laws.specs.FewTurns.{AllAskLittle, AsksLittle}
+use Rattle.program_laws.specs.Alone.{HearsNobody, IsLone, IsNoWord}
+use Rattle.program_laws.specs.FewTurns.{AsksLittle}
 use Rattle.program_laws.specs.Healing.{EndsWritten}
 use Rattle.program_laws.specs.Leading.{SomeLoneManagerLeads}
-use Rattle.program_laws.specs.LoneHealing.{AllEndWritten, HasRoom, IsFree, SomeLoneManagerHeals, StaysFree}
+use Rattle.program_laws.specs.LoneHealing.{HasRoom, HasRoomWhenSwept, SomeLoneManagerHeals}
 use Rattle.program_laws.specs.ManagedEnds.{StaysAbout}
 use Rattle.program_laws.specs.NextSweep.{HasFewTurns, begins_sweep}
-use Rattle.program_laws.specs.Wakes.{ArePrompt, IsBy, IsNoLeave, HasDecided, Line, NoneLeaves, after_line, after_lines, before_deciding}
+use Rattle.program_laws.specs.Wakes.{ArePrompt, AtEachLine, HasDecided, IsBy, IsNoLeave, Line, NoneLeaves, after_line, after_lines, before_deciding}
 use Rattle.program_laws.specs.Wakes.{control_in, next_in, sets_to_come}
 use Rattle.program_laws.specs.WholeSweeps.{SweepsAreWhole}
 use Rattle.program_laws.proofs.alone.FewTurns.{turns_are_few}
@@ -51,11 +51,11 @@ use Rattle.program_laws.proofs.lasting.LoneSweeps.{phases_so, over_so}
 record GoodLine (line : Line) (a : Acting) : Type 0 where
   prompt : IsBy 0 line.0 (wake_of a)
   stays : IsNoLeave line.1
-  alone : IsAlone line a
+  alone : HearsNobody line a
   little : AsksLittle 3 1 line a
   whole : is_sweeping a.policy.activity ≡ true → is_idle (before_deciding line a).window ≡ true
       → is_whole (before_deciding line a).manager ≡ true
-  free : IsFree line a
+  free : HasRoomWhenSwept line a
   ends : EndsWritten line a
 
 -- each line is good, and the last one comes at `time`
@@ -68,19 +68,19 @@ module _ (time : ℕ) where
   its_prompt [] a g = tt
   its_prompt (line ∷ lines) a g = (g.0.prompt, its_prompt lines (after_line line a) g.1)
 
-  its_alone : (lines : List Line) (a : Acting) → Goes time lines a → StaysAlone lines a
+  its_alone : (lines : List Line) (a : Acting) → Goes time lines a → AtEachLine HearsNobody lines a
   its_alone [] a g = tt
   its_alone (line ∷ lines) a g = (g.0.alone, its_alone lines (after_line line a) g.1)
 
-  its_little : (lines : List Line) (a : Acting) → Goes time lines a → AllAskLittle 3 1 lines a
+  its_little : (lines : List Line) (a : Acting) → Goes time lines a → AtEachLine (AsksLittle 3 1) lines a
   its_little [] a g = tt
   its_little (line ∷ lines) a g = (g.0.little, its_little lines (after_line line a) g.1)
 
-  its_free : (lines : List Line) (a : Acting) → Goes time lines a → StaysFree lines a
+  its_free : (lines : List Line) (a : Acting) → Goes time lines a → AtEachLine HasRoomWhenSwept lines a
   its_free [] a g = tt
   its_free (line ∷ lines) a g = (g.0.free, its_free lines (after_line line a) g.1)
 
-  its_ends : (lines : List Line) (a : Acting) → Goes time lines a → AllEndWritten lines a
+  its_ends : (lines : List Line) (a : Acting) → Goes time lines a → AtEachLine EndsWritten lines a
   its_ends [] a g = tt
   its_ends (line ∷ lines) a g = (g.0.ends, its_ends lines (after_line line a) g.1)
 

@@ -26,13 +26,13 @@ use Rattle.acting_manager.specs.Working.{is_given_up, is_idle, is_writing, taken
 use Rattle.program_laws.specs.AnsweredWritings.{KeepsWriting}
 use Rattle.program_laws.specs.FreshWork.{works}
 use Rattle.program_laws.specs.Healing.{EndsWritten, Heals}
-use Rattle.program_laws.specs.LoneHealing.{AllEndWritten, HasRoom, IsFree, LoneManagersHeal, StaysFree}
+use Rattle.program_laws.specs.LoneHealing.{HasRoom, HasRoomWhenSwept, LoneManagersHeal}
 use Rattle.program_laws.specs.ManagedEnds.{StaysAbout}
 use Rattle.program_laws.specs.NextSweep.{begins_sweep}
 use Rattle.program_laws.specs.RestTime.{sweeps_in}
 use Rattle.program_laws.specs.StandingPlans.{KeepsWritten}
 use Rattle.program_laws.specs.WholeSweeps.{SweepsAreWhole}
-use Rattle.program_laws.specs.Wakes.{Line, after_line, after_lines, before_deciding, longest_turn}
+use Rattle.program_laws.specs.Wakes.{AtEachLine, Line, after_line, after_lines, before_deciding, longest_turn}
 use Rattle.program_laws.proofs.alone.Acts.{line_led}
 use Rattle.program_laws.proofs.alone.Calm.{IsCalm, calm_later, calm_line, info_is, line_awake, line_goes, line_quiet, may_begin, over_then}
 use Rattle.program_laws.proofs.alone.InfoOnly.{InfoOnly}
@@ -42,15 +42,12 @@ use Rattle.program_laws.proofs.alone.Quiet.{LastsQuietly, hears_quietly, lasts_q
 use Rattle.program_laws.proofs.alone.Steady.{knows_then}
 use Rattle.program_laws.proofs.alone.SweepEnds.{saw_none}
 use Rattle.program_laws.proofs.alone.Voids.{KeepsOn, heard_void, line_keeps_on}
-use Rattle.program_laws.proofs.lasting.Healing.{AllGoOnBy, GoesOnBy, IsUndisturbedSo, so_heals}
+use Rattle.program_laws.proofs.lasting.Healing.{GoesOnBy, IsUndisturbedSo, so_heals}
 use Rattle.program_laws.proofs.wakes.AtSeats.{lines_both}
 use Rattle.program_laws.proofs.wakes.Awaited.{writings_lose_nothing}
 use Rattle.program_laws.proofs.wakes.FreshWork.{GoesOn}
 use Rattle.program_laws.proofs.wakes.Load.{moved_about}
-
-pub free_later : (some rest : List Line) (a : Acting) → StaysFree (some ++ rest) a → StaysFree rest (after_lines some a)
-free_later [] rest a free = free
-free_later (line ∷ some) rest a free = free_later some rest (after_line line a) free.1
+use Rattle.program_laws.proofs.wakes.Lines.{so_later}
 
 pub whole_later : (some rest : List Line) (a : Acting) → SweepsAreWhole (some ++ rest) a → SweepsAreWhole rest (after_lines some a)
 whole_later some rest a whole before begins during ends after are =
@@ -60,19 +57,6 @@ whole_later some rest a whole before begins during ends after are =
     (lines_both some before a)
     (whole (some ++ before) begins during ends after
     (ap (λ ls. some ++ ls) are ∙ sym (append_assoc some before (begins ∷ (during ++ ends ∷ after)))))
-
--- it is so at each line
-abbrev pub AllSo : (Line → Acting → Type 0) → List Line → Acting → Type 0
-AllSo Writes [] a = Unit {0}
-AllSo Writes (line ∷ lines) a = Writes line a × AllSo Writes lines (after_line line a)
-
-all_later : (Writes : Line → Acting → Type 0) (some rest : List Line) (a : Acting) → AllSo Writes (some ++ rest) a → AllSo Writes rest (after_lines some a)
-all_later Writes [] rest a all = all
-all_later Writes (line ∷ some) rest a all = all_later Writes some rest (after_line line a) all.1
-
-all_written : (lines : List Line) (a : Acting) → AllEndWritten lines a → AllSo EndsWritten lines a
-all_written [] a all = tt
-all_written (line ∷ lines) a all = (all.0, all_written lines (after_line line a) all.1)
 
 -- what the manager is about stays the same until it decides
 about_lasts : (what : Activity) → LastsQuietly (λ m p. p.activity ≡ what)
@@ -133,7 +117,7 @@ module _ (n late : ℕ) (timing : Timing) (limits : Limits) where
     itself d e = ap (λ s. sweeps_in s d.policy.master) e
 
     -- all goes well for it
-    goes_well : (Writes : Line → Acting → Type 0) → IsFree line a → Writes line a → GoesOnBy Writes line a
+    goes_well : (Writes : Line → Acting → Type 0) → HasRoomWhenSwept line a → Writes line a → GoesOnBy Writes line a
     goes_well Writes free so =
         record {
           to_sweep = record {
@@ -188,15 +172,15 @@ module _ (n late : ℕ) (timing : Timing) (limits : Limits) where
         by_writing true e =
             (λ i. e i && ((void ∙ keeps (ap is_writing (sym about) ∙ e)) i || not (is_master (master i))))
 
-  pub all_go_well : (Writes : Line → Acting → Type 0) (lines : List Line) (a : Acting) → Calm lines a → StaysFree lines a → AllSo Writes lines a
-      → IsLed a.manager a.policy → AllGoOnBy Writes lines a
+  pub all_go_well : (Writes : Line → Acting → Type 0) (lines : List Line) (a : Acting) → Calm lines a → AtEachLine HasRoomWhenSwept lines a → AtEachLine Writes lines a
+      → IsLed a.manager a.policy → AtEachLine (GoesOnBy Writes) lines a
   all_go_well Writes [] a c free all led = tt
   all_go_well Writes (line ∷ rest) a c free all led = (
     goes_well line rest a c led Writes free.0 all.0,
     all_go_well Writes rest (after_line line a) (calm_line n late timing limits line rest a c) free.1 all.1 (led_b line rest a c led),
   )
 
-  pub all_keep_writing : (lines : List Line) (a : Acting) → Calm lines a → IsLed a.manager a.policy → KeepsOn a → AllSo KeepsWriting lines a
+  pub all_keep_writing : (lines : List Line) (a : Acting) → Calm lines a → IsLed a.manager a.policy → KeepsOn a → AtEachLine KeepsWriting lines a
   all_keep_writing [] a c led keeps = tt
   all_keep_writing (line ∷ rest) a c led keeps = (
     keeps_writing line rest a c led keeps,
@@ -205,8 +189,8 @@ module _ (n late : ℕ) (timing : Timing) (limits : Limits) where
   )
 
   -- from then on nothing disturbs it
-  abbrev pub undisturbed : (Writes : Line → Acting → Type 0) (lines : List Line) (a : Acting) → Calm lines a → SweepsAreWhole lines a → StaysFree lines a
-      → AllSo Writes lines a → IsLed a.manager a.policy → IsUndisturbedSo Writes n a lines
+  abbrev pub undisturbed : (Writes : Line → Acting → Type 0) (lines : List Line) (a : Acting) → Calm lines a → SweepsAreWhole lines a → AtEachLine HasRoomWhenSwept lines a
+      → AtEachLine Writes lines a → IsLed a.manager a.policy → IsUndisturbedSo Writes n a lines
   undisturbed Writes lines a c whole free all led =
       record {
         decided = c.goes.decided;
@@ -262,8 +246,8 @@ lone_managers_heal n a lines r whole free written late short prompt long =
           (subst (λ ls. IsCalm n late timing limits ls a) f.are (lone_calm n late a lines r short prompt)) in
           let w = undisturbed n late timing limits EndsWritten f.later b c
           (whole_later f.first f.later a (subst (λ ls. SweepsAreWhole ls a) f.are whole))
-          (free_later f.first f.later a (subst (λ ls. StaysFree ls a) f.are free))
-          (all_later EndsWritten f.first f.later a (subst (λ ls. AllSo EndsWritten ls a) f.are (all_written lines a written))) f.led in
+          (so_later HasRoomWhenSwept f.first f.later a (subst (λ ls. AtEachLine HasRoomWhenSwept ls a) f.are free))
+          (so_later EndsWritten f.first f.later a (subst (λ ls. AtEachLine EndsWritten ls a) f.are written)) f.led in
           heals_later f.first f.later lines a f.are
           (so_heals n b f.later w late c.prompt
           (in_time a.time b.time (after_lines lines a).time (after_lines f.later b).time n (longest_wait timing) (longest_turn late limits)

@@ -19,14 +19,14 @@ use Rattle.manager_laws.specs.Sets.{OwnSets}
 use Rattle.manager_laws.specs.Written.{AllKeep, Keeps, at_end, own_sets, plan_at}
 use Rattle.manager_laws.proofs.own_sets.Answered.{answers_are_done}
 use Rattle.program_laws.specs.AnsweredPings.{WritesManaged}
-use Rattle.program_laws.specs.AnsweredWritings.{AllAnswerWell, AnswersWell, NoWritingGivenUp}
+use Rattle.program_laws.specs.AnsweredWritings.{AllAnswerWell, AnswersWell, KeepsWriting}
 use Rattle.program_laws.specs.Deciding.{Around, CanDecide, Deciding, DecidingEvent, Hear, IsNoPacket, Send, StandsFor, Tell}
 use Rattle.program_laws.specs.Deciding.{after_deciding_event, after_deciding_events}
 use Rattle.program_laws.specs.ManagedEnds.{StaysAbout}
 use Rattle.program_laws.specs.ManagedPings.{AllKeepManaged, managed_at_end, managed_at_writing}
 use Rattle.program_laws.specs.ManagedWritings.{managing_of}
 use Rattle.program_laws.specs.SweepTime.{line_by, line_heard, lines_of}
-use Rattle.program_laws.specs.Wakes.{HasDecided, Line, NoneLeaves, after_line, after_lines}
+use Rattle.program_laws.specs.Wakes.{AtEachLine, HasDecided, Line, NoneLeaves, after_line, after_lines}
 use Rattle.program_laws.specs.WholeSweeps.{NothingGivenUp}
 use Rattle.program_laws.proofs.lasting.AnsweredWritings.{answered_writings_are_written}
 use Rattle.program_laws.proofs.lasting.Counted.{still_written}
@@ -37,6 +37,7 @@ use Rattle.program_laws.proofs.managed.Pinged.{ends as stands_in_end, its_sweep,
 use Rattle.program_laws.proofs.managed.Staged.{seat_stays, seats_stay}
 use Rattle.program_laws.proofs.wakes.AtSeats.{event_acting, events_acting, events_both}
 use Rattle.program_laws.proofs.wakes.NextSweep.{about_last, none_first, none_later}
+use Rattle.program_laws.proofs.wakes.Lines.{so_both}
 
 -- a part of a run -----------------------------------------------------------------------------------------------------------
 
@@ -99,10 +100,6 @@ module _ (d : Deciding) (before : List DecidingEvent) (begins : DecidingEvent) w
     event_well (Hear time which) can = handed_well time which (slice_get at.scene.handed which) refl
     event_well (Send which) can = tt
 
-  both_well : (lines more : List Line) (a : Acting) → AllAnswerWell lines a → AllAnswerWell more (after_lines lines a) → AllAnswerWell (lines ++ more) a
-  both_well [] more a first later = later
-  both_well (line ∷ lines) more a first later = (first.0, both_well lines more (after_line line a) first.1 later)
-
   all_well : (some rest : List DecidingEvent) → WritesManaged d before begins (some ++ rest)
       → AllAnswerWell (lines_of rest (after_deciding_events some now)) (after_deciding_events some now).acting
   all_well some [] b = tt
@@ -111,7 +108,7 @@ module _ (d : Deciding) (before : List DecidingEvent) (begins : DecidingEvent) w
       let next = after_deciding_event at event in
       let later = all_well (some ++ event ∷ []) rest
       (subst (WritesManaged d before begins) (sym (append_assoc some (event ∷ []) rest)) b) in
-      both_well (line_by at event) (lines_of rest next) at.acting
+      so_both (λ line a. AnswersWell line.1 a.manager) (line_by at event) (lines_of rest next) at.acting
       (event_well some (first_part d before begins some (event ∷ rest) b) event (later_of (CanDecide d.seat) some (event ∷ rest) b.after_can).0)
       (subst (AllAnswerWell (lines_of rest next)) (event_acting at event)
       (subst (λ (y : Deciding). AllAnswerWell (lines_of rest y) y.acting) (events_both some (event ∷ []) now) later))
@@ -122,7 +119,7 @@ module _ (d : Deciding) (before : List DecidingEvent) (begins : DecidingEvent) w
       (decided : HasDecided (after_deciding_events before d).acting) (generations : decided.newest < 2 ^ 32) (none_left : NoneLeaves decided.lines)
       (none_leaves : NoneLeaves (lines_of (begins ∷ (during ++ ends ∷ [])) (after_deciding_events before d)))
       (none_lost : NothingGivenUp (lines_of (during ++ ends ∷ []) now) now.acting)
-      (kept_on : NoWritingGivenUp (lines_of (during ++ ends ∷ []) now) now.acting)
+      (kept_on : AtEachLine KeepsWriting (lines_of (during ++ ends ∷ []) now) now.acting)
       (goes_on : StaysAbout is_writing (lines_of during now) now.acting)
       (over : is_writing (managed_at_end d before begins (during ++ ends ∷ [])).acting.policy.activity ≡ false) where
     abbrev first : Deciding
@@ -205,7 +202,7 @@ module _ (d : Deciding) (before : List DecidingEvent) (begins : DecidingEvent) w
           over = ap (λ (a : Acting). is_writing a.policy.activity) end_is ∙ over;
         })
         (subst (λ ls. NothingGivenUp ls now.acting) lines_are none_lost)
-        (subst (λ ls. NoWritingGivenUp ls now.acting) lines_are kept_on)
+        (subst (λ ls. AtEachLine KeepsWriting ls now.acting) lines_are kept_on)
         (subst (λ ls. AllAnswerWell ls now.acting) lines_are (all_well [] (during ++ ends ∷ []) b)))
 
 -- what is written stays so ------------------------------------------------------------------------------------------------------

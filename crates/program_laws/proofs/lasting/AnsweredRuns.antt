@@ -16,7 +16,7 @@ use Rattle.program_laws.specs.ManagedPings.{managed_at_end, managed_at_writing}
 use Rattle.program_laws.specs.ManagedWritings.{WritesOneSweep, begins_writing, managing_of}
 use Rattle.program_laws.specs.SweepTime.{line_by, lines_of}
 use Rattle.program_laws.specs.Wakes.{HasDecided, Line, NoneLeaves, after_line, after_lines, before_deciding}
-use Rattle.program_laws.specs.WholeSweeps.{NothingGivenUp, too_far_in}
+use Rattle.program_laws.specs.WholeSweeps.{LosesNone, NothingGivenUp, too_far_in}
 use Rattle.program_laws.proofs.lasting.Answered.{answered_sweeps_are_whole}
 use Rattle.program_laws.proofs.lasting.AnsweredWritings.{begun_manager, sweeps_idle, writes_idle}
 use Rattle.program_laws.proofs.lasting.EventLines.{lines_of_both, some_line}
@@ -26,17 +26,13 @@ use Rattle.program_laws.proofs.managed.Pinged.{written_pings}
 use Rattle.program_laws.proofs.wakes.AtSeats.{event_acting, events_acting, events_both}
 use Rattle.program_laws.proofs.wakes.NextSweep.{has_more, none_first, none_later}
 use Rattle.program_laws.proofs.lasting.AnsweredPings.{ends_written, first_part, written_on}
+use Rattle.program_laws.proofs.wakes.Lines.{so_both, so_first, so_later}
 
 -- the sweep has every answer ------------------------------------------------------------------------------------------------------
 
-given_both : (lines more : List Line) (a : Acting) → NothingGivenUp lines a → NothingGivenUp more (after_lines lines a) → NothingGivenUp (lines ++ more) a
-given_both [] more a first later = later
-given_both (line ∷ lines) more a first later = (first.0, given_both lines more (after_line line a) first.1 later)
-
 given_first : (some rest : List Line) (a : Acting) → NothingGivenUp (some ++ rest) a
     → NothingGivenUp some a × NothingGivenUp rest (after_lines some a)
-given_first [] rest a none = (tt, none)
-given_first (line ∷ some) rest a none = let more = given_first some rest (after_line line a) none.1 in ((none.0, more.0), more.1)
+given_first some rest a none = (so_first LosesNone some rest a none, so_later LosesNone some rest a none)
 
 module _ (d : Deciding) (earlier : List DecidingEvent) (sweeps : DecidingEvent) (between : List DecidingEvent)
     (begins : DecidingEvent) (during : List DecidingEvent) (ends : DecidingEvent) (later : List DecidingEvent)
@@ -184,7 +180,7 @@ module _ (d : Deciding) (earlier : List DecidingEvent) (sweeps : DecidingEvent) 
             (subst (λ (y : Deciding). NoneLeaves (lines_of (begins ∷ (during ++ ends ∷ [])) y)) before_is left_writing)).0;
         over = writes_idle write_line.0 (after_lines (lines_of between swept) swept.acting) quiet_then begins_then;
       })
-      (given_both (lines_of between swept) (write_line.0 ∷ []) swept.acting given.0
+      (so_both LosesNone (lines_of between swept) (write_line.0 ∷ []) swept.acting given.0
       (subst (NothingGivenUp (write_line.0 ∷ [])) (sym done_is)
       (subst (λ ls. NothingGivenUp ls done_sweep.acting) write_line.1 given_then.0)))
       (ap too_far_in (sym sweep_is) ∙ s.near)

@@ -38,10 +38,10 @@ use Rattle.manager_laws.proofs.own_sets.Unfailed.{IsUnfailed, call_unfailed}
 use Rattle.manager_laws.proofs.writing_ends.Begun.{begun_goes, no_step_before}
 use Rattle.manager_laws.proofs.writing_ends.Effects.{Says}
 use Rattle.manager_laws.proofs.writing_ends.Turns.{Running, call_goes}
-use Rattle.program_laws.specs.AnsweredWritings.{AllAnswerWell, AnsweredWritingsAreWritten, AnswersWell, NoWritingGivenUp, gives_up_writing}
+use Rattle.program_laws.specs.AnsweredWritings.{AllAnswerWell, AnsweredWritingsAreWritten, AnswersWell, KeepsWriting, gives_up_writing}
 use Rattle.program_laws.specs.ManagedEnds.{StaysAbout}
 use Rattle.program_laws.specs.StandingPlans.{KeepsWritten}
-use Rattle.program_laws.specs.Wakes.{HasDecided, IsNoLeave, Line, NoneLeaves, after_line, after_lines, before_deciding}
+use Rattle.program_laws.specs.Wakes.{AtEachLine, HasDecided, IsNoLeave, Line, NoneLeaves, after_line, after_lines, before_deciding}
 use Rattle.program_laws.specs.WholeSweeps.{NothingGivenUp, tells_loss}
 use Rattle.program_laws.proofs.lasting.Answered.{given_parts, none_both, noted_before}
 use Rattle.program_laws.proofs.lasting.Counted.{all_none, done_all}
@@ -401,7 +401,7 @@ line_on line a remains c each goes_on none about w = by_idle (is_idle x.window) 
         }
 
 lines_on : (lines : List Line) (a : Acting) → NoneLeaves lines → (h : HasDecided a) → h.newest < 2 ^ 32 → NoneLeaves h.lines → AllAnswerWell lines a
-    → NoWritingGivenUp lines a → NothingGivenUp lines a → StaysAbout is_writing lines a → WritesOn a → WritesOn (after_lines lines a)
+    → AtEachLine KeepsWriting lines a → NothingGivenUp lines a → StaysAbout is_writing lines a → WritesOn a → WritesOn (after_lines lines a)
 lines_on [] a remain h few left each keeps none goes_on w = w
 lines_on (line ∷ lines) a remain h few left each keeps none goes_on w =
     lines_on lines (after_line line a) remain.1
@@ -536,8 +536,8 @@ module _ (line : Line) (a : Acting) (quiet : is_writing a.policy.activity ≡ fa
 
 -- the end ----------------------------------------------------------------------------------------------------------------------
 
-kept_parts : (during : List Line) (ends : Line) (a : Acting) → NoWritingGivenUp (during ++ ends ∷ []) a
-    → NoWritingGivenUp during a × (gives_up_writing ends (after_lines during a) ≡ false)
+kept_parts : (during : List Line) (ends : Line) (a : Acting) → AtEachLine KeepsWriting (during ++ ends ∷ []) a
+    → AtEachLine KeepsWriting during a × (gives_up_writing ends (after_lines during a) ≡ false)
 kept_parts [] ends a keeps = (tt, keeps.0)
 kept_parts (line ∷ during) ends a keeps = let rest = kept_parts during ends (after_line line a) keeps.1 in ((keeps.0, rest.0), rest.1)
 
@@ -596,7 +596,7 @@ answered_writings_are_written first begins a during ends s nothing keeps each = 
     given : NothingGivenUp during a × (list_any tells_loss (sent (acted_if_idle x)).notes ≡ false)
     given = given_parts during ends a nothing
 
-    kept_on : NoWritingGivenUp during a × (gives_up_writing ends b ≡ false)
+    kept_on : AtEachLine KeepsWriting during a × (gives_up_writing ends b ≡ false)
     kept_on = kept_parts during ends a keeps
 
     answered : AllAnswerWell during a × AnswersWell ends.1 b.manager

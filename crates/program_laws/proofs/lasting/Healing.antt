@@ -25,13 +25,13 @@ use Rattle.acting_manager.specs.Planned.{comparison_of, is_same_plan, planned}
 use Rattle.acting_manager.specs.Working.{is_idle, is_resting, is_writing, sent}
 use Rattle.acting_manager.specs.declared.note.Note.TheVariants.{Swept}
 use Rattle.program_laws.specs.FreshWork.{EndNoFreshWork, works}
-use Rattle.program_laws.specs.Healing.{AllGoWellBy, EndsWritten, GoesWellBy, Heals, HealsInTime, IsUndisturbedBy}
+use Rattle.program_laws.specs.Healing.{EndsWritten, GoesWellBy, Heals, HealsInTime, IsUndisturbedBy}
 use Rattle.program_laws.specs.ManagedEnds.{StaysAbout}
 use Rattle.program_laws.specs.NextSweep.{HasFewTurns, IsToSweep, begins_sweep}
 use Rattle.program_laws.specs.RestTime.{sweeps_by_itself}
 use Rattle.program_laws.specs.StandingPlans.{KeepsWritten}
 use Rattle.program_laws.specs.WholeSweeps.{NothingGivenUp, SweepsAreWhole, too_far_in}
-use Rattle.program_laws.specs.Wakes.{ArePrompt, HasDecided, Line, NoneLeaves, after_line, after_lines, before_deciding, longest_turn}
+use Rattle.program_laws.specs.Wakes.{ArePrompt, AtEachLine, HasDecided, Line, NoneLeaves, after_line, after_lines, before_deciding, longest_turn}
 use Rattle.program_laws.proofs.lasting.Answered.{answered_sweeps_are_whole}
 use Rattle.program_laws.proofs.lasting.Running.{is_running, still_runs, still_sound}
 use Rattle.program_laws.proofs.lasting.Standing.{full, is_sound}
@@ -42,6 +42,7 @@ use Rattle.program_laws.proofs.wakes.NextSweep.{Split, about_last, has_more, non
 use Rattle.program_laws.proofs.wakes.NextSweep.Split.{Ends, Whole}
 use Rattle.program_laws.proofs.wakes.Settled.{has_settled}
 use Rattle.program_laws.proofs.wakes.Waking.{Falls, any_falls}
+use Rattle.program_laws.proofs.wakes.Lines.{so_later}
 
 -- what is needed ----------------------------------------------------------------------------------------------------------------
 
@@ -62,17 +63,13 @@ pub record GoesOnBy (Writes : Line → Acting → Type 0) (line : Line) (a : Act
       → is_whole (before_deciding line a).manager ≡ true → SweptSo (before_deciding line a)
   pub writes : Writes line a
 
-abbrev pub AllGoOnBy : (Line → Acting → Type 0) → List Line → Acting → Type 0
-AllGoOnBy Writes [] a = Unit {0}
-AllGoOnBy Writes (line ∷ lines) a = GoesOnBy Writes line a × AllGoOnBy Writes lines (after_line line a)
-
 -- it goes on through the lines, and its sweeps are whole
 pub record IsUndisturbedSo (Writes : Line → Acting → Type 0) (n : ℕ) (a : Acting) (lines : List Line) : Type 0 where
   pub decided : HasDecided a
   pub generations : decided.newest < 2 ^ 32
   pub none_left : NoneLeaves decided.lines
   pub first : is_resting a.policy.activity ≡ true → is_idle a.window ≡ true → sweeps_by_itself a ≡ true
-  pub well : AllGoOnBy Writes lines a
+  pub well : AtEachLine (GoesOnBy Writes) lines a
   pub whole : SweepsAreWhole lines a
   pub few : HasFewTurns n lines a
   pub tries : 1 ≤ a.window.limits.tries
@@ -238,7 +235,7 @@ works_on : (lines : List Line) (a : Acting) → StaysAbout works lines a → End
 works_on [] a s = tt
 works_on (line ∷ lines) a s = (s.0, works_on lines (after_line line a) s.1)
 
-find : (Writes : Line → Acting → Type 0) (lines : List Line) (a : Acting) → AllGoOnBy Writes lines a → Found lines a ⊎ EndNoFreshWork false lines a
+find : (Writes : Line → Acting → Type 0) (lines : List Line) (a : Acting) → AtEachLine (GoesOnBy Writes) lines a → Found lines a ⊎ EndNoFreshWork false lines a
 find Writes [] a well = inr tt
 find Writes (line ∷ lines) a well = by_begun (find Writes lines b well.1) (begins_sweep line a) refl
   where
@@ -306,7 +303,7 @@ sweeps_on (line ∷ lines) a g stays last =
     by_what activity.Hands e w then rest = absurd (cc)
 
 none_lost : (Writes : Line → Acting → Type 0) (some : List Line) (line : Line) (rest : List Line) (a : Acting)
-    → AllGoWellBy Writes (some ++ line ∷ rest) a → NothingGivenUp (some ++ line ∷ []) a
+    → AtEachLine (GoesWellBy Writes) (some ++ line ∷ rest) a → NothingGivenUp (some ++ line ∷ []) a
 none_lost Writes [] line rest a w = (w.0.none_lost, tt)
 none_lost Writes (first ∷ some) line rest a w = (w.0.none_lost, none_lost Writes some line rest (after_line first a) w.1)
 
@@ -339,11 +336,6 @@ begins_idle line a g begins = by_idle (is_idle x.window) refl
 none_more : (first more : List Line) → NoneLeaves first → NoneLeaves more → NoneLeaves (first ++ more)
 none_more [] more n m = m
 none_more (line ∷ first) more n m = (n.0, none_more first more n.1 m)
-
-pub well_later : (Writes : Line → Acting → Type 0) (some rest : List Line) (a : Acting) → AllGoOnBy Writes (some ++ rest) a
-    → AllGoOnBy Writes rest (after_lines some a)
-well_later Writes [] rest a w = w
-well_later Writes (line ∷ some) rest a w = well_later Writes some rest (after_line line a) w.1
 
 -- how the work on a sweep ends ------------------------------------------------------------------------------------------------------
 
@@ -396,11 +388,11 @@ module _ (Writes : Line → Acting → Type 0) (n : ℕ) (a : Acting) (lines : L
     pub at_end : GoesOn c (f.ends ∷ [])
     at_end = goes_first (f.ends ∷ []) f.after c (goes_later f.during (f.ends ∷ f.after) b at_sweep)
 
-    all_well : AllGoOnBy Writes rest b
-    all_well = (well_later Writes f.before (f.begins ∷ rest) a (subst (λ ls. AllGoOnBy Writes ls a) f.are r.well)).1
+    all_well : AtEachLine (GoesOnBy Writes) rest b
+    all_well = (so_later (GoesOnBy Writes) f.before (f.begins ∷ rest) a (subst (λ ls. AtEachLine (GoesOnBy Writes) ls a) f.are r.well)).1
 
     pub last_well : GoesOnBy Writes f.ends c
-    last_well = (well_later Writes f.during (f.ends ∷ f.after) b all_well).0
+    last_well = (so_later (GoesOnBy Writes) f.during (f.ends ∷ f.after) b all_well).0
 
     pub sweeps : is_sweeping b.policy.activity ≡ true
     sweeps = begun_is first.policy.activity b.policy.activity f.begun
@@ -427,10 +419,6 @@ module _ (Writes : Line → Acting → Type 0) (n : ℕ) (a : Acting) (lines : L
 -- where no request is given up ---------------------------------------------------------------------------------------------------
 
 module _ (Writes : Line → Acting → Type 0) (n : ℕ) (a : Acting) (lines : List Line) (r : IsUndisturbedBy Writes n a lines) where
-  later_well : (some more : List Line) (b : Acting) → AllGoWellBy Writes (some ++ more) b → AllGoWellBy Writes more (after_lines some b)
-  later_well [] more b w = w
-  later_well (line ∷ some) more b w = later_well some more (after_line line b) w.1
-
   -- then sweeps are whole
   pub are_whole : SweepsAreWhole lines a
   are_whole before begins during ends after are begun stays over =
@@ -474,8 +462,8 @@ module _ (Writes : Line → Acting → Type 0) (n : ℕ) (a : Acting) (lines : L
       at_end : GoesOn c (ends ∷ [])
       at_end = goes_first (ends ∷ []) after c (goes_later during (ends ∷ after) b at_sweep)
 
-      all : AllGoWellBy Writes rest b
-      all = (later_well before (begins ∷ rest) a (subst (λ ls. AllGoWellBy Writes ls a) are r.well)).1
+      all : AtEachLine (GoesWellBy Writes) rest b
+      all = (so_later (GoesWellBy Writes) before (begins ∷ rest) a (subst (λ ls. AtEachLine (GoesWellBy Writes) ls a) are r.well)).1
 
       sweeps : is_sweeping c.policy.activity ≡ true
       sweeps = about_last is_sweeping during b (begun_is first.policy.activity b.policy.activity begun) stays
@@ -483,10 +471,10 @@ module _ (Writes : Line → Acting → Type 0) (n : ℕ) (a : Acting) (lines : L
       near : too_far_in (before_deciding ends c).manager.sweep ≡ 0
       near =
           let fell = any_falls c.window.limits at_end.tries ends c (record { same = refl; whole = (has_settled c at_end.decided).whole }) at_end.none_leaves.0 in
-          ((later_well during (ends ∷ after) b all).0.swept over (ap is_sweeping fell.about ∙ sweeps)).near
+          ((so_later (GoesWellBy Writes) during (ends ∷ after) b all).0.swept over (ap is_sweeping fell.about ∙ sweeps)).near
 
 pub all_on : (Writes Then : Line → Acting → Type 0) (lines : List Line) (a : Acting) → ((line : Line) (b : Acting) → GoesWellBy Writes line b → Then line b)
-    → AllGoWellBy Writes lines a → AllGoOnBy Then lines a
+    → AtEachLine (GoesWellBy Writes) lines a → AtEachLine (GoesOnBy Then) lines a
 all_on Writes Then [] a more w = tt
 all_on Writes Then (line ∷ lines) a more w = (
   record {

@@ -13,7 +13,7 @@ use Rattle.sm_policy.specs.declared.activity.Activity.TheVariants as activity
 use Rattle.acting_manager.specs.Acting.{Acting}
 use Rattle.acting_manager.specs.Working.{after_told, is_writing}
 use Rattle.program_laws.specs.AnsweredPings.{WritesManaged}
-use Rattle.program_laws.specs.AnsweredWritings.{KeepsWriting, NoWritingGivenUp}
+use Rattle.program_laws.specs.AnsweredWritings.{KeepsWriting}
 use Rattle.program_laws.specs.Deciding.{CanDecide, Deciding, DecidingEvent, after_deciding_event, after_deciding_events}
 use Rattle.program_laws.specs.FreshWork.{works}
 use Rattle.program_laws.specs.HealingAtSeat.{HealsAtSeat, OthersKeep, ServesAt}
@@ -22,7 +22,7 @@ use Rattle.program_laws.specs.ManagedPings.{managed_at_end, managed_at_writing}
 use Rattle.program_laws.specs.ManagedWritings.{IsNew, NoneBegins, begins_writing, managing_of}
 use Rattle.program_laws.specs.StandingPlans.{KeepsWritten}
 use Rattle.program_laws.specs.SweepTime.{lines_of}
-use Rattle.program_laws.specs.Wakes.{ArePrompt, HasDecided, Line, NoneLeaves, after_line, after_lines, longest_turn}
+use Rattle.program_laws.specs.Wakes.{ArePrompt, AtEachLine, HasDecided, Line, NoneLeaves, after_line, after_lines, longest_turn}
 use Rattle.program_laws.specs.WholeSweeps.{NothingGivenUp, tells_loss}
 use Rattle.program_laws.proofs.lasting.Answered.{none_both}
 use Rattle.program_laws.proofs.lasting.AnsweredPings.{ends_written}
@@ -30,7 +30,7 @@ use Rattle.program_laws.proofs.lasting.EventLines.{RunsSince, UpTo, events_to, l
 use Rattle.program_laws.proofs.lasting.EventLines.RunsSince.{Since, Throughout}
 use Rattle.program_laws.proofs.lasting.FirstPlans.{IsFirst, LastWriting, events_first, last_writing}
 use Rattle.program_laws.proofs.lasting.FirstPlans.LastWriting.{Nothing, Something}
-use Rattle.program_laws.proofs.lasting.Healing.{AllGoOnBy, Found, IsUndisturbedSo, ends_so, found, sweeps, undisturbed_so, well_later}
+use Rattle.program_laws.proofs.lasting.Healing.{Found, GoesOnBy, IsUndisturbedSo, ends_so, found, sweeps, undisturbed_so}
 use Rattle.program_laws.proofs.lasting.StandingPings.{strict_whole}
 use Rattle.program_laws.proofs.managed.Moves.{both, first_of, later_of}
 use Rattle.program_laws.proofs.managed.OnePlan.{last_keeps}
@@ -38,6 +38,7 @@ use Rattle.program_laws.proofs.managed.OneSweeps.{writes_what_one_sweep_saw}
 use Rattle.program_laws.proofs.managed.Pinged.{managed_pings_arrive}
 use Rattle.program_laws.proofs.wakes.AtSeats.{event_acting, events_acting, events_both, lines_both}
 use Rattle.program_laws.proofs.wakes.NextSweep.{has_more, none_first, none_later}
+use Rattle.program_laws.proofs.wakes.Lines.{so_later}
 
 -- the manager does not give up what it writes, and no request while it writes
 abbrev pub WritesOn : Line → Acting → Type 0
@@ -45,12 +46,12 @@ WritesOn line a =
     KeepsWriting line a × (is_writing a.policy.activity ≡ true → list_any tells_loss (after_told line.0 line.1 a).notes ≡ false)
 
 -- nothing that was written is given up
-keep_writing : (some : List Line) (line : Line) (rest : List Line) (a : Acting) → AllGoOnBy WritesOn (some ++ line ∷ rest) a
-    → NoWritingGivenUp (some ++ line ∷ []) a
+keep_writing : (some : List Line) (line : Line) (rest : List Line) (a : Acting) → AtEachLine (GoesOnBy WritesOn) (some ++ line ∷ rest) a
+    → AtEachLine KeepsWriting (some ++ line ∷ []) a
 keep_writing [] line rest a w = (w.0.writes.0, tt)
 keep_writing (first ∷ some) line rest a w = (w.0.writes.0, keep_writing some line rest (after_line first a) w.1)
 
-none_lost : (some : List Line) (line : Line) (rest : List Line) (a : Acting) → AllGoOnBy WritesOn (some ++ line ∷ rest) a
+none_lost : (some : List Line) (line : Line) (rest : List Line) (a : Acting) → AtEachLine (GoesOnBy WritesOn) (some ++ line ∷ rest) a
     → is_writing a.policy.activity ≡ true → StaysAbout is_writing some a → NothingGivenUp (some ++ line ∷ []) a
 none_lost [] line rest a w writes stays = (w.0.writes.1 writes, tt)
 none_lost (first ∷ some) line rest a w writes stays = (
@@ -265,12 +266,12 @@ module _ (d : Deciding) (before events : List DecidingEvent) (n : ℕ) (r : IsUn
         ∙ ap (λ ls. lines_of (a ++ g ∷ []) start ++ (lines_of since begun_at ++ (ls ++ lines_of up_to.later (after_deciding_event last up_to.event))))
         up_to.tells
 
-    well : AllGoOnBy WritesOn (lines_of since begun_at ++ h.ends ∷ lines_of up_to.later (after_deciding_event last up_to.event)) begun_at.acting
+    well : AtEachLine (GoesOnBy WritesOn) (lines_of since begun_at ++ h.ends ∷ lines_of up_to.later (after_deciding_event last up_to.event)) begun_at.acting
     well =
-        subst (AllGoOnBy WritesOn _)
+        subst (AtEachLine (GoesOnBy WritesOn) _)
         (sym (events_acting (a ++ g ∷ []) start) ∙ ap (λ (x : Deciding). x.acting) (events_both a (g ∷ []) start))
-        (well_later WritesOn (lines_of (a ++ g ∷ []) start) _ start.acting
-        (subst (λ ls. AllGoOnBy WritesOn ls start.acting) lines_are r.undisturbed.well))
+        (so_later (GoesOnBy WritesOn) (lines_of (a ++ g ∷ []) start) _ start.acting
+        (subst (λ ls. AtEachLine (GoesOnBy WritesOn) ls start.acting) lines_are r.undisturbed.well))
 
     last_are : lines_of (since ++ up_to.event ∷ []) begun_at ≡ lines_of since begun_at ++ h.ends ∷ []
     last_are =
@@ -309,8 +310,8 @@ module _ (d : Deciding) (before events : List DecidingEvent) (n : ℕ) (r : IsUn
         (none_first (lines_of (g ∷ (since ++ up_to.event ∷ [])) (after_deciding_events a start)) _ (none_later (lines_of a start) _ leaves_none)))
         (subst (λ (x : Deciding). NothingGivenUp (lines_of (since ++ up_to.event ∷ []) x) x.acting) (sym now_is)
         (subst (λ ls. NothingGivenUp ls begun_at.acting) (sym last_are) (none_lost (lines_of since begun_at) h.ends _ begun_at.acting well writes stays)))
-        (subst (λ (x : Deciding). NoWritingGivenUp (lines_of (since ++ up_to.event ∷ []) x) x.acting) (sym now_is)
-        (subst (λ ls. NoWritingGivenUp ls begun_at.acting) (sym last_are) (keep_writing (lines_of since begun_at) h.ends _ begun_at.acting well)))
+        (subst (λ (x : Deciding). AtEachLine KeepsWriting (lines_of (since ++ up_to.event ∷ []) x) x.acting) (sym now_is)
+        (subst (λ ls. AtEachLine KeepsWriting ls begun_at.acting) (sym last_are) (keep_writing (lines_of since begun_at) h.ends _ begun_at.acting well)))
         (subst (λ (x : Deciding). StaysAbout is_writing (lines_of since x) x.acting) (sym now_is) stays)
         (ap (λ (x : Deciding). is_writing x.acting.policy.activity)
         (ap (after_deciding_events (since ++ up_to.event ∷ [])) now_is ∙ events_both since (up_to.event ∷ []) begun_at) ∙ over))

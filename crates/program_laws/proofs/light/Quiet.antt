@@ -8,7 +8,7 @@ use Rattle.fabric_model.proofs.FabricWalks.{adapter_start, adapter_vertex, walk_
 use Rattle.subnet_view.specs.FabricAgreement.{AgreesOn, HasEndPort, HasWire, IsEndPortIn}
 use Rattle.subnet_view.specs.Reading.{Cells}
 use Rattle.fabric_model.specs.Fabric as fabric
-use Rattle.program_laws.specs.LightSweeps.{AreQuiet, QuietSwitchesKeepThePart}
+use Rattle.program_laws.specs.LightSweeps.{QuietSwitchesKeepThePart}
 
 -- what holds where both fabrics have the same list of nodes
 module _ (f g : Fabric) (origin : NodePort) where

@@ -30,6 +30,7 @@ use Rattle.program_laws.proofs.wakes.Sending.{Waits, due_wake, only_sends}
 use Rattle.program_laws.proofs.wakes.Settled.{has_settled}
 use Rattle.program_laws.proofs.wakes.Sweeping.{acts_leaving, looked_leaving}
 use Rattle.program_laws.proofs.wakes.Waking.{Falls, any_falls}
+use Rattle.program_laws.proofs.wakes.Lines.{so_first, so_later}
 
 -- lines in two parts ----------------------------------------------------------------------------------------------------
 
@@ -57,12 +58,10 @@ none_later [] rest n = n
 none_later (line ∷ some) rest n = none_later some rest n.1
 
 pub prompt_first : (late : ℕ) (some rest : List Line) (a : Acting) → ArePrompt late (some ++ rest) a → ArePrompt late some a
-prompt_first late [] rest a p = tt
-prompt_first late (line ∷ some) rest a p = (p.0, prompt_first late some rest (after_line line a) p.1)
+prompt_first late = so_first (λ line a. IsBy late line.0 (wake_of a))
 
 pub prompt_later : (late : ℕ) (some rest : List Line) (a : Acting) → ArePrompt late (some ++ rest) a → ArePrompt late rest (after_lines some a)
-prompt_later late [] rest a p = p
-prompt_later late (line ∷ some) rest a p = prompt_later late some rest (after_line line a) p.1
+prompt_later late = so_later (λ line a. IsBy late line.0 (wake_of a))
 
 begin_later : (some rest : List Line) (a : Acting) → BeginNoSweep (some ++ rest) a → BeginNoSweep rest (after_lines some a)
 begin_later [] rest a b = b

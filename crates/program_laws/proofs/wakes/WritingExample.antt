@@ -1,5 +1,5 @@
 -- A manager that decides by itself begins to write: that of `some_manager_decides`, once it has swept.
-use Rattle.std.proofs.Common.{◌≡◌, ◌∙◌, ℕ, ◌≤◌, Bool, true, false, List, [], ◌∷◌, ◌++◌, refl, sym, ap, subst, arith}
+use Rattle.std.proofs.Common.{◌≡◌, ◌∙◌, ℕ, ◌≤◌, Bool, true, false, List, [], ◌∷◌, refl, sym, ap, subst, arith}
 use Rattle.std.proofs.lemmas.Bool.{and_parts}
 use Rattle.std.specs.Prelude.{Option, Some, None, slice_get, if◌then◌else◌}
 use Rattle.std.specs.List.{list_all}
@@ -24,6 +24,7 @@ use Rattle.program_laws.specs.WritingTime.{SomeManagerBeginsToWrite}
 use Rattle.program_laws.proofs.managed.Example as example
 use Rattle.program_laws.proofs.wakes.AtSeats.{events_acting}
 use Rattle.program_laws.proofs.wakes.Deciding.{caught_about, sent_about}
+use Rattle.program_laws.proofs.lasting.Answered.{none_both}
 
 -- what it is told ----------------------------------------------------------------------------------------
 
@@ -31,10 +32,6 @@ use Rattle.program_laws.proofs.wakes.Deciding.{caught_about, sent_about}
 abbrev is_quiet : DecidingEvent → Bool
 is_quiet (Tell time what) = false
 is_quiet event = true
-
-both : (first later : List Line) → NoneLeaves first → NoneLeaves later → NoneLeaves (first ++ later)
-both [] later f l = l
-both (line ∷ first) later f l = (f.0, both first later f.1 l)
 
 heard_stays : (time : ℕ) (d : Deciding) (o : Option Handed) → NoneLeaves (line_heard time d o)
 heard_stays time d None = tt
@@ -54,7 +51,7 @@ none_leave : (events : List DecidingEvent) (d : Deciding) → list_all is_quiet 
 none_leave [] d e = tt
 none_leave (event ∷ events) d e =
     let parts = and_parts (is_quiet event) (list_all is_quiet events) e in
-    both (line_by d event) (lines_of events (after_deciding_event d event)) (event_stays d event parts.0)
+    none_both (line_by d event) (lines_of events (after_deciding_event d event)) (event_stays d event parts.0)
     (none_leave events (after_deciding_event d event) parts.1)
 
 -- the line of the packet; that of the time, if there is none
