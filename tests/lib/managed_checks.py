@@ -263,7 +263,8 @@ def check_light_sweeps(program: Program) -> None:
             return served.ask(f"{time} light {packet.hex()}".encode()).decode().splitlines()[0]
 
         check(len(requests) == len(switches) and others == 1, f"a light sweep asks {len(requests)} of {len(switches)}")
-        check({(it[3], field(it, 16, 4), it[64:128]) for it in requests} == {(GET, SWITCH_INFO << 16, bytes(64))}, "Gets")
+        gets = {(it[3], field(it, 16, 4), it[64:128]) for it in requests}
+        check(gets == {(GET, SWITCH_INFO << 16, bytes(64))}, f"SwitchInfo is asked for: {gets}")
         check({agents.way(it, ("H1", 1))[0] for it in requests} == set(switches), "each switch is asked")
         check(len({it[8:16] for it in requests}) == len(requests), "each request has a TransactionID of its own")
         check(lightly(served, time) == (requests, 1), "a light sweep changes nothing")

@@ -35,10 +35,10 @@ abbrev pub after_lines : List Line → Acting → Acting
 after_lines [] a = a
 after_lines (line ∷ lines) a = after_lines lines (after_line line a)
 
--- each line, and the manager that is told it, are as `IsSo` says
+-- `is_so` is so of each line and the manager that is told it
 abbrev pub AtEachLine : (Line → Acting → Type 0) → List Line → Acting → Type 0
-AtEachLine IsSo [] a = Unit {0}
-AtEachLine IsSo (line ∷ lines) a = IsSo line a × AtEachLine IsSo lines (after_line line a)
+AtEachLine is_so [] a = Unit {0}
+AtEachLine is_so (line ∷ lines) a = is_so line a × AtEachLine is_so lines (after_line line a)
 
 -- `a` is what a new manager that decides by itself is after some lines
 pub record HasDecided (a : Acting) : Type 0 where
