@@ -256,7 +256,8 @@ def check_light_sweeps(program: Program) -> None:
     for has_changed in False, True:
         served, agents = Served(program, seat(fabric), command="manage"), Flapped(fabric, ("H1", 1))
         agents.has_changed = has_changed
-        time = int(managed_up(lambda line: served.ask(line.encode()).decode().splitlines(), agents)[-1].split()[0])
+        lines = managed_up(lambda line: served.ask(line.encode()).decode().splitlines(), agents)
+        time = int(lines[-1].split()[0])
         requests, others = lightly(served, time)
 
         def said(packet: bytes) -> str:
