@@ -93,7 +93,7 @@ pub(crate) fn earlier(keys: &[VertexKey], found: Option<usize>, vertex: usize) -
     }
 }
 
-/// Sets the stage of `vertex` to `Placed`, and then gives each vertex at `Left` that `edges` lead to the stage `Beside`.
+/// Gives `vertex` the stage `Placed`, and then each vertex at `Left` that `edges` lead to the stage `Beside`.
 fn add_vertex(edges: &[Edge], vertex: usize, stages: &mut [Stage])
     requires vertex { vertex < length stages.old }
     requires lead { All (λ edge. edge.to < length stages.old) edges.now }
