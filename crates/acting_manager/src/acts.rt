@@ -29,8 +29,7 @@ impl ActingManager {
         }
     }
 
-    /// Takes the next step of a manager that leaves: after a sweep it hands over to its heir, and after that handover it
-    /// rests. It begins nothing else.
+    /// Takes the next step of a manager that leaves: a handover after a sweep, and after that rest.
     fn act_leaving(&mut self) -> Result<(), AllocError>
         ensures { OnOk result (value_of self.new
             ≡ left_in (value_of self.old).policy.activity (value_of self.old)) }
@@ -197,8 +196,7 @@ pub(crate) fn is_whole(manager: &Manager) -> bool
     is_whole_by(manager.progress(), manager.silent_managers())
 }
 
-/// Returns whether a sweep with this `progress` is over, found no port too far away, and has every answer except those
-/// of `silent` other managers.
+/// Returns whether a sweep is over, found no port too far away, and has all answers but those of `silent` managers.
 fn is_whole_by(progress: Progress, silent: Option<u64>) -> bool
     ensures { result ≡ is_whole_by progress silent }
 {
@@ -214,8 +212,7 @@ fn is_whole_by(progress: Progress, silent: Option<u64>) -> bool
     }
 }
 
-/// Returns whether the greatest master that the last sweep of `manager` saw is greater or lesser than `manager`, or
-/// `None` if the sweep saw no master.
+/// Returns whether the greatest master that the last sweep saw is greater or lesser than `manager`, if it saw one.
 fn rival_seen(manager: &Manager) -> Option<Rival>
     ensures { result ≡ rival_seen manager.now }
 {

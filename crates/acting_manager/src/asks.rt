@@ -13,8 +13,7 @@ use sm_manager::{Manager, ManagerFault};
 use smp_bytes::Lid;
 use std::alloc::AllocError;
 
-/// Returns whether the call that gave `called` was done: `false` if the manager refused it. Returns an error if memory
-/// ran out.
+/// Returns whether the manager did not refuse the call that gave `called`, or an error if memory ran out.
 fn is_done<T: Drop>(called: Result<T, ManagerFault>) -> Result<bool, AllocError>
     ensures ok { IfOk result (λ done. done ≡ is_ok called) }
     ensures judged { (why : Option Refusal) → JudgesButFor is_memory called why

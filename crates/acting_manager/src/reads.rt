@@ -62,8 +62,7 @@ fn has_image(packet: &Smp) -> bool
         && packet.status() == Status::DONE
 }
 
-/// Returns the LID of the manager's own port after `packet`, which has `image`: that of `image` if the packet came from
-/// the own port, along a path of no hops, and otherwise `own_lid`.
+/// Returns the manager's LID after `packet`: that of `image` if it came from the own port, along no hops, or `own_lid`.
 fn own_lid_by(packet: &Smp, image: &PortInfo, own_lid: u16) -> u16
     requires { image.now ≡ bytes_in attribute_data packet.now }
     ensures { result ≡ own_lid_by packet.now own_lid }

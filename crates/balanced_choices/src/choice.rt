@@ -37,9 +37,7 @@ impl<'a> Model for Choosing<'a> {
 }
 
 impl<'a> Choosing<'a> {
-    /// Makes the choices of `round` for the end, which has the number `number`: first choices in round 0, and new
-    /// choices in later rounds. Before it makes new choices, takes the packets to the end off the loads. `number` plus
-    /// the number of positions must fit in 64 bits.
+    /// Makes the choices of `round` for the end with the number `number`: first choices in round 0, and else new ones.
     pub(crate) fn choose(&mut self, round: usize, number: usize)
         requires { number + length self.old.ways.edges < 2 ^ 64 }
         ensures ways { self.new.ways ≡ self.old.ways }
@@ -55,8 +53,7 @@ impl<'a> Choosing<'a> {
         }
     }
 
-    /// Makes the first choices for the end with the number `number`, at each position in turn. Each position takes the
-    /// candidate that `first_choice` gives. `number` plus the number of positions must fit in 64 bits.
+    /// Makes the first choices for the end with the number `number`, at each position in turn.
     fn choose_in_turn(&mut self, number: usize)
         requires { number + length self.old.ways.edges < 2 ^ 64 }
         ensures ways { self.new.ways ≡ self.old.ways }
@@ -70,8 +67,7 @@ impl<'a> Choosing<'a> {
         }
     }
 
-    /// Makes new choices, at each position in turn. Each position takes the candidate whose way has the least peak
-    /// load. If peak loads are equal, it takes the first.
+    /// Makes new choices, at each position in turn: the first candidate whose way has the least peak load.
     fn choose_lightest(&mut self)
         ensures ways { self.new.ways ≡ self.old.ways }
         ensures chosen { choose_each (λ now p. lightest self.old.ways.edges now.choices now.loads p) self.old.ways.edges
@@ -84,8 +80,7 @@ impl<'a> Choosing<'a> {
         }
     }
 
-    /// Lets `position` take the candidate with the number `choice`. Adds the packets that `position` sends to the loads
-    /// of the channels on their way. There must be such a position.
+    /// Lets `position` take the candidate with the number `choice`, and adds its packets to the loads on their way.
     fn take(&mut self, position: usize, choice: u8)
         requires { position < length self.old.ways.edges }
         ensures ways { self.new.ways ≡ self.old.ways }
@@ -100,9 +95,7 @@ impl<'a> Choosing<'a> {
     }
 }
 
-/// Returns the number of the candidate that is the first choice of `position` towards the end with the number `number`.
-/// Returns 0 if `position` has no candidate. There must be such a position, and `number` plus the number of positions
-/// must fit in 64 bits.
+/// Returns the number of the first choice of `position` towards the end with the number `number`, or 0 if it has none.
 fn first_choice(ways: &TargetWays, number: usize, position: usize) -> u8
     requires position { position < length ways.now.edges }
     requires number { number + length ways.now.edges < 2 ^ 64 }
@@ -115,7 +108,7 @@ fn first_choice(ways: &TargetWays, number: usize, position: usize) -> u8
     in_turn(count, digits + position)
 }
 
-/// Returns `number` modulo `count`, or 0 if `count` is 0. `count` must be at most 256.
+/// Returns `number` modulo `count`, or 0 if `count` is 0.
 fn in_turn(count: usize, number: usize) -> u8
     requires { count ≤ 256 }
     ensures { result ≡ in_turn count number }
@@ -127,8 +120,7 @@ fn in_turn(count: usize, number: usize) -> u8
     }
 }
 
-/// Adds `added` packets to the loads of the channels of the way from `position`. `taken` has the edge that is taken at
-/// each position. `loads` must have 256 loads for each position.
+/// Adds `added` packets to the loads on the way from `position`. `taken` has the edge that is taken at each position.
 fn add_packets(taken: &[Option<Edge>], loads: &mut [usize], position: usize, added: usize)
     requires { length loads.old ≡ 256 * length taken.now }
     ensures { loads.new ≡ with_changes (Add added) loads.old (way_by taken.now position) }
@@ -138,9 +130,7 @@ fn add_packets(taken: &[Option<Edge>], loads: &mut [usize], position: usize, add
     }
 }
 
-/// Subtracts the packets that each position sends from the loads of the channels on their way. `taken` has the edge
-/// that is taken at each position. `sent` must have the number of packets that each position sends, and `loads` 256
-/// loads for each position.
+/// Subtracts the packets `sent` of each position from the loads on their way, along the edges `taken` at each.
 fn remove_packets(taken: &[Option<Edge>], sent: &[usize], loads: &mut [usize])
     requires sent { length sent.now ≡ length taken.now }
     requires loads { length loads.old ≡ 256 * length taken.now }

@@ -99,8 +99,7 @@ impl Balance {
     }
 
     /// Makes new choices for all ends of `destinations`, at most twice, while loads are not even. Returns the choices
-    /// with the least greatest load: those of `self`, or those of a later round. Of equals, returns the first. The
-    /// preconditions are those of `choose_all`.
+    /// with the least greatest load, the first of equals.
     fn lightest_choices(
         mut self,
         alloc: Global,
@@ -133,9 +132,7 @@ impl Balance {
         Ok(best.unwrap_or(self.choices))
     }
 
-    /// Makes the choices of `round` for all ends of `destinations`. Finds the candidates towards 64 destinations at a
-    /// time. Destinations must be at positions. There must be choices for each of their ends, and 256 loads for each
-    /// position.
+    /// Makes the choices of `round` for all ends of `destinations`. Finds candidates towards 64 of them at a time.
     fn choose_all(
         &mut self,
         alloc: Global,
@@ -184,8 +181,7 @@ impl Balance {
         Ok(choices)
     }
 
-    /// Makes the choices of `round` for the ends of `destinations`. There must be at most 64 destinations. `first` is
-    /// the index of the first of these ends. Returns the index after the last of them.
+    /// Makes the choices of `round` for the ends of `destinations` from index `first` on, and returns the index after.
     fn choose_some(
         &mut self,
         alloc: Global,
@@ -212,9 +208,8 @@ impl Balance {
         Ok(end)
     }
 
-    /// Makes the choices of `round` for the ends of `destination`. `ways` are the ways to its position, and `first` is
-    /// the index of the first of these ends. Returns the index after the last of them. There must be choices for each
-    /// of these ends, and 256 loads for each position.
+    /// Makes the choices of `round` for the ends of `destination` from index `first` on, by the ways `ways` to its
+    /// position. Returns the index after the last of them.
     fn choose_at(
         &mut self,
         alloc: Global,

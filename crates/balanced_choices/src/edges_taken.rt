@@ -7,8 +7,7 @@ ghost use Rattle.balanced_choices.specs.Ways.{edge_taken};
 use port_graph::{Adjacency, Edge};
 use std::alloc::{AllocError, Global};
 
-/// Returns the edge that each position takes by its choice in `choices`, or `None` for a position that has no candidate
-/// with this number.
+/// Returns the edge that each position takes by its choice in `choices`, or `None` if it has no such candidate.
 pub(crate) fn edges_taken(
     alloc: Global,
     ways: &Adjacency,
@@ -23,8 +22,7 @@ pub(crate) fn edges_taken(
     Ok(taken)
 }
 
-/// Returns the edge that `position` takes by its choice in `choices`, or `None` if `position` has no candidate with
-/// this number.
+/// Returns the edge that `position` takes by its choice in `choices`, or `None` if it has no such candidate.
 pub(crate) fn edge_taken(ways: &Adjacency, choices: &[u8], position: usize) -> Option<Edge>
     ensures { result ≡ edge_taken ways.now choices.now position }
 {

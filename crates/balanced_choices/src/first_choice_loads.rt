@@ -52,8 +52,7 @@ pub fn first_loads(
     Ok(loads)
 }
 
-/// Adds the packets to all ends of `destinations`, by first choices, to the loads of channels. There must be at most 64
-/// destinations. `loads` must have 256 loads for each position. The other preconditions are those of `first_loads`.
+/// Adds the packets to all ends of `destinations`, by first choices, to the loads of channels.
 fn add_packets(
     alloc: Global,
     graph: &Adjacency,
@@ -82,10 +81,9 @@ fn add_packets(
     Ok(())
 }
 
-/// Adds the packets to all ends of `destination`, by first choices, to the loads of channels. `ways` must have the
-/// candidates of each position towards the position of `destination`. At first `had` must have the packets that each
-/// position sends to each end. Packets that reach a position are added to its numbers in `had`. `digits` must have an
-/// entry for each position, and `loads` must have 256 loads for each position.
+/// Adds the packets to all ends of `destination`, by first choices, to the loads of channels. `ways` has the candidates
+/// of each position towards that of `destination`. `had` has the packets that each position sends to each end, and gets
+/// those that reach a position added.
 fn add_packets_to(
     alloc: Global,
     ways: &Adjacency,
@@ -107,8 +105,7 @@ fn add_packets_to(
     Ok(())
 }
 
-/// Returns all positions. If `ways` are the candidates towards one target, each position comes before the positions
-/// that its candidates lead to.
+/// Returns all positions, each before those that its candidates `ways` lead to if they are towards one target.
 fn far_first(alloc: Global, ways: &Adjacency) -> Result<Vec<usize>, AllocError>
     ensures order { IfOk result (λ order. order.items ≡ reverse (near_first ways.now)) }
     ensures positions { IfOk result (λ order. All (λ p. p < length ways.now) order.items) }
@@ -131,10 +128,8 @@ fn repeat(list: &[usize], count: u16, copies: &mut Vec<usize>) -> Result<(), All
     Ok(())
 }
 
-/// Passes on, from `position`, the packets that `had` has for it, for each end of `destination`: its own and those that
-/// have reached it. `ways` must have the candidates of each position, `had` a number for each end at each position, and
-/// `loads` 256 loads for each position. Adds the packets to the loads of channels. Does nothing if `position` has no
-/// candidate.
+/// Passes on, from `position`, the packets that `had` has for it, for each end of `destination`, and adds them to the
+/// loads of channels. Does nothing if `position` has no candidate.
 fn pass_on(
     ways: &Adjacency,
     digits: &[LevelDigit],

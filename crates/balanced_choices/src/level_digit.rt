@@ -36,8 +36,7 @@ fn leads_higher(digits: &[LevelDigit], edges: &[Edge], position: usize) -> bool
         .any(|edge| level < digit_at(digits, edge.to).level)
 }
 
-/// Returns the weight of the digit that first choices of `position` among `edges` go by: its digit weight if any of
-/// `edges` leads to a higher level, and otherwise 1.
+/// Returns the weight of the digit of `position`: its digit weight if any of `edges` leads to a higher level, else 1.
 pub(crate) fn weight_among(digits: &[LevelDigit], edges: &[Edge], position: usize) -> usize
     ensures { result ≡ weight_among digits.now edges.now position }
 {

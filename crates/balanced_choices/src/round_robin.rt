@@ -87,7 +87,6 @@ impl RoundRobin {
 }
 
 /// Returns the index of the candidate after `choice` among `count` candidates, or 0 if `choice` is the last one.
-/// `choice` must be less than `count`.
 fn next_round(choice: usize, count: usize) -> usize
     requires { choice < count }
     ensures { result ≡ (choice + 1) % count }

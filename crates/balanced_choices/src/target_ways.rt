@@ -35,7 +35,7 @@ impl<'a> Model for TargetWays<'a> {
 }
 
 impl<'a> TargetWays<'a> {
-    /// Returns the ways to target `k`, as `sets` gives their candidates. `k` must be less than 64.
+    /// Returns the ways to target `k`, as `sets` gives their candidates.
     pub(crate) fn of(
         alloc: Global,
         traffic: &Traffic<'a>,
@@ -61,7 +61,7 @@ impl<'a> TargetWays<'a> {
     }
 }
 
-/// Returns the candidates of each position towards target `k`, as `sets` gives them. `k` must be less than 64.
+/// Returns the candidates of each position towards target `k`, as `sets` gives them.
 pub(crate) fn ways_towards(
     alloc: Global,
     graph: &Adjacency,
@@ -82,8 +82,7 @@ pub(crate) fn ways_towards(
     Ok(ways)
 }
 
-/// Sets `found` to those of `edges` whose sets in `sets` have `target`. `target` must be less than 64. There must be a
-/// set for each edge.
+/// Sets `found` to those of `edges` whose sets in `sets` have `target`.
 fn find_having(
     edges: &[Edge],
     sets: &[TargetSet],

@@ -24,9 +24,7 @@ fn changed(change: Change, load: usize) -> usize
     }
 }
 
-/// Makes `change` to the load of each channel of the way from position `from`. `taken` has the edge that is taken at
-/// each position. `loads` must have 256 loads for each position. The way ends at a position where no edge is taken, or
-/// after as many edges as there are positions.
+/// Makes `change` to the load of each channel of the way from position `from`, by the edges `taken` at each.
 pub(crate) fn change_way(taken: &[Option<Edge>], loads: &mut [usize], from: usize, change: Change)
     requires { length loads.old ≡ 256 * length taken.now }
     ensures { loads.new ≡ with_changes change loads.old (way_by taken.now from) }
@@ -55,10 +53,8 @@ fn edge_at(taken: &[Option<Edge>], position: usize) -> Option<Edge>
     }
 }
 
-/// Returns the number of the candidate of `position` whose way has the least peak load. If peak loads are equal, the
-/// first such candidate counts. Returns 0 if `position` has no candidate. Only the first 256 candidates count. There
-/// must be such a position. `taken` must have the edge that is taken at each position, and `loads` 256 loads for each
-/// position.
+/// Returns the number of the candidate of `position` whose way has the least peak load, the first of equals, or 0 if it
+/// has none. Only the first 256 candidates count. `taken` has the edge that is taken at each position.
 pub(crate) fn lightest(
     ways: &Adjacency,
     taken: &[Option<Edge>],
@@ -86,8 +82,7 @@ pub(crate) fn lightest(
     best as u8
 }
 
-/// Returns the greatest load on the way that begins with the candidate `edge` of `position`. If a load on the way is at
-/// least `enough`, may instead return any load on the way that is at least `enough`.
+/// Returns the greatest load on the way from `position` that begins with `edge`, or one of at least `enough`.
 fn peak(
     taken: &[Option<Edge>],
     loads: &[usize],
@@ -103,8 +98,7 @@ fn peak(
     peak_from(taken, loads, edge.to, loads[channel], enough)
 }
 
-/// Returns the greatest of `found` and the loads of the channels of the way from `from`. If any of these numbers is at
-/// least `enough`, may instead return any of them that is at least `enough`.
+/// Returns the greatest of `found` and the loads of the way from `from`, or another of them that is at least `enough`.
 fn peak_from(
     taken: &[Option<Edge>],
     loads: &[usize],

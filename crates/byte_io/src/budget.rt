@@ -31,9 +31,7 @@ impl Budget {
         self.bytes == READ_LIMIT || self.calls == READ_LIMIT
     }
 
-    /// Returns how many bytes the next call may ask for: at least 1, at most `wanted`, and no more than the budget has
-    /// left. The last byte of the budget is never asked for together with others. `wanted` must not be 0, and the
-    /// budget must have a byte left.
+    /// Returns how many of `wanted` bytes the next call may ask for: the last byte of the budget only on its own.
     pub(crate) fn share(&self, wanted: usize) -> usize
         requires some { 0 < wanted }
         requires left { self.now.bytes < 2 ^ 40 }

@@ -32,8 +32,7 @@ impl<'b> FromBytes<'b> {
 impl<'b> Source for FromBytes<'b> {
     ghost state = { λ s. record { left = Some s; has_failed = false; interruptions = 0 } };
 
-    /// Moves as many of the bytes that are left as fit into the front of `room`, and returns their number. The rest of
-    /// `room` is unchanged.
+    /// Moves as many of the bytes that are left as fit into the front of `room`, and returns their number.
     fn read(&mut self, room: &mut [u8]) -> Result<usize, ReadError>
         ensures count { result ≡ Ok (min (length room.old) (length self.old)) }
         ensures given { room.new ≡ take (length room.old) self.old ++ drop (length self.old) room.old }

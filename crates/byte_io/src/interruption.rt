@@ -2,8 +2,7 @@ ghost use Rattle.std.specs.Prelude.{◌≡◌, ◌↔◌, IsTrue};
 
 use std::io::ErrorKind;
 
-/// Returns whether an error of `kind` means that the call was only interrupted and must be made again. Every other kind
-/// is a failure.
+/// Returns whether an error of `kind` means that the call was only interrupted and must be made again.
 pub(crate) fn is_interruption(kind: ErrorKind) -> bool
     ensures { IsTrue result ↔ (kind ≡ ErrorKind.Interrupted) }
 {

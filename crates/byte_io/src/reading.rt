@@ -73,8 +73,7 @@ impl<'s, S: Source> Reading<'s, S> {
     }
 }
 
-/// Makes one call, which reads at most `most` bytes into the front of `room`, and returns their number. `room` must
-/// have at least `most` bytes.
+/// Makes one call, which reads at most `most` bytes into the front of `room`, and returns their number.
 fn read_front<S: Source>(source: &mut S, room: &mut [u8], most: usize) -> Result<usize, ReadError>
     requires { most ≤ length room.old }
     ensures within { IfOk result (λ n. n ≤ most) }

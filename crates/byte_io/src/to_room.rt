@@ -67,8 +67,7 @@ impl Sink for ToRoom {
 
     ghost is_flushed = { λ s. s.is_flushed };
 
-    /// Writes all of `bytes`. Fails and writes none of them if they do not fit, or if a call has failed before. A write
-    /// that fails does not change whether the sink is flushed.
+    /// Writes all of `bytes`. Fails and writes none if they do not fit, or if a call has failed before.
     fn write(&mut self, bytes: &[u8]) -> Result<(), WriteFault>
         ensures ok { IsOk result ↔ HasRoomFor self.old bytes.now }
         ensures refused { OnErr result (self.new.written ≡ self.old.written) }

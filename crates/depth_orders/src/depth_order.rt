@@ -42,8 +42,7 @@ pub fn order_by_depth(
     Ok(vertices)
 }
 
-/// Returns the vertex that is placed after `vertices`, or `None` if all vertices are placed. `keys` must have a key
-/// for each vertex, and all edges must lead to vertices.
+/// Returns the vertex that is placed after `vertices`, or `None` if all vertices are placed.
 fn next_by_depth(
     edges: &Adjacency,
     keys: &[VertexKey],
@@ -63,9 +62,7 @@ fn next_by_depth(
     }
 }
 
-/// Looks for the last of `vertices` that has an unplaced neighbor. Returns the first unplaced neighbor of this vertex
-/// by `goes_before`, or `None` if none of `vertices` has an unplaced neighbor. The preconditions are those of
-/// `next_by_depth`.
+/// Returns the first unplaced neighbor, by `goes_before`, of the last of `vertices` that has one, or `None`.
 fn deepest(
     edges: &Adjacency,
     keys: &[VertexKey],
@@ -90,8 +87,7 @@ fn deepest(
     None
 }
 
-/// Returns the first, by `goes_before`, of the unplaced neighbors of `vertex`. Returns `None` if `vertex` has no
-/// unplaced neighbor. The preconditions are those of `next_by_depth`.
+/// Returns the first, by `goes_before`, of the unplaced neighbors of `vertex`, or `None` if it has none.
 fn best_beside(
     edges: &Adjacency,
     keys: &[VertexKey],
@@ -114,8 +110,7 @@ fn best_beside(
     found
 }
 
-/// Returns `vertex` if `found` is `None` or if `vertex` goes before `found` (`goes_before`). Otherwise returns
-/// `found`. `keys` must have a key for each vertex, and `vertex` and `found` must be vertices.
+/// Returns `vertex` if `found` is `None` or `vertex` goes before `found` (`goes_before`), and otherwise `found`.
 fn better(
     edges: &Adjacency,
     keys: &[VertexKey],
@@ -136,9 +131,7 @@ fn better(
     }
 }
 
-/// Returns whether `one` goes before `other`. It does if more of its edges lead to placed vertices, or if equally
-/// many do and `direction` prefers `one` by `keys`. `keys` must have a key for each vertex, and `one` and `other`
-/// must be vertices.
+/// Returns whether `one` has more edges to placed vertices than `other`, or as many and `direction` prefers `one`.
 fn goes_before(
     edges: &Adjacency,
     keys: &[VertexKey],
@@ -183,8 +176,7 @@ fn first_left(keys: &[VertexKey], direction: Direction, placed: &[bool]) -> Opti
     found
 }
 
-/// Returns `vertex` if `found` is `None` or if `direction` prefers `vertex` to `found`. Otherwise returns `found`.
-/// `keys` must have a key for each of the two.
+/// Returns `vertex` if `found` is `None` or `direction` prefers `vertex` to `found`, and otherwise `found`.
 fn earlier(keys: &[VertexKey], direction: Direction, found: Option<usize>, vertex: usize) -> usize
     requires vertex { vertex < length keys.now }
     requires found { MatchOption found (Unit {0}) (λ other. other < length keys.now) }

@@ -14,8 +14,7 @@ pub enum Direction {
 }
 
 impl Direction {
-    /// Returns whether `one` is preferred to `other`, by their keys in `keys`. `keys` must have a key for each of the
-    /// two.
+    /// Returns whether `one` is preferred to `other`, by their keys in `keys`.
     pub(crate) fn takes(self, keys: &[VertexKey], one: usize, other: usize) -> bool
         requires one { one < length keys.now }
         requires other { other < length keys.now }

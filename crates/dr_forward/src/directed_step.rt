@@ -24,7 +24,7 @@ pub fn step(smp: &mut Smp, here: &Here) -> Verdict
     }
 }
 
-/// Performs a step on the way out. `smp` must be on a directed route.
+/// Performs a step on the way out.
 fn outgoing(smp: &mut Smp, here: &Here) -> Verdict
     requires { is_directed smp.old ≡ true }
     ensures packet { smp.new ≡ (outgoing here.now smp.old).packet }
@@ -42,9 +42,8 @@ fn outgoing(smp: &mut Smp, here: &Here) -> Verdict
     }
 }
 
-/// Sends the packet on through the next port of its path if the packet was sent from this node, or if the node is a
-/// switch. Otherwise discards the packet. Also discards it if the node does not have that port. `at` must be the
-/// packet's hop pointer, and must be below its hop count and below 63.
+/// Sends the packet on through the next port of its path if it was sent from this node, or if the node is a switch.
+/// Otherwise, or if the node does not have that port, discards it. `at` is the hop pointer.
 fn go_on(smp: &mut Smp, here: &Here, at: u8) -> Verdict
     requires at { at ≡ number_in hop_pointer smp.old }
     requires before_end { at < number_in hop_count smp.old }
@@ -63,8 +62,7 @@ fn go_on(smp: &mut Smp, here: &Here, at: u8) -> Verdict
     Verdict::Out(port)
 }
 
-/// Advances the hop pointer. If the packet came in through a port (the hop pointer was not 0), records this port.
-/// `at` must be the hop pointer, and must be at most the hop count and below 64.
+/// Advances the hop pointer `at`. If the packet came in through a port (`at` was not 0), records this port.
 fn move_on(smp: &mut Smp, here: &Here, at: u8)
     requires at { at ≡ number_in hop_pointer smp.old }
     requires on_path { at ≤ number_in hop_count smp.old }
@@ -77,7 +75,7 @@ fn move_on(smp: &mut Smp, here: &Here, at: u8)
     }
 }
 
-/// Performs a step on the way back. `smp` must be on a directed route.
+/// Performs a step on the way back.
 fn returning(smp: &mut Smp, here: &Here) -> Verdict
     requires { is_directed smp.old ≡ true }
     ensures packet { smp.new ≡ (returning here.now smp.old).packet }
@@ -97,8 +95,7 @@ fn returning(smp: &mut Smp, here: &Here) -> Verdict
     }
 }
 
-/// Sends the packet back through the recorded port, or discards it if the node does not have that port. `before` must
-/// be one less than the hop pointer, and must be at most the hop count and below 64.
+/// Sends the packet back through the recorded port, or discards it if the node does not have that port.
 fn go_back(smp: &mut Smp, here: &Here, before: u8) -> Verdict
     requires before { number_in hop_pointer smp.old ≡ before + 1 }
     requires on_path { before ≤ number_in hop_count smp.old }

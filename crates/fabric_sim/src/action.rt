@@ -34,8 +34,7 @@ pub(crate) enum Action {
 }
 
 impl Fabric {
-    /// Returns what to do with the packet `smp`, which waits as `envelope` says. If `smp` is on a directed route,
-    /// performs its step. `smp` must have no fault, and must wait at a port from 1 to the port count of its node.
+    /// Returns what to do with the packet `smp`, which waits as `envelope` says. Performs its step on a directed route.
     #[tactic(auto, using(crate::proofs::AgentLists::within_agents), unfolding(crate::specs::PacketOutcome::outcome_of))]
     pub(crate) fn action(&self, envelope: &Envelope, smp: &mut Smp) -> Action
         requires parses { fault_of smp.old ≡ None }
@@ -53,8 +52,7 @@ impl Fabric {
         }
     }
 
-    /// Performs a step of `smp`, which must be on a directed route, and returns what to do with the packet. The
-    /// fabric must have the node of `at`, the port where the packet waits.
+    /// Performs a step of `smp` on its directed route, and returns what to do with it. It waits at the port `at`.
     fn directed_action(&self, at: &NodePort, envelope: &Envelope, smp: &mut Smp) -> Action
         requires directed { is_directed smp.old ≡ true }
         requires port { at.now.node < length self.now.agents }
@@ -72,7 +70,7 @@ impl Fabric {
         }
     }
 
-    /// Returns the node of the port `at`, as a step of a packet at this port sees it. The fabric must have this node.
+    /// Returns the node of the port `at`, as a step of a packet at this port sees it.
     fn here(&self, at: &NodePort) -> Here
         requires { at.now.node < length self.now.agents }
         ensures { result ≡ here_at self.now at.now }
@@ -85,8 +83,7 @@ impl Fabric {
         }
     }
 
-    /// Returns what to do with a directed packet that has reached the end of its path at the port `at`. An answer is
-    /// dropped, a packet for the manager at `at` is handed up, and the agent answers any other packet.
+    /// Returns what to do with a directed packet that has reached the end of its path at the port `at`.
     fn at_agent(&self, at: &NodePort, envelope: &Envelope, smp: &Smp) -> Action
         ensures { outcome_by (packet_in envelope.now smp.now) result
             ≡ at_agent self.now at.now (packet_in envelope.now smp.now) }
@@ -100,8 +97,7 @@ impl Fabric {
         }
     }
 
-    /// Returns what to do with a packet that is forwarded by its DLID. `at` must be the port where the packet waits,
-    /// and the fabric must have its node.
+    /// Returns what to do with a packet that is forwarded by its DLID and waits at the port `at`.
     fn lid_routed_action(&self, at: &NodePort, envelope: &Envelope, smp: &Smp) -> Action
         requires at { at.now ≡ port_of envelope.now.whereabouts }
         requires port { at.now.node < length self.now.agents }
@@ -115,9 +111,7 @@ impl Fabric {
         }
     }
 
-    /// Returns what to do with a packet that is forwarded by its DLID and has reached its destination, when it waits
-    /// at the port `at`. An answer, or a packet for the manager at `at`, is handed up. A TrapRepress is discarded and
-    /// ends its trap. The agent answers any other packet.
+    /// Returns what to do with a packet that is forwarded by its DLID and has reached its destination at the port `at`.
     fn arrival(&self, at: &NodePort, envelope: &Envelope, smp: &Smp) -> Action
         ensures { outcome_by (packet_in envelope.now smp.now) result
             ≡ arrived self.now at.now (packet_in envelope.now smp.now) }
@@ -131,8 +125,7 @@ impl Fabric {
         }
     }
 
-    /// Returns the action for a packet that leaves through the port `out`: it moves to the other end of the cable in
-    /// `out`, or is dropped if there is no cable in `out`.
+    /// Returns the action for a packet that leaves by `out`: it moves across the cable, or is dropped without one.
     fn leaving(&self, out: &NodePort) -> Action
         ensures { (packet : Packet) → outcome_by packet result ≡ leaving self.now out.now packet }
     {
@@ -142,8 +135,7 @@ impl Fabric {
         }
     }
 
-    /// Returns whether a manager sits at `at`, and `smp` is for a manager: a LID-routed trap, or a packet with the
-    /// attribute SMInfo.
+    /// Returns whether a manager sits at `at`, and `smp` is for one: a LID-routed trap, or a packet with SMInfo.
     fn is_for_manager(&self, at: &NodePort, smp: &Smp) -> bool
         ensures { result ≡ is_for_manager self.now at.now smp.now }
     {

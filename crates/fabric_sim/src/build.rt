@@ -35,8 +35,7 @@ impl Fabric {
     }
 }
 
-/// Builds the fabric of the nodes of `topology`, as `of` does, but without cables. Returns an error if memory runs
-/// out.
+/// Builds the fabric of the nodes of `topology`, without cables. Returns an error if memory runs out.
 fn uncabled(alloc: Global, topology: &Topology, first_serial: u64) -> Result<Fabric, AllocError>
     ensures fabric { IfOk result (λ fabric. fabric ≡ uncabled topology.now.nodes first_serial) }
     ensures is_topology { IsTopology topology.now }
@@ -56,7 +55,7 @@ fn uncabled(alloc: Global, topology: &Topology, first_serial: u64) -> Result<Fab
     })
 }
 
-/// Returns `node` as an agent knows it, with the node's name as its description. The name must have at most 64 bytes.
+/// Returns `node` as an agent knows it, with the node's name as its description.
 fn agent_node(node: &Node) -> AgentNode
     requires { length node.now.name ≤ 64 }
     ensures { result ≡ agent_node node.now }
@@ -70,7 +69,7 @@ fn agent_node(node: &Node) -> AgentNode
     }
 }
 
-/// Returns `name` as a description, with zeros after it. `name` must have at most 64 bytes.
+/// Returns `name` as a description, with zeros after it.
 fn description(name: &[u8]) -> NodeDescription
     requires { length name.now ≤ 64 }
     ensures { result ≡ name.now ++ replicate (64 - length name.now) 0 }
@@ -78,7 +77,7 @@ fn description(name: &[u8]) -> NodeDescription
     NodeDescription::decode(&padded(name))
 }
 
-/// Returns `name` as 64 bytes, with zeros after it. `name` must have at most 64 bytes.
+/// Returns `name` as 64 bytes, with zeros after it.
 fn padded(name: &[u8]) -> [u8; 64]
     requires { length name.now ≤ 64 }
     ensures { result ≡ name.now ++ replicate (64 - length name.now) 0 }

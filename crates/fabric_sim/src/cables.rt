@@ -33,8 +33,7 @@ impl Fabric {
         Ok(())
     }
 
-    /// Plugs a cable into the ports `one` and `other`, or a loop if they are the same port. Each port must be from 1
-    /// to its node's port count, and without a cable.
+    /// Plugs a cable into the ports `one` and `other`, or a loop if they are the same port.
     #[tactic(auto, unfolding(crate::specs::Changes::cabled_at))]
     pub(crate) fn join(&mut self, one: &NodePort, other: &NodePort)
         requires one { is_cable_port self.old one.now ≡ true }
@@ -66,7 +65,7 @@ impl Fabric {
         Ok(())
     }
 
-    /// Takes out the cable between the ports `one` and `other`. There must be such a cable.
+    /// Takes out the cable between the ports `one` and `other`.
     #[tactic(auto, unfolding(crate::specs::Changes::uncabled_at))]
     fn part(&mut self, one: &NodePort, other: &NodePort)
         requires { across self.old.peers one.now ≡ Some other.now }
@@ -79,8 +78,7 @@ impl Fabric {
     }
 }
 
-/// Sets the state of `port` to Initialize if `is_wired`, and otherwise to Down. `agents` must have the agent of the
-/// port's node, and `port` must be from 1 to the node's port count.
+/// Sets the state of `port` to Initialize if `is_wired`, and otherwise to Down.
 fn set_wired(agents: &mut [Agent], port: &NodePort, is_wired: bool)
     requires { has_cable_port agents.old port.now ≡ true }
     ensures { agents.new
@@ -90,8 +88,7 @@ fn set_wired(agents: &mut [Agent], port: &NodePort, is_wired: bool)
     agent.set_wired(port.port, is_wired);
 }
 
-/// Sets `other` as the port at the other end of the cable in `port`; `None` stands for no cable. `peers` must have a
-/// slot for `port`.
+/// Sets `other` as the port at the other end of the cable in `port`; `None` stands for no cable.
 fn set_peer(peers: &mut [Peers], port: &NodePort, other: Option<NodePort>)
     requires { HasPeerSlot peers.old port.now }
     ensures { peers.new ≡ with_peer peers.old port.now other }

@@ -10,8 +10,7 @@ use node_agents::Agent;
 use smp_bytes::{Lid, NO_ENTRY};
 
 impl Fabric {
-    /// Returns what the node of the port `at` does with a packet for `lid` that is at this port. `is_by_wire` says
-    /// whether the packet came there by a wire. The fabric must have this node.
+    /// Returns what the node of the port `at` does with a packet for `lid` there, which came by a wire if `is_by_wire`.
     pub(crate) fn course(&self, lid: Lid, at: &NodePort, is_by_wire: bool) -> Course
         requires { at.now.node < length self.now.agents }
         ensures { result ≡ course (fabric_of self.now) lid

@@ -46,10 +46,8 @@ impl Fabric {
         }
     }
 
-    /// Moves, answers, hands up or discards the packet at index `i` among the packets in flight, as `action` says.
-    /// There must be one, and its envelope must be `envelope`. `smp` has the bytes of the packet after its step. If
-    /// the packet moves, it must be able to wait where `action` says (`CanWait`). Returns `SerialsSpent` if an agent is
-    /// to answer and no serial number is left.
+    /// Moves, answers, hands up or discards the packet of `envelope` at index `i`, as `action` says. `smp` has its
+    /// bytes after its step. Returns `SerialsSpent` if an agent is to answer and no serial number is left.
     fn act(
         &mut self,
         i: usize,
@@ -93,8 +91,7 @@ impl Fabric {
         self.traps.repress(node, number);
     }
 
-    /// Discards the packet at index `i` among the packets in flight for `reason`. There must be one, and its serial
-    /// number must be `serial`.
+    /// Discards the packet at index `i` among the packets in flight, with the number `serial`, for `reason`.
     fn discard(&mut self, i: usize, serial: u64, reason: Reason) -> Delivered
         requires { IsFlightAt self.old.flights i serial }
         ensures fabric { self.new ≡ without self.old serial }
@@ -104,10 +101,8 @@ impl Fabric {
         Delivered::Discarded(reason)
     }
 
-    /// Lets the agent answer the request at index `i` among the packets in flight. There must be one, and its
-    /// envelope must be `envelope`. `request` has the bytes of the request after its step. The answer goes from
-    /// `slid` to `dlid`, and replaces the request under a new serial number. Returns `SerialsSpent` if no serial
-    /// number is left.
+    /// Lets the agent answer the request of `envelope` at index `i`, whose bytes after its step are `request`. The
+    /// answer goes from `slid` to `dlid`, and replaces it under a new serial number, or fails with `SerialsSpent`.
     fn ask(
         &mut self,
         i: usize,

@@ -100,7 +100,7 @@ impl Fabric {
         }
     }
 
-    /// Returns the agent of `node`. The fabric must have this node.
+    /// Returns the agent of `node`.
     pub(crate) fn agent_in(&self, node: NodeId) -> &Agent
         requires { node < length self.now.agents }
         ensures { agent_at self.now node ≡ Some result.now }

@@ -11,8 +11,8 @@ use crate::flight::{Flight, Whereabouts};
 use crate::packet::Packet;
 
 impl Fabric {
-    /// Returns the index of the packet with the serial number `serial` among the packets in flight, or `None` if no
-    /// packet in flight has this number. Takes constant time for the first packet, and a binary search for any other.
+    /// Returns the index of the packet in flight with the number `serial`, if any. Takes constant time for the first
+    /// packet, and a binary search for any other.
     pub(crate) fn find(&self, serial: u64) -> Option<usize>
         ensures { Finds self.now.flights serial result }
     {
@@ -23,8 +23,7 @@ impl Fabric {
         self.search(serial)
     }
 
-    /// Returns the index of the packet with the serial number `serial` among the packets in flight, or `None` if no
-    /// packet in flight has this number. Does a binary search.
+    /// Returns the index of the packet in flight with the number `serial`, if any. Does a binary search.
     fn search(&self, serial: u64) -> Option<usize>
         ensures { Finds self.now.flights serial result }
     {
@@ -33,9 +32,8 @@ impl Fabric {
             .ok()
     }
 
-    /// Adds `packet`, which waits as `whereabouts` says, to the packets in flight, and returns its serial number. A
-    /// packet must be able to wait there (`CanWait`). Returns `SerialsSpent` if no serial number is left, or `Memory`
-    /// if memory runs out.
+    /// Adds `packet`, which waits as `whereabouts` says, to those in flight, and returns its serial number. Fails with
+    /// `SerialsSpent` or `Memory`.
     pub(crate) fn enqueue(
         &mut self,
         whereabouts: Whereabouts,
@@ -59,9 +57,7 @@ impl Fabric {
         Ok(serial)
     }
 
-    /// Replaces the packet at index `i` among the packets in flight by `packet`, which waits as `whereabouts` says
-    /// and keeps the serial number. This number must be `serial`, and a packet must be able to wait there
-    /// (`CanWait`).
+    /// Replaces the packet at index `i`, with the number `serial`, by `packet`, which waits as `whereabouts` says.
     pub(crate) fn move_to(
         &mut self,
         i: usize,
@@ -80,8 +76,7 @@ impl Fabric {
         };
     }
 
-    /// Removes the packet at index `i` among the packets in flight. There must be one, and its serial number must be
-    /// `serial`.
+    /// Removes the packet at index `i` among the packets in flight.
     pub(crate) fn remove(&mut self, i: usize, serial: u64)
         requires { IsFlightAt self.old.flights i serial }
         ensures { self.new ≡ without self.old serial }

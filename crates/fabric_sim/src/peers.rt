@@ -21,8 +21,7 @@ impl Model for Peers {
 }
 
 impl Peers {
-    /// Creates the list for a node with the ports 1 to `ports`, without any cable. Returns an error if memory runs
-    /// out.
+    /// Creates the list for a node with the ports 1 to `ports`, without any cable.
     pub(crate) fn new(alloc: Global, ports: u8) -> Result<Peers, AllocError>
         ensures { IfOk result (λ peers. peers ≡ replicate (ports + 1) None) }
     {
@@ -40,8 +39,7 @@ impl Peers {
             .flatten()
     }
 
-    /// Sets `other` as the port at the other end of the cable in `port`; `None` stands for no cable. `port` must be at
-    /// most the node's port count.
+    /// Sets `other` as the port at the other end of the cable in `port`; `None` stands for no cable.
     pub(crate) fn set(&mut self, port: PortNum, other: Option<NodePort>)
         requires { port < length self.old }
         ensures { self.new ≡ slice_set self.old port other }

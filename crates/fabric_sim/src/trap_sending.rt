@@ -83,7 +83,7 @@ impl Fabric {
         }
     }
 
-    /// Makes a new trap wait at `node`, in place of any other. There must be a slot for a trap at `node`.
+    /// Makes a new trap wait at `node`, in place of any other.
     fn add_trap(&mut self, node: NodeId)
         requires { node < length self.old.traps.waiting }
         ensures { self.new ≡ with_traps self.old (with_new_trap self.old.traps node) }
@@ -98,8 +98,7 @@ impl Fabric {
         self.traps.has_room(node) && self.is_switch_at(node)
     }
 
-    /// Returns the port through which the trap of `node` leaves. Returns `None` if the node has no LID, if its table
-    /// has no port for the manager's LID, or if there is no cable in that port.
+    /// Returns the port through which the trap of `node` leaves, if it has a LID, a table entry and a cable for it.
     fn trap_out(&self, node: NodeId) -> Option<NodePort>
         ensures out { result ≡ trap_out self.now node }
         ensures port { IfSome result (λ out. is_cable_port self.now out ≡ true) }
@@ -114,8 +113,7 @@ impl Fabric {
         }
     }
 
-    /// Returns the trap of `node` with the TransactionID `number`, as a packet from the node's LID to the manager's
-    /// LID.
+    /// Returns the trap of `node` with the TransactionID `number`, from the node's LID to the manager's LID.
     fn trap_packet(&self, node: NodeId, number: u64) -> Packet
         ensures { result ≡ trap_packet self.now node number }
     {

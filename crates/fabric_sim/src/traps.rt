@@ -35,8 +35,8 @@ impl Traps {
         }
     }
 
-    /// Reserves a slot for a trap at each of `nodes` nodes, so that switches send traps from now on. Does nothing if
-    /// switches send traps already. Returns an error if memory runs out.
+    /// Lets switches send traps from now on, with a slot for one at each of `nodes` nodes. Does nothing if they do
+    /// already. Returns an error if memory runs out.
     pub(crate) fn begin(&mut self, alloc: Global, nodes: usize) -> Result<(), AllocError>
         ensures ok { OnOk result (self.new ≡ begun self.old nodes) }
         ensures err { OnErr result (self.new ≡ self.old) }
@@ -68,7 +68,7 @@ impl Traps {
         self.last.wrapping_add(1)
     }
 
-    /// Makes a new trap wait at `node`, in place of any that waits there. There must be a slot for a trap at `node`.
+    /// Makes a new trap wait at `node`, in place of any that waits there.
     pub(crate) fn add(&mut self, node: NodeId)
         requires { node < length self.old.waiting }
         ensures { self.new ≡ with_new_trap self.old node }

@@ -18,7 +18,7 @@ use smp_bytes::Generation;
 use std::alloc::AllocError;
 use std::cmp::Ordering;
 
-/// Returns the join of the cells `first` and `second`. The two must have the same key.
+/// Returns the join of the cells `first` and `second`.
 fn join_cells(first: &Sighting, second: &Sighting) -> Sighting
     requires { first.now.0 ≡ second.now.0 }
     ensures value { result ≡ (first.now.0, join first.now.1 second.now.1) }
@@ -27,9 +27,7 @@ fn join_cells(first: &Sighting, second: &Sighting) -> Sighting
     Sighting::new(first.key(), first.cell().join(&second.cell())).unwrap()
 }
 
-/// Adds the cell of `sighting`. If the key of `sighting` already has a cell, joins the two cells; otherwise inserts
-/// the cell. Notes the slot of the cell in `fingers`. `cells` must be in the order of keys (`AreCells`), and must
-/// have room for one more cell.
+/// Adds the cell of `sighting`, joined with the cell of its key if there is one. Notes its slot in `fingers`.
 pub(crate) fn put(cells: &mut PageList<Sighting>, fingers: &mut Fingers, sighting: Sighting)
     requires cells { AreCells cells.old.items }
     requires room { 0 < cells.old.room }
@@ -43,9 +41,7 @@ pub(crate) fn put(cells: &mut PageList<Sighting>, fingers: &mut Fingers, sightin
     fingers.put(&key, slot);
 }
 
-/// Adds the cell of `sighting` at the index of `found`. If the key of `sighting` already has a cell, joins the two
-/// cells; otherwise inserts the cell. Returns the slot of the cell. `cells` must be in the order of keys (`AreCells`)
-/// and have room for one more cell. `found` must be the result of looking for the key of `sighting`.
+/// Adds the cell of `sighting` at the index of `found`, joined with that of its key if there is one. Returns its slot.
 fn put_found(cells: &mut PageList<Sighting>, found: Found, sighting: Sighting) -> Slot
     requires cells { AreCells cells.old.items }
     requires in_range { IsSighting sighting }
@@ -64,8 +60,7 @@ fn put_found(cells: &mut PageList<Sighting>, found: Found, sighting: Sighting) -
     }
 }
 
-/// Adds the cell of `sighting` if the cell is at `floor` or above it. Otherwise changes nothing. `cells` must be
-/// possible cells of a store with `floor` (`AreHeld`), and must have room for one more cell.
+/// Adds the cell of `sighting` if the cell is at `floor` or above it.
 pub(crate) fn put_kept(
     cells: &mut PageList<Sighting>,
     fingers: &mut Fingers,
@@ -84,9 +79,8 @@ pub(crate) fn put_kept(
     }
 }
 
-/// Returns the merge of the cells of `first` and `second`, by a walk through both lists at once. Each step passes one
-/// key, in one list or in both. Counts the comparisons of keys in `steps`, which must be 0 at first. Both lists must
-/// be in the order of keys (`AreCells`). Returns an error if memory runs out.
+/// Returns the merge of the cells of `first` and `second`, by a walk through both lists at once that passes one key a
+/// step. Counts the comparisons of keys in `steps`. Returns an error if memory runs out.
 pub(crate) fn merge_cells(
     first: &PageList<Sighting>,
     second: &PageList<Sighting>,

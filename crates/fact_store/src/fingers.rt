@@ -60,8 +60,7 @@ impl Fingers {
         }
     }
 
-    /// Returns the slot where the search for `key` goes on: the last slot of its kind for the hash of its GUID. Returns
-    /// `None` if its kind has no slots by GUID.
+    /// Returns the last slot of the kind of `key` for the hash of its GUID, or `None` if its kind has none by GUID.
     pub(crate) fn by_guid(&self, key: &Key) -> Option<Slot>
         ensures { result ≡ by_guid self.now key.now }
     {

@@ -10,8 +10,7 @@ use page_list::{PageList, Slot};
 use reply_facts::{Key, Sighting};
 use std::cmp::Ordering;
 
-/// Compares the key of `held` with `key`, and adds 1 to `steps`. `steps` must be less than 2^127. A store compares keys
-/// only by this function.
+/// Compares the key of `held` with `key`, and adds 1 to `steps`. A store compares keys only by this function.
 pub(crate) fn compare(held: &Sighting, key: &Key, steps: &mut u128) -> Ordering
     requires { steps.old < 2 ^ 127 }
     ensures order { result ≡ key_cmp held.now.0 key.now }
@@ -30,9 +29,8 @@ pub(crate) struct Found {
     pub near: Slot,
 }
 
-/// Returns the index of the cell of `key` or, if `key` has no cell, the index at which it would be inserted. `cells`
-/// must be in the order of keys (`AreCells`). Tries the slots of `fingers`, then the end of the list, and then a binary
-/// search.
+/// Returns the index of the cell of `key` or, if `key` has no cell, the index at which it would be inserted. Tries the
+/// slots of `fingers`, then the end of the list, and then a binary search.
 pub(crate) fn index_of(cells: &PageList<Sighting>, key: &Key, fingers: &Fingers) -> Found
     requires { AreCells cells.now.items }
     ensures { IsSearched key.now cells.now.items result.index }
@@ -54,8 +52,7 @@ pub(crate) fn index_of(cells: &PageList<Sighting>, key: &Key, fingers: &Fingers)
 }
 
 /// Looks for `key` at the finger (the remembered slot) of its kind, and then at the finger of its GUID's hash, if its
-/// kind has such fingers. Returns `None` if neither finger gives the index of `key`. `cells` must be in the order of
-/// keys (`AreCells`).
+/// kind has such fingers. Returns `None` if neither finger gives the index of `key`.
 fn found_by_fingers(cells: &PageList<Sighting>, key: &Key, fingers: &Fingers) -> Option<Found>
     requires { AreCells cells.now.items }
     ensures { IfSome result (λ found. IsSearched key.now cells.now.items found.index) }
@@ -66,7 +63,7 @@ fn found_by_fingers(cells: &PageList<Sighting>, key: &Key, fingers: &Fingers) ->
     }
 }
 
-/// Looks for `key` at `finger` as `index_at_finger` does. `cells` must be in the order of keys (`AreCells`).
+/// Looks for `key` at `finger` as `index_at_finger` does.
 fn found_at_finger(cells: &PageList<Sighting>, key: &Key, finger: Slot) -> Option<Found>
     requires { AreCells cells.now.items }
     ensures { IfSome result (λ found. IsSearched key.now cells.now.items found.index) }
@@ -78,10 +75,9 @@ fn found_at_finger(cells: &PageList<Sighting>, key: &Key, finger: Slot) -> Optio
     })
 }
 
-/// Returns `Ok` with the index of the cell of `key` if this cell is the one at `finger` or the next one. Returns
-/// `Err` with the index after `finger` if `key` is greater than the key at `finger`, and less than the next key, if
-/// there is one. Returns `None` otherwise. `cells` must be in the order of keys (`AreCells`). Makes at most two
-/// comparisons.
+/// Returns `Ok` with the index of the cell of `key` if this cell is the one at `finger` or the next one. Returns `Err`
+/// with the index after `finger` if `key` is greater than the key at `finger`, and less than the next key, if there is
+/// one. Returns `None` otherwise. Makes at most two comparisons.
 fn index_at_finger(
     cells: &PageList<Sighting>,
     key: &Key,
@@ -104,8 +100,7 @@ fn index_at_finger(
     }
 }
 
-/// Compares the key of the cell at index `i` with `key`. Looks for the cell on the page of `near` first. Returns
-/// `Greater` if `i` is past the last cell.
+/// Compares the key of the cell at index `i` with `key`. Looks for the cell on the page of `near` first.
 fn order_at(cells: &PageList<Sighting>, i: usize, near: Slot, key: &Key) -> Ordering
     ensures { result ≡ option_map_or (λ s. key_cmp s.0 key.now) (slice_get cells.now.items i) Greater }
 {
@@ -123,9 +118,7 @@ pub(crate) struct SearchResult {
     pub steps: u32,
 }
 
-/// Searches `cells`, which must be in the order of keys (`AreCells`), for the index of the cell of `key` or, if `key`
-/// has no cell, for the index at which it would be inserted. Compares at most as many keys as there are binary digits
-/// in the number of cells.
+/// Searches `cells` for the index of the cell of `key` or, if there is none, the index where it would be inserted.
 pub(crate) fn find(cells: &PageList<Sighting>, key: &Key) -> SearchResult
     requires { AreCells cells.now.items }
     ensures index { IsSearched key.now cells.now.items result.found.index }

@@ -117,8 +117,8 @@ impl Store {
         }
     }
 
-    /// Builds a store of `sightings`, and merges it. If memory runs out, returns an error, and nothing changes. This is
-    /// a separate function because a `Store` is large on the stack and a report has few sightings.
+    /// Builds a store of `sightings`, and merges it. This is a separate function because a `Store` is large on the
+    /// stack and a report has few sightings.
     fn add_many(&mut self, sightings: &[Sighting]) -> Result<(), Refused>
         ensures ok { OnOk result (self.new ≡ merge self.old (view sightings.now)) }
         ensures err { OnErr result (self.new ≡ self.old) }
@@ -128,8 +128,7 @@ impl Store {
         Ok(())
     }
 
-    /// Reserves room for all `sightings`, and then adds, one by one, those that are not below the floor. If memory runs
-    /// out, returns an error, and nothing changes.
+    /// Reserves room for all `sightings`, and then adds, one by one, those that are not below the floor.
     fn add_few(&mut self, sightings: &[Sighting]) -> Result<(), Refused>
         ensures ok { OnOk result (self.new ≡ merge self.old (view sightings.now)) }
         ensures err { OnErr result (self.new ≡ self.old) }
@@ -281,8 +280,7 @@ fn newer(held: Option<Generation>, other: Generation) -> Generation
     }
 }
 
-/// Creates a store at `floor` with those of `sightings` that are not below `floor`. Returns an error if memory runs
-/// out.
+/// Creates a store at `floor` with those of `sightings` that are not below it. Returns an error if memory runs out.
 fn store_of(alloc: Global, floor: Generation, sightings: &[Sighting]) -> Result<Store, Refused>
     ensures { IfOk result (λ store. store ≡ view_at floor sightings.now) }
 {

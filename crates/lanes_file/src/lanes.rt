@@ -64,8 +64,7 @@ impl Model for Lanes {
 }
 
 impl Lanes {
-    /// Returns what the lines of a text say. Lanes and the level of a `level` line must be up to 15, and maps and
-    /// blocks must be in ascending order of their keys (`IsWellFormed`).
+    /// Returns what the lines of a text say.
     pub(crate) fn of(said: LanesBuilder) -> Self
         requires { IsWellFormed said }
         ensures { result ≡ said }
@@ -156,8 +155,7 @@ impl Lanes {
         self.level.is_some()
     }
 
-    /// Returns the lanes of packets from port `into` to port `out` of `node`, one for each service level. Returns an
-    /// empty list if the text gives no lanes.
+    /// Returns the lanes of packets from port `into` to port `out` of `node`, one for each service level, or none.
     fn lanes_between(&self, node: Guid, into: PortNum, out: PortNum) -> &[u8]
         ensures is { result.now ≡ lanes_between self.now node into out }
         ensures lanes { AreLanes result.now }
@@ -168,8 +166,7 @@ impl Lanes {
         }
     }
 
-    /// Returns the lanes of packets for which there is no map, one for each service level. Returns an empty list if the
-    /// text gives no such lanes.
+    /// Returns the lanes of packets for which there is no map, one for each service level, or none.
     fn lanes_without_map(&self) -> &[u8]
         ensures is { result.now ≡ self.now.lanes }
         ensures lanes { AreLanes result.now }
@@ -180,8 +177,7 @@ impl Lanes {
         }
     }
 
-    /// Returns the map for packets from port `into` to port `out` of `node`, or `None` if there is no such map. Does a
-    /// binary search among the maps.
+    /// Returns the map for packets from port `into` to port `out` of `node`. Does a binary search among the maps.
     fn map(&self, node: Guid, into: PortNum, out: PortNum) -> Option<&LaneMap>
         ensures is { option_copied result ≡ find (is_map node into out) self.now.maps }
         ensures lanes { IfSome result (λ map. HasLanes map.now) }
@@ -206,15 +202,13 @@ fn lane_at(lanes: &[u8], level: u8) -> u8
 }
 
 /// Returns whether each service level that any packets have gets a lane below 15 in each of `maps` and in `lanes`.
-/// `lanes` are the lanes of packets that have no map. `own` is the level of packets that get none from a block.
 fn each_is_carried(lanes: &[u8], maps: &[LaneMap], own: Option<u8>, blocks: &[LevelBlock]) -> bool
     ensures { result ≡ each_is_carried lanes.now maps.now own blocks.now }
 {
     (0..LEVEL_END).all(|level| carries(lanes, maps, level) || !gives(own, blocks, level))
 }
 
-/// Returns whether the lane of service level `level` is below 15 in each of `maps` and in `lanes`. `lanes` are the
-/// lanes of packets that have no map.
+/// Returns whether the lane of service level `level` is below 15 in each of `maps` and in `lanes`.
 fn carries(lanes: &[u8], maps: &[LaneMap], level: u8) -> bool
     ensures { result ≡ carries lanes.now maps.now level }
 {
@@ -228,8 +222,7 @@ fn each_has_lane(maps: &[LaneMap], level: u8) -> bool
     maps.iter().all(|map| has_lane(&map.lanes, level))
 }
 
-/// Returns whether any packets have service level `level`: `level` is `own`, or a block gives `level` to a LID. `own`
-/// is the level of packets that get none from a block.
+/// Returns whether packets have service level `level`: it is `own`, the level without a block, or a block gives it.
 fn gives(own: Option<u8>, blocks: &[LevelBlock], level: u8) -> bool
     ensures { result ≡ gives own blocks.now level }
 {

@@ -86,8 +86,7 @@ fn map_line(line: &[u8]) -> Option<MapLine>
     })
 }
 
-/// Parses the part of a `level` line after its first word. The inner value is `None` if the level is above 15. Returns
-/// `None` if the grammar has no such line.
+/// Parses the part of a `level` line after its first word. The inner value is `None` if the level is above 15.
 fn level_line(line: &[u8]) -> Option<Option<u8>>
     ensures { result ≡ level_line (words line.now) }
 {

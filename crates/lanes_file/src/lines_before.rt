@@ -90,8 +90,7 @@ fn wrong(line: usize, wrong: LanesTextError) -> Result<LanesItem, LanesLineFault
     Err(LanesLineFault { line, wrong })
 }
 
-/// Returns what a `lanes` line says, or what is wrong with it. `number` is the number of the line, and `lanes` are its
-/// lanes. `is_second` says whether there is a `lanes` line before it.
+/// Returns what a `lanes` line with the number `number` says, or its fault. `is_second` tells whether one is before it.
 fn lanes_item(number: usize, is_second: bool, lanes: [u8; 16]) -> Result<LanesItem, LanesLineFault>
     ensures { result ≡ lanes_with number is_second lanes }
 {
@@ -111,8 +110,7 @@ fn has_no_lane(lanes: &[u8]) -> bool
     lanes.iter().any(|lane| *lane > MAX_LANE)
 }
 
-/// Returns what the `sl2vl` line `line` says, or what is wrong with it. `number` is the number of the line. `last` has
-/// the node and the ports of the last `sl2vl` line before it, if there is one.
+/// Returns what the `sl2vl` line `line` says, or its fault. `last` is the key of the last `sl2vl` line before it.
 fn map_item(
     number: usize,
     last: Option<((Guid, PortNum), PortNum)>,
@@ -136,9 +134,7 @@ fn map_item(
     )
 }
 
-/// Returns what an `sl2vl` line says, or what is wrong with it. `number` is the number of the line, and `map` is its
-/// map. The fault is `Lane` if a lane is above 15. Otherwise it is `Repeated` if the map does not come after `last`,
-/// which has the node and the ports of the last `sl2vl` line before this one, if there is one.
+/// Returns what an `sl2vl` line with the map `map` says, or its fault. `last` is the key of the last one before it.
 fn map_after(
     number: usize,
     last: Option<((Guid, PortNum), PortNum)>,
@@ -165,8 +161,7 @@ fn is_map_after(last: Option<((Guid, PortNum), PortNum)>, key: ((Guid, PortNum),
     }
 }
 
-/// Returns what a `level` line says, or what is wrong with it. `number` is the number of the line. `is_second` says
-/// whether there is a `level` line before it.
+/// Returns what a `level` line with the number `number` says, or its fault. `is_second` tells whether one is before it.
 fn level_item(
     number: usize,
     is_second: bool,
@@ -184,8 +179,7 @@ fn level_item(
     }
 }
 
-/// Returns what the `levels` line `line` says, or what is wrong with it. `number` is the number of the line. `last` has
-/// the node, the port and the number of the last `levels` line before it, if there is one.
+/// Returns what the `levels` line `line` says, or its fault. `last` is the key of the last `levels` line before it.
 fn block_item(
     number: usize,
     last: Option<((Guid, PortNum), u16)>,
@@ -212,10 +206,7 @@ fn block_item(
     )
 }
 
-/// Returns what a `levels` line says, or what is wrong with it. `number` is the number of the line, and `block` is
-/// its block. The fault is `Level` if a level is above 15 and is not `ff`. Otherwise it is `Repeated` if the block
-/// does not come after `last`, which has the node, the port and the number of the last `levels` line before this one,
-/// if there is one.
+/// Returns what a `levels` line with the block `block` says, or its fault. `last` is the key of the last one before it.
 fn block_after(
     number: usize,
     last: Option<((Guid, PortNum), u16)>,
@@ -241,8 +232,7 @@ fn has_no_level(levels: &[u8]) -> bool
         .any(|level| *level > MAX_LANE && *level != NO_LEVEL)
 }
 
-/// Returns whether the node, the port and the number of `key` come after those of `last`. Returns true if `last` is
-/// `None`.
+/// Returns whether `key`, a node, a port and a number, comes after `last`, as it does if `last` is `None`.
 fn is_block_after(last: Option<((Guid, PortNum), u16)>, key: ((Guid, PortNum), u16)) -> bool
     ensures { result ≡ is_after last key }
 {

@@ -42,8 +42,7 @@ pub fn parse(alloc: Global, text: &[u8]) -> Result<Lanes, LanesTextFault>
     }
 }
 
-/// Returns what the lines of `text` say, or the first fault of the lines. Returns `Memory` if memory is refused before
-/// the first fault.
+/// Returns what the lines of `text` say, the first fault of the lines, or `Memory`.
 #[tactic(auto, using(crate::proofs::Folds::reading))]
 fn read_lines(alloc: Global, text: &[u8]) -> Result<LanesBuilder, LanesTextFault>
     ensures { IsReadAs text.now result }

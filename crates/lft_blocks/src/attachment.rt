@@ -23,8 +23,7 @@ pub(crate) struct Attachment {
 }
 
 /// Returns the attachment of each LID that has an entry in the first `count` blocks, or `None` if the LID has no
-/// attachment. The index of an item is its LID. `guids` must be the usable switches, in ascending order of GUID.
-/// `count` must be the number of blocks that are needed for all LIDs, and must be at most 1024.
+/// attachment. The index of an item is its LID.
 pub(crate) fn attachments(
     alloc: Global,
     wires: &Wires,
@@ -46,8 +45,7 @@ pub(crate) fn attachments(
     Ok(attachments)
 }
 
-/// Returns the attachment of `lid`. Returns `None` if no end port has `lid`, or if its owner is not attached to a
-/// usable switch. `guids` must be the usable switches, in ascending order of GUID.
+/// Returns the attachment of `lid`, or `None` if no end port has `lid` or its owner is not attached to a usable switch.
 fn attachment_of_lid(wires: &Wires, guids: &[Guid], lids: &LidMap, lid: Lid) -> Option<Attachment>
     requires { guids.now ≡ switches (cells_of wires.now) }
     ensures { IsIndexed guids.now (attachment_of_lid (cells_of wires.now) lids.now lid) result }
@@ -57,8 +55,7 @@ fn attachment_of_lid(wires: &Wires, guids: &[Guid], lids: &LidMap, lid: Lid) -> 
     Some(Attachment { switch, port })
 }
 
-/// Returns the usable switch, and the port of it, at which the end port `port` is attached. Returns `None` if `port` is
-/// not attached to a usable switch. A port of a usable switch is attached at port 0 of that switch.
+/// Returns the usable switch, and the port of it, at which the end port `port` is attached, if it is.
 fn attachment_of(wires: &Wires, port: EndPort) -> Option<(Guid, PortNum)>
     ensures { result ≡ attachment_of (cells_of wires.now) port }
 {
@@ -69,8 +66,7 @@ fn attachment_of(wires: &Wires, port: EndPort) -> Option<(Guid, PortNum)>
     }
 }
 
-/// Returns the index of `guid` in `guids`, or `None` if `guids` does not have `guid`. `guids` must be in strictly
-/// ascending order. Does a binary search.
+/// Returns the index of `guid` in `guids`, or `None` if it is not there. Does a binary search.
 pub(crate) fn index_of(guids: &[Guid], guid: Guid) -> Option<usize>
     requires { IsStrictlyIncreasing guids.now }
     ensures { IsIndexIn guids.now guid result }

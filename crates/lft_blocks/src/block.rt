@@ -18,8 +18,7 @@ pub fn block_count(top: Option<Lid>) -> usize
     }
 }
 
-/// Returns the first `count` blocks of the switch at the index `own`. `count` must be at most 1024. `row` must have
-/// this switch's port towards the switch of each attachment.
+/// Returns the first `count` blocks of the switch at the index `own`, whose ports towards switches are `row`.
 pub(crate) fn blocks(
     alloc: Global,
     attachments: &[Option<Attachment>],
@@ -39,8 +38,7 @@ pub(crate) fn blocks(
     Ok(blocks)
 }
 
-/// Returns block `b` of the switch at the index `own`. `b` must be below 1024. `row` must have this switch's port
-/// towards the switch of each attachment.
+/// Returns block `b` of the switch at the index `own`, whose ports towards switches are `row`.
 fn block(attachments: &[Option<Attachment>], row: &[u8], own: usize, b: usize) -> [u8; 64]
     requires within { AreWithin (length row.now) attachments.now }
     requires few { b < 1024 }
@@ -53,9 +51,7 @@ fn block(attachments: &[Option<Attachment>], row: &[u8], own: usize, b: usize) -
     block
 }
 
-/// Returns the entry for `lid` of the switch at the index `own`. If the LID's attachment is at this switch, the entry
-/// is the port of the attachment. If it is at another switch, the entry is the port in `row` towards that switch. If
-/// `lid` has no attachment, the entry is 255. `row` must have a port towards the switch of each attachment.
+/// Returns the entry for `lid` of the switch at the index `own`, whose ports towards switches are `row`.
 fn entry(attachments: &[Option<Attachment>], row: &[u8], own: usize, lid: usize) -> u8
     requires { AreWithin (length row.now) attachments.now }
     ensures { result ≡ entry_in attachments.now row.now own lid }

@@ -28,8 +28,7 @@ impl Model for Numbering {
     ghost view = { λ a. record { lmc = a.lmc; leaf_numbers = a.leaf_numbers.items; most = a.most } };
 }
 
-/// Returns the values that the numbers of LIDs are computed from. `adapters` must have the number of adapters at each
-/// switch, in ascending order of GUID.
+/// Returns the values that the numbers of LIDs are computed from. `adapters` has the number of adapters at each switch.
 pub(crate) fn find_numbering(
     alloc: Global,
     graph: &SwitchGraph,
@@ -47,8 +46,7 @@ pub(crate) fn find_numbering(
     })
 }
 
-/// Returns the number of each LID that has an item in `attachments`, or 0 if the LID has no attachment. The index of a
-/// number is its LID. `by` must have a leaf number for the switch of each attachment.
+/// Returns the number of each LID that has an item in `attachments`, or 0 if the LID has no attachment.
 pub(crate) fn lid_numbers(
     alloc: Global,
     by: &Numbering,
@@ -64,8 +62,7 @@ pub(crate) fn lid_numbers(
     Ok(numbers)
 }
 
-/// Returns the number of `lid`, or 0 if `lid` has no attachment. `by` must have a leaf number for the switch of each
-/// attachment.
+/// Returns the number of `lid`, or 0 if `lid` has no attachment.
 fn number_of(by: &Numbering, attachments: &[Option<Attachment>], lid: usize) -> u16
     requires { AreWithin (length by.now.leaf_numbers) attachments.now }
     ensures { result ≡ indexed_number by.now attachments.now lid }
@@ -76,8 +73,7 @@ fn number_of(by: &Numbering, attachments: &[Option<Attachment>], lid: usize) -> 
     }
 }
 
-/// Returns the number of `lid`, whose attachment is `attachment`. `by` must have a leaf number for the switch of the
-/// attachment.
+/// Returns the number of `lid`, whose attachment is `attachment`.
 fn number_at(by: &Numbering, attachment: Attachment, lid: usize) -> u16
     requires { attachment.switch < length by.now.leaf_numbers }
     ensures { result ≡ number_at by.now attachment.switch attachment.port lid }

@@ -135,8 +135,7 @@ fn tables_of(
     }
 }
 
-/// Returns the usable switches, in ascending order of GUID, and the table of each under the rule that spreads by
-/// `order`.
+/// Returns the usable switches, in ascending order of GUID, and their tables under the rule that spreads by `order`.
 fn by_spread(
     alloc: Global,
     wires: &Wires,
@@ -173,9 +172,7 @@ fn by_updown(
     Ok((graph.into_switches(), tables))
 }
 
-/// Returns the table of each switch of `graph`, with `count` blocks, for routes that go up and then down. The GUIDs
-/// of the switches of `graph` must be in strictly ascending order. The attachments must be at these switches. `count`
-/// must be at most 1024.
+/// Returns the table of each switch of `graph`, with `count` blocks, for routes that go up and then down.
 fn updown_tables(
     alloc: Global,
     graph: &Graph,

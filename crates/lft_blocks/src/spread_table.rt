@@ -23,9 +23,7 @@ use std::alloc::{AllocError, Global};
 use std::mem;
 use subnet_view::{SwitchGraph, Wires};
 
-/// Returns the table of each switch of `graph`, with `count` blocks, under the rule that spreads by `order`. `count`
-/// must be at most 1024. `graph` must be the graph of `wires`. `attachments` must have `64 * count` items, and the
-/// attachments must be at switches of `graph`.
+/// Returns the table of each switch of `graph`, with `count` blocks, under the rule that spreads by `order`.
 pub(crate) fn spread_tables(
     alloc: Global,
     wires: &Wires,
@@ -55,8 +53,7 @@ pub(crate) fn spread_tables(
     tables_of(alloc, guids, &mut rows, count)
 }
 
-/// Returns the row of entries of each switch. `switches` must be the number of switches. The attachments must be at
-/// these switches. `numbers` must have a number for each item of `attachments`.
+/// Returns the row of entries of each switch.
 fn rows(
     alloc: Global,
     spread: &Spread,
@@ -90,9 +87,7 @@ fn rows(
     Ok(rows)
 }
 
-/// Writes the entries of all switches for the LIDs that are attached to the targets of `towards`. `rows` must have the
-/// entries for the LIDs that are attached to earlier switches, and 255 for all other LIDs. `lids` must have the LIDs
-/// that are attached to each switch. `numbers` must have a number for each item of `attachments`.
+/// Writes the entries of all switches for the LIDs that are attached to the targets of `towards`.
 fn write_rows<'s>(
     alloc: Global,
     rows: &mut [TableRow],
@@ -129,9 +124,7 @@ fn write_rows<'s>(
 }
 
 /// Writes the entries of the switch at the index `own` for the LIDs that are attached to the targets of `towards`.
-/// `row` must have the entries of this switch for the LIDs that are attached to earlier switches, and 255 for all other
-/// LIDs. `lids` must have the LIDs that are attached to each switch. `numbers` must have a number for each item of
-/// `attachments`. Replaces the contents of `exits`.
+/// Replaces the contents of `exits`.
 fn write_row<'s>(
     row: &mut TableRow,
     own: usize,
@@ -179,8 +172,7 @@ fn no_ways(alloc: Global, switches: usize, len: usize) -> Result<Vec<TableRow>, 
     Ok(rows)
 }
 
-/// Returns the table of each switch, with the entries of its row in `count` blocks. There must be a row of `64 * count`
-/// entries for each of `guids`, and `count` must be at most 1024. Takes the rows out of `rows`.
+/// Returns the table of each switch, with the entries of its row in `count` blocks. Takes the rows out of `rows`.
 fn tables_of(
     alloc: Global,
     guids: &[Guid],

@@ -25,7 +25,7 @@ impl Model for Table {
 }
 
 impl Table {
-    /// Creates the table of the switch `guid` with `blocks`. There must be at most 1024 blocks.
+    /// Creates the table of the switch `guid` with `blocks`.
     pub(crate) fn new(guid: Guid, blocks: Vec<[u8; 64]>) -> Self
         requires { length blocks.items ≤ 1024 }
         ensures { result ≡ record { guid = guid; blocks = blocks.items } }

@@ -43,10 +43,8 @@ impl TableRow {
         }
     }
 
-    /// Writes the entries for `lids`, which are attached to `target` of `exits`. If `is_own`, the entries are the ports
-    /// of the attachments. Otherwise they are the ports by which packets leave for `target`, or 255 if no port leads
-    /// there. The port for a LID is chosen by its number in `numbers`. The row must have an entry for each of `lids`.
-    /// `attachments` and `numbers` must be as long as the row. `target` must be below 64.
+    /// Writes the entries for `lids`, which are attached to `target` of `exits`: the ports of the attachments if
+    /// `is_own`, and else those that are chosen by the LIDs' numbers in `numbers`, or 255.
     pub(crate) fn write(
         &mut self,
         attachments: &[Option<Attachment>],
@@ -70,8 +68,7 @@ impl TableRow {
         }
     }
 
-    /// Returns the entries in `count` blocks of 64. The row must have `64 * count` entries, and `count` must be at most
-    /// 1024.
+    /// Returns the entries in `count` blocks of 64.
     pub(crate) fn blocks(&self, alloc: Global, count: usize) -> Result<Vec<[u8; 64]>, AllocError>
         requires few { count ≤ 1024 }
         requires all { length self.now ≡ 64 * count }
@@ -85,8 +82,7 @@ impl TableRow {
     }
 }
 
-/// Sets the entry for each of `lids` to the port of its attachment, or to 255 if the LID has none. `entries` must have
-/// an entry for each of `lids`. `attachments` must be as long as `entries`.
+/// Sets the entry for each of `lids` to the port of its attachment, or to 255 if the LID has none.
 fn write_own(entries: &mut [u8], attachments: &[Option<Attachment>], lids: &[Lid])
     requires lids { All (λ lid. lid < length entries.old) lids.now }
     requires attachments { length entries.old ≡ length attachments.now }
@@ -98,7 +94,7 @@ fn write_own(entries: &mut [u8], attachments: &[Option<Attachment>], lids: &[Lid
     }
 }
 
-/// Returns block `b` of `entries`. `entries` must have all 64 entries of the block.
+/// Returns block `b` of `entries`.
 fn block(entries: &[u8], b: usize) -> [u8; 64]
     requires few { b < 1024 }
     requires within { 64 * b + 64 ≤ length entries.now }
@@ -111,7 +107,7 @@ fn block(entries: &[u8], b: usize) -> [u8; 64]
     block
 }
 
-/// Returns the port of the attachment of `lid`, or 255 if `lid` has none. `attachments` must have an item for `lid`.
+/// Returns the port of the attachment of `lid`, or 255 if `lid` has none.
 fn own_entry(attachments: &[Option<Attachment>], lid: Lid) -> u8
     requires { lid < length attachments.now }
     ensures { result ≡ attachment_port (slice_index_or attachments.now lid None) }
@@ -123,7 +119,6 @@ fn own_entry(attachments: &[Option<Attachment>], lid: Lid) -> u8
 }
 
 /// Returns, for each of `switches` switches, the LIDs that are attached to the switch, in ascending order.
-/// `attachments` must have at most 65536 items, and the attachments must be at these switches.
 pub(crate) fn lids_by_switch(
     alloc: Global,
     attachments: &[Option<Attachment>],

@@ -10,8 +10,7 @@ use smp_bytes::{Guid, NO_ENTRY};
 use std::alloc::{AllocError, Global};
 use updown_routes::Routes;
 
-/// Returns the table of each of the switches `guids`, with `count` blocks, according to `routes`. `count` must be at
-/// most 1024. The attachments must be at switches of `guids`.
+/// Returns the table of each of the switches `guids`, with `count` blocks, according to `routes`.
 pub(crate) fn tables(
     alloc: Global,
     routes: &Routes,
@@ -32,8 +31,7 @@ pub(crate) fn tables(
     Ok(tables)
 }
 
-/// Returns the table of the switch at the index `own` of `guids`, with `count` blocks, according to `routes`. `count`
-/// must be at most 1024. There must be a switch at the index `own`. The attachments must be at switches of `guids`.
+/// Returns the table of the switch at the index `own` of `guids`, with `count` blocks, according to `routes`.
 fn table_at(
     alloc: Global,
     routes: &Routes,
@@ -56,8 +54,7 @@ fn table_at(
     })
 }
 
-/// Returns the next port from the switch at the index `own` towards each of the first `len` switches, or 255 if there
-/// is no next port.
+/// Returns the next port from the switch at the index `own` towards each of the first `len` switches, or 255.
 fn row(alloc: Global, routes: &Routes, own: usize, len: usize) -> Result<Vec<u8>, AllocError>
     ensures { IfOk result (λ row. row.items ≡ row_of routes.now own len) }
 {
@@ -68,8 +65,7 @@ fn row(alloc: Global, routes: &Routes, own: usize, len: usize) -> Result<Vec<u8>
     Ok(row)
 }
 
-/// Returns the next port from the switch at the index `own` towards the switch at the index `to`, or 255 if there is no
-/// next port.
+/// Returns the next port from the switch at the index `own` towards the one at the index `to`, or 255 if there is none.
 fn port_towards(routes: &Routes, own: usize, to: usize) -> u8
     ensures { result ≡ unwrap_or (next_port_at routes.now own to) 255 }
 {

@@ -39,8 +39,7 @@ pub fn assign(alloc: Global, store: &Store, lmc: Lmc) -> Result<LidMap, LidFault
     }
 }
 
-/// Returns the fault to report if memory runs out before the LIDs are known. The fault is `NoRoom` if some end port
-/// finds no LID, and otherwise `Memory`.
+/// Returns the fault if memory runs out before the LIDs are known: `NoRoom` if some end port finds none, else `Memory`.
 fn out_of_memory(store: &Store, lmc: Lmc) -> LidFault
     ensures { result ≡ unwrap_or (lid_fault (no_room lmc (cells_of store.now))) Memory }
 {

@@ -21,10 +21,9 @@ pub(crate) struct Next {
     adapter: usize,
 }
 
-/// Returns the end ports of `keepers`, in the order of `keepers`, each with its LID. The LID is the claim that the
-/// end port keeps. If the end port keeps none, the LID is the least number whose range fits and has no number that is
-/// taken. Returns `None` if some end port finds no LID. In `taken` the ranges of kept claims must be marked, and no
-/// others. The length of `taken` is the room, and must be at most 49152.
+/// Returns the end ports of `keepers`, in the order of `keepers`, each with its LID, or `None` if some end port finds
+/// no LID. The LID is the claim that the end port keeps, or else the least number whose range fits and has no number
+/// that is taken. The length of `taken` is the room.
 pub(crate) fn hand_out(
     alloc: Global,
     lmc: Lmc,
@@ -61,9 +60,7 @@ pub(crate) fn first(lmc: Lmc) -> Next
     }
 }
 
-/// Returns the least number whose range, as wide as that of `port`, is open, and marks this range in `taken`. Returns
-/// `None` if no range of that width is open. `taken` must have at most 49152 numbers. `next` must be passed
-/// (`ArePassed`), so no open range begins below its numbers.
+/// Returns the least number where a range as wide as that of `port` is open, if any, and marks it in `taken`.
 pub(crate) fn take(taken: &mut [bool], next: &mut Next, lmc: Lmc, port: EndPort) -> Option<Lid>
     requires room { length taken.old ≤ 0xC000 }
     requires passed { ArePassed lmc taken.old next.old }
@@ -81,9 +78,7 @@ pub(crate) fn take(taken: &mut [bool], next: &mut Next, lmc: Lmc, port: EndPort)
     }
 }
 
-/// Returns the least number whose range of `width` numbers is open, and marks this range in `taken`. Returns `None` if
-/// no range of that width is open. `width` must be from 1 to 128, and `taken` must have at most 49152 numbers. `next`
-/// must be passed (`IsPassed`), so no open range of this width begins below it.
+/// Returns the least number from which a range of `width` numbers is open, if any, and marks the range in `taken`.
 fn take_from(taken: &mut [bool], next: &mut usize, width: usize) -> Option<Lid>
     requires some { 1 ≤ width }
     requires few { width ≤ 128 }
@@ -100,10 +95,7 @@ fn take_from(taken: &mut [bool], next: &mut usize, width: usize) -> Option<Lid>
     Some(Lid::new(first as u16))
 }
 
-/// Returns the least number that is at least `next` and whose range of `width` numbers fits and has no mark. Returns
-/// `None` if no such number exists. `width` must be from 1 to 128, and `marks` must have at most 49152 numbers.
-/// `next` must be passed (`IsPassed`): no such number is below `next`, and `next` is a multiple of `width` other than
-/// 0, and at most `width` past the end of `marks`.
+/// Returns the least number from `next` on whose range of `width` numbers fits and has no mark, or `None`.
 fn least_unmarked(marks: &[bool], mut next: usize, width: usize) -> Option<usize>
     requires some { 1 ≤ width }
     requires few { width ≤ 128 }

@@ -14,10 +14,7 @@ use std::alloc::{AllocError, Global};
 use subnet_view::EndPort;
 
 /// Returns the end ports in the order of `end_ports`, each with the claim that it keeps, or `None` if it keeps no
-/// claim. A claim is kept if its range fits, and has no number in common with a fitting range that an earlier end
-/// port claims. Marks the ranges of fitting claims in `claimed`, and the ranges of kept claims in `taken`. `ports`
-/// must be the end ports of `store` in that order. `claimed` and `taken` must be as long as the room, and have no
-/// marks.
+/// claim. Marks the ranges of fitting claims in `claimed`, and the ranges of kept claims in `taken`.
 pub(crate) fn keep_claims(
     alloc: Global,
     store: &Store,
@@ -48,9 +45,8 @@ pub(crate) fn claim(store: &Store, port: EndPort) -> Option<Lid>
     store.claim(port.node, port.port)
 }
 
-/// Returns `claim` if its range of `width` numbers fits and has no mark in `claimed`. Otherwise returns `None`. Marks
-/// the range in `claimed` if the range fits, and in `taken` if the claim is returned. `width` must be from 1 to 128,
-/// and `claimed` and `taken` must be equally long.
+/// Returns `claim` if its range of `width` numbers fits and has no mark in `claimed`, and otherwise `None`. Marks the
+/// range in `claimed` if the range fits, and in `taken` if the claim is returned.
 pub(crate) fn keep(
     claim: Option<Lid>,
     width: usize,
@@ -70,8 +66,8 @@ pub(crate) fn keep(
     Some(lid)
 }
 
-/// Returns `claim` if its range of `width` numbers fits and has no mark in `claimed`. Otherwise returns `None`. Marks
-/// the range in `claimed` if the range fits. `width` must be from 1 to 128.
+/// Returns `claim` if its range of `width` numbers fits and has no mark in `claimed`, and otherwise `None`. Marks the
+/// range in `claimed` if the range fits.
 pub(crate) fn claims_first(claim: Option<Lid>, width: usize, claimed: &mut [bool]) -> Option<Lid>
     requires some { 1 ≤ width }
     requires few { width ≤ 128 }

@@ -42,8 +42,7 @@ impl Model for LidMap {
 }
 
 impl LidMap {
-    /// Creates a map with the LMC `lmc` from the end ports in the order of `end_ports`, each with its LID. All ranges
-    /// must be below 49152. Returns an error if memory runs out.
+    /// Creates a map with the LMC `lmc` from the end ports in the order of `end_ports`, each with its LID.
     pub(crate) fn new(
         alloc: Global,
         lmc: Lmc,
@@ -115,9 +114,8 @@ impl LidMap {
     }
 }
 
-/// Returns, for each number below `end`, the end port whose range has the number, or `None` if no range has it. All
-/// ranges must be below `end`. Writes the entries of the first end port last, so that if several ranges have a number,
-/// the first end port is its owner.
+/// Returns, for each number below `end`, the end port whose range has the number, or `None` if no range has it. Writes
+/// the entries of the first end port last, so that if several ranges have a number, the first end port is its owner.
 fn owners(
     alloc: Global,
     lmc: Lmc,
@@ -135,7 +133,7 @@ fn owners(
     Ok(owners)
 }
 
-/// Writes the end port of `given` at each number of its range. The range must be within `owners`.
+/// Writes the end port of `given` at each number of its range.
 fn own(owners: &mut Vec<Option<EndPort>>, lmc: Lmc, given: &(EndPort, Lid))
     requires { given.now.1 + width_of lmc given.now.0 ≤ vec_len owners.old }
     ensures owned { AreOwnersMore given.now.0 (range_at lmc given.now.0 given.now.1)
@@ -148,7 +146,7 @@ fn own(owners: &mut Vec<Option<EndPort>>, lmc: Lmc, given: &(EndPort, Lid))
     }
 }
 
-/// Returns, for each number below `end`, whether it is the LID of an end port. All ranges must be below `end`.
+/// Returns, for each number below `end`, whether it is the LID of an end port.
 fn lid_marks(
     alloc: Global,
     lmc: Lmc,
@@ -166,7 +164,7 @@ fn lid_marks(
     Ok(marks)
 }
 
-/// Returns the marked numbers, in ascending order. `marks` must have at most 2^16 entries.
+/// Returns the marked numbers, in ascending order.
 fn rising(alloc: Global, marks: &[bool]) -> Result<Vec<Lid>, AllocError>
     requires { length marks.now ≤ 2 ^ 16 }
     ensures { IfOk result (λ lids. lids.items ≡ marked_from marks.now 0) }
@@ -205,8 +203,7 @@ fn by_port(
     Ok(lids)
 }
 
-/// Returns the greatest number in the range of an end port, or `None` if there are no end ports. All ranges must be
-/// below 49152.
+/// Returns the greatest number in the range of an end port, or `None` if there are no end ports.
 fn top(lmc: Lmc, given: &[(EndPort, Lid)]) -> Option<Lid>
     requires { AreBelow 0xC000 lmc given.now }
     ensures { result ≡ top_among lmc given.now }
@@ -218,7 +215,7 @@ fn top(lmc: Lmc, given: &[(EndPort, Lid)]) -> Option<Lid>
     top
 }
 
-/// Returns the last number of the range of `port` that begins at `lid`. This number must be below 49152.
+/// Returns the last number of the range of `port` that begins at `lid`.
 fn last(lmc: Lmc, port: EndPort, lid: Lid) -> Lid
     requires { lid + width_of lmc port ≤ 0xC000 }
     ensures { result ≡ last_of lmc (port, lid) }

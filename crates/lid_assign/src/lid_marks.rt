@@ -26,8 +26,7 @@ pub(crate) fn width(lmc: Lmc, port: EndPort) -> usize
     usize::from(lmc_at(lmc, port).width())
 }
 
-/// Returns whether the range of `width` numbers that begins at `first` fits: it begins at a multiple of its width
-/// other than 0, and ends below `room`. `first` must be less than 2^16, and `width` must be from 1 to 128.
+/// Returns whether the range of `width` numbers that begins at `first` fits below `room`.
 pub(crate) fn fits(room: usize, first: usize, width: usize) -> bool
     requires first { first < 2 ^ 16 }
     requires some { 1 ≤ width }
@@ -37,8 +36,7 @@ pub(crate) fn fits(room: usize, first: usize, width: usize) -> bool
     1 <= first && first % width == 0 && first + width <= room
 }
 
-/// Returns whether any of the `width` numbers that begin at `first` is marked. All these numbers must be within
-/// `marks`.
+/// Returns whether any of the `width` numbers that begin at `first` is marked.
 pub(crate) fn any_marked(marks: &[bool], first: usize, width: usize) -> bool
     requires { first + width ≤ length marks.now }
     ensures { result ≡ any_marked marks.now (from_on width first) }
@@ -51,8 +49,7 @@ pub(crate) fn any_marked(marks: &[bool], first: usize, width: usize) -> bool
     false
 }
 
-/// Marks the `width` numbers that begin at `first`. All these numbers must be within `marks`. Leaves all other marks
-/// unchanged.
+/// Marks the `width` numbers that begin at `first`.
 pub(crate) fn mark(marks: &mut [bool], first: usize, width: usize)
     requires { first + width ≤ length marks.old }
     ensures { AreMarkedMore (Some (from_on width first)) marks.old marks.new }

@@ -53,8 +53,7 @@ pub(crate) fn room_and_end_ports(store: &Store) -> NoRoom
     }
 }
 
-/// Returns the room: the least table size of a usable switch, but at most 49152, the first number past the unicast
-/// LIDs. Walks the cells, with at most two binary searches for each switch.
+/// Returns the room for LIDs. Walks the cells, with at most two binary searches for each switch.
 pub(crate) fn room(store: &Store) -> u16
     ensures { result ≡ room (cells_of store.now) }
 {
@@ -67,8 +66,7 @@ pub(crate) fn room(store: &Store) -> u16
     least
 }
 
-/// Returns the table size of the node whose type `sighting` reports, if this node is a usable switch. Otherwise returns
-/// `None`. `sighting` must be a cell of `store`.
+/// Returns the table size of the node whose type `sighting` reports, if this node is a usable switch.
 fn usable_cap(store: &Store, sighting: &Sighting) -> Option<u16>
     requires { cell_for store.now sighting.now.0 ≡ Some sighting.now.1 }
     ensures { result ≡ usable_cap (cells_of store.now) sighting.now }

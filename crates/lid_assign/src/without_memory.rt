@@ -26,8 +26,7 @@ pub(crate) fn runs_out(store: &Store, lmc: Lmc) -> bool
     runs_out_below::<NUMBERS>(store, lmc, usize::from(room(store)))
 }
 
-/// Returns whether some end port finds no LID. `most` must be the room, and must be at most `N`. `N` must be at most
-/// 49152.
+/// Returns whether some end port finds no LID.
 fn runs_out_below<const N: usize>(store: &Store, lmc: Lmc, most: usize) -> bool
     requires room { most ≡ room (cells_of store.now) }
     requires within { most ≤ N }
@@ -39,7 +38,7 @@ fn runs_out_below<const N: usize>(store: &Store, lmc: Lmc, most: usize) -> bool
     runs_out_after(store, lmc, &mut [false; N][..most], &mut taken[..most])
 }
 
-/// Marks the ranges of kept claims in `taken`. `claimed` and `taken` must be as long as the room, and have no marks.
+/// Marks the ranges of kept claims in `taken`.
 fn keep_in_turn(store: &Store, lmc: Lmc, claimed: &mut [bool], taken: &mut [bool])
     requires claimed { claimed.old ≡ replicate (room (cells_of store.now)) false }
     requires taken { taken.old ≡ replicate (room (cells_of store.now)) false }
@@ -53,8 +52,7 @@ fn keep_in_turn(store: &Store, lmc: Lmc, claimed: &mut [bool], taken: &mut [bool
     }
 }
 
-/// Returns whether some end port that keeps no claim finds no LID. In `taken` the ranges of kept claims must be marked,
-/// and no others. `claimed` must be as long as the room, and have no marks.
+/// Returns whether some end port that keeps no claim finds no LID.
 fn runs_out_after(store: &Store, lmc: Lmc, claimed: &mut [bool], taken: &mut [bool]) -> bool
     requires claimed { claimed.old ≡ replicate (room (cells_of store.now)) false }
     requires taken { AreTaken (room (cells_of store.now))

@@ -9,8 +9,7 @@ use crate::refusal::Refusal;
 use crate::{lft_block, node_description, node_info, port_info, switch_info};
 use smp_bytes::{AttributeId, Method, PortNum, Smp};
 
-/// Handles the request `smp`, which it applies if it is a Set. Returns the attribute of the answer or, if the request
-/// is refused, the reason. `arrival`, the port where the request arrived, must be at most the port count.
+/// Handles the request `smp` at the port `arrival`, and returns the attribute of the answer or why it is refused.
 pub(crate) fn handle(agent: &mut Agent, smp: &Smp, arrival: PortNum) -> Result<[u8; 64], Refusal>
     requires { arrival ≤ agent.old.node.ports }
     ensures told { result ≡ (after_request agent.old smp.now arrival).told }
@@ -26,8 +25,7 @@ pub(crate) fn handle(agent: &mut Agent, smp: &Smp, arrival: PortNum) -> Result<[
     }
 }
 
-/// Returns the attribute that `smp`, taken as a Get, asks for. If the Get is refused, returns the reason. `arrival`
-/// must be at most the port count.
+/// Returns the attribute that `smp`, taken as a Get, asks for, or why the Get is refused.
 #[tactic(auto, unfolding(crate::specs::Answers::get_of))]
 fn get(agent: &Agent, smp: &Smp, arrival: PortNum) -> Result<[u8; 64], Refusal>
     requires { arrival ≤ agent.now.node.ports }
@@ -50,8 +48,7 @@ fn get(agent: &Agent, smp: &Smp, arrival: PortNum) -> Result<[u8; 64], Refusal>
     }
 }
 
-/// Applies a Set of the attribute in `smp`. If the Set is refused, changes nothing and returns the reason. `arrival`
-/// must be at most the port count.
+/// Applies a Set of the attribute in `smp`, or changes nothing and returns why it is refused.
 #[tactic(auto, unfolding(crate::specs::Answers::set_of))]
 fn set(agent: &mut Agent, smp: &Smp, arrival: PortNum) -> Result<(), Refusal>
     requires { arrival ≤ agent.old.node.ports }

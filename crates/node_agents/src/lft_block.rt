@@ -23,8 +23,7 @@ pub(crate) fn get(agent: &Agent, block: u32) -> Option<[u8; BLOCK]>
     Some(entries)
 }
 
-/// Writes `payload` as the 64 entries of the block `block`, if the table has this block. Returns whether the table
-/// has this block.
+/// Writes `payload` as the 64 entries of the block `block`, and returns whether the table has this block.
 pub(crate) fn set(agent: &mut Agent, block: u32, payload: &[u8; BLOCK]) -> bool
     ensures taken { result ≡ is_some (set_block agent.old block payload.now) }
     ensures agent { agent.new ≡ unwrap_or (set_block agent.old block payload.now) agent.old }

@@ -7,7 +7,7 @@ use crate::agent::Agent;
 use attr_codec::{Attribute, NodeInfo, NodeTypeNumber};
 use smp_bytes::{Guid, PortNum};
 
-/// Returns the attribute for a Get that arrived at the port `arrival`. `arrival` must be at most the port count.
+/// Returns the attribute for a Get that arrived at the port `arrival`.
 pub(crate) fn get(agent: &Agent, arrival: PortNum) -> [u8; 64]
     requires { arrival ≤ agent.now.node.ports }
     ensures { result ≡ get_node_info agent.now arrival }
@@ -29,8 +29,7 @@ pub(crate) fn get(agent: &Agent, arrival: PortNum) -> [u8; 64]
     info.encode()
 }
 
-/// Returns the GUID of `port`: the node's GUID for a switch, and the node's GUID plus `port` for an adapter. `port`
-/// must be at most the port count.
+/// Returns the GUID of `port`: the node's GUID, plus `port` for an adapter.
 fn port_guid(agent: &Agent, port: PortNum) -> Guid
     requires { port ≤ agent.now.node.ports }
     ensures { result ≡ port_guid agent.now.node port }

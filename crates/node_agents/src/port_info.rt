@@ -19,10 +19,8 @@ pub(crate) fn get(agent: &Agent, modifier: u32, arrival: PortNum) -> Option<[u8;
     Some(info_of(agent.port(port), arrival))
 }
 
-/// Applies a Set of `payload` to the port that `modifier` means for a request that arrived at the port `arrival`.
-/// Writes the LID, the LMC and the manager's LID if this is an end port, and the state of any port. Returns whether
-/// the Set is accepted. Writes nothing if a value is refused, or if `modifier` means no port. `arrival` must be at
-/// most the port count.
+/// Applies a Set of `payload` to the port that `modifier` means for a request that arrived at `arrival`: the LID, the
+/// LMC and the manager's LID of an end port, and the state of any port. Returns whether the Set is accepted.
 pub(crate) fn set(agent: &mut Agent, modifier: u32, arrival: PortNum, payload: &[u8; 64]) -> bool
     requires { arrival ≤ agent.old.node.ports }
     ensures taken { result ≡ is_some (set_port_info agent.old modifier arrival payload.now) }
@@ -38,8 +36,7 @@ pub(crate) fn set(agent: &mut Agent, modifier: u32, arrival: PortNum, payload: &
     }
 }
 
-/// Returns the port that a Set of `payload` means, with the values of the port after the Set, or `None` if the Set is
-/// refused. `arrival`, the port where the request arrived, must be at most the port count.
+/// Returns the port that a Set of `payload` means, with its values after the Set, or `None` if the Set is refused.
 #[tactic(auto, unfolding(crate::specs::PortInfo::changed_port))]
 fn changed_port(
     agent: &Agent,
@@ -61,9 +58,8 @@ fn changed_port(
     Some((port, after))
 }
 
-/// Returns the port that a request means. For a switch it is the port `modifier`, from 0 to the port count. For an
-/// adapter it is the port `arrival` at which the request arrived, if `modifier` is 0 or the number of that port.
-/// Returns `None` for any other `modifier`.
+/// Returns the port that a request means: of a switch the port `modifier`, and of an adapter the port `arrival` if
+/// `modifier` is 0 or its number.
 fn port_meant(agent: &Agent, modifier: u32, arrival: PortNum) -> Option<PortNum>
     ensures port { result ≡ port_meant agent.now modifier arrival }
 {
@@ -77,8 +73,7 @@ fn port_meant(agent: &Agent, modifier: u32, arrival: PortNum) -> Option<PortNum>
     }
 }
 
-/// Returns the PortInfo of `port` for the answer to a request that arrived at the port `arrival`. The fields that an
-/// agent does not keep are 0.
+/// Returns the PortInfo of `port` for a request that arrived at `arrival`. Fields that an agent does not keep are 0.
 fn info_of(port: Port, arrival: PortNum) -> [u8; 64]
     ensures { result ≡ port_info_of port arrival }
 {
@@ -118,8 +113,7 @@ fn are_lids_taken(max_lmc: u8, info: &PortInfo) -> bool
     lmc.number() <= max_lmc && may_have(info.base_lid(), lmc)
 }
 
-/// Returns whether a port may have the LID `base` with `lmc`: `base` is 0, which stands for no LID, or `base` is a
-/// multiple of 2^LMC and the 2^LMC LIDs that start at `base` are all unicast.
+/// Returns whether a port may have `base` with `lmc`: 0, for no LID, or a multiple of 2^LMC whose LIDs are unicast.
 fn may_have(base: Lid, lmc: Lmc) -> bool
     ensures { result ≡ may_have base lmc }
 {
@@ -128,8 +122,7 @@ fn may_have(base: Lid, lmc: Lmc) -> bool
     first == 0 || (first % count == 0 && first + count <= u32::from(Lid::UNICAST_END))
 }
 
-/// Returns `port` after a Set of `payload`, or `None` if the LID, the LMC or the link state is refused. The LMC may
-/// be at most `max_lmc`. Unless `has_lid`, only the state changes.
+/// Returns `port` after a Set of `payload`, or `None` if this is refused. Unless `has_lid`, only the state changes.
 fn port_after(port: Port, has_lid: bool, max_lmc: u8, payload: &[u8; 64]) -> Option<Port>
     ensures { result ≡ port_after port has_lid max_lmc payload.now }
 {
@@ -150,8 +143,7 @@ fn port_after(port: Port, has_lid: bool, max_lmc: u8, payload: &[u8; 64]) -> Opt
     })
 }
 
-/// Returns the link state after a Set that asks for `wish`. Accepts no change, the present state, and the next state
-/// on the way from Initialize to Active. Returns `None` for any other `wish`.
+/// Returns the link state after a Set that asks for `wish`: no change, the present state, or the next one up to Active.
 fn state_after(state: PortState, wish: PortState) -> Option<PortState>
     ensures { result ≡ state_after state wish }
 {

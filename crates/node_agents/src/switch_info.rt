@@ -16,8 +16,7 @@ pub(crate) fn get(agent: &Agent) -> [u8; 64]
     info.encode()
 }
 
-/// Writes the LinearFDBTop in `payload` if it is below LinearFDBCap, and ignores all else in `payload`. Returns
-/// whether the top was written.
+/// Writes the LinearFDBTop in `payload`, and nothing else, if it is below LinearFDBCap. Returns whether it was.
 pub(crate) fn set(agent: &mut Agent, payload: &[u8; 64]) -> bool
     ensures taken { result ≡ is_some (set_switch_info agent.old payload.now) }
     ensures agent { agent.new ≡ unwrap_or (set_switch_info agent.old payload.now) agent.old }

@@ -7,8 +7,7 @@ use std::alloc::{AllocError, Global};
 /// The number of items that a page has room for.
 pub(crate) const PAGE: usize = 256;
 
-/// Inserts `item` into `page` at `index`, which must be at most the length of `page`. `page` must have room for one
-/// more item.
+/// Inserts `item` into `page` at `index`.
 pub(crate) fn insert_within<T>(page: &mut Vec<T>, index: usize, item: T)
     requires index { index ≤ vec_len page.old }
     requires room { vec_len page.old < vec_capacity page.old }
@@ -22,8 +21,7 @@ pub(crate) fn insert_within<T>(page: &mut Vec<T>, index: usize, item: T)
 }
 
 /// Moves the second half of the full page `page` to the empty page `tail`, and inserts `item` at `index`, counted
-/// across both pages. Returns the number of items that `page` has then. `index` must be at most `PAGE`. Each of the
-/// two pages must have room for `PAGE` items.
+/// across both pages. Returns the number of items that `page` has then.
 pub(crate) fn insert_halved<T: Copy>(
     page: &mut Vec<T>,
     tail: &mut Vec<T>,
@@ -55,9 +53,8 @@ pub(crate) fn insert_halved<T: Copy>(
     page.len()
 }
 
-/// Adds empty pages, each with room for `PAGE` items, to `spare` until `spare` has at least `n` pages. `spare` must
-/// have only empty pages with room for `PAGE` items. If memory runs out, returns an error and keeps the pages that
-/// were added.
+/// Adds empty pages, each with room for `PAGE` items, to `spare` until `spare` has at least `n` pages. If memory runs
+/// out, returns an error and keeps the pages that were added.
 pub(crate) fn fill<T: Copy>(
     spare: &mut Vec<Vec<T>>,
     alloc: Global,

@@ -220,7 +220,7 @@ impl<T: Copy> PageList<T> {
         Ok(())
     }
 
-    /// Appends a new page whose only item is `item`. The list must have room for one more item.
+    /// Appends a new page whose only item is `item`.
     fn open(&mut self, item: T)
         requires room { 0 < self.old.room }
         ensures items { self.new.items ≡ self.old.items ++ item ∷ [] }
@@ -235,9 +235,7 @@ impl<T: Copy> PageList<T> {
     }
 }
 
-/// Returns the slot of an item that was inserted into a full page, after the page was halved. `at` is the slot of the
-/// item before the page was halved. The result is `at` itself if the offset of `at` is at most 128, and otherwise the
-/// slot in the next page.
+/// Returns where an item that was inserted at `at` into a full page is after the page was halved.
 fn slot_in_halves(at: Slot) -> Slot
     ensures first { at.offset ≤ 128 → result ≡ at }
     ensures page { 128 < at.offset → at.page + 1 < 2 ^ 64 → result.page ≡ at.page + 1 }

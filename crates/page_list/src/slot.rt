@@ -2,9 +2,8 @@ ghost use Rattle.std.specs.Prelude.{◌≡◌, ◌+◌, ◌<◌, ◌≤◌, Some
 
 use crate::starts::Starts;
 
-/// Returns the index of a page that begins at index `at` or before it. The next page, if there is one, begins after
-/// `at`. `starts` has the index of each page's first item, and must begin with 0. Takes constant time if the page is
-/// the last of the list. Otherwise does a binary search.
+/// Returns the index of a page that begins at index `at` or before it and whose next page begins after `at`. Takes
+/// constant time if it is the last page, and otherwise does a binary search.
 pub(crate) fn page_of(starts: &Starts, at: usize) -> usize
     requires { slice_get starts.now.items 0 ≡ Some 0 }
     ensures within { result < length starts.now.items }
@@ -44,8 +43,7 @@ impl Slot {
     }
 }
 
-/// Returns the slot of index `i`. `i` must be at most the length of the list. The list must have at least one page, and
-/// `starts` must have the index of each page's first item.
+/// Returns the slot of index `i`.
 pub(crate) fn slot_of<T>(pages: &[Vec<T>], starts: &Starts, i: usize) -> Slot
     requires some { 0 < length pages.now }
     requires starts { starts.now.items ≡ starts_from 0 pages.now }
@@ -59,8 +57,7 @@ pub(crate) fn slot_of<T>(pages: &[Vec<T>], starts: &Starts, i: usize) -> Slot
     }
 }
 
-/// Returns the slot of index `i` as `slot_of` does, but looks in `page` first. It has the same preconditions as
-/// `slot_of`; any `page` is allowed.
+/// Returns the slot of index `i` as `slot_of` does, but looks in `page` first.
 pub(crate) fn slot_near<T>(pages: &[Vec<T>], starts: &Starts, page: usize, i: usize) -> Slot
     requires some { 0 < length pages.now }
     requires starts { starts.now.items ≡ starts_from 0 pages.now }

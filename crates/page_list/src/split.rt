@@ -73,8 +73,7 @@ impl<T: Copy> PageList<T> {
 }
 
 /// Returns `wished` if it is from `low` up to, but not including, `high`, and at most `most` indices of this part are
-/// on either side of it. Otherwise returns the index in the middle of the part. The part must have at least one index,
-/// and at most 2 * `most` + 1.
+/// on either side of it. Otherwise returns the index in the middle of the part.
 fn fair_index(low: usize, high: usize, most: usize, wished: usize) -> usize
     requires part { low < high }
     requires halves { high ≤ low + 2 * most + 1 }

@@ -54,7 +54,7 @@ impl Starts {
         self.starts.len()
     }
 
-    /// Returns the index of the first item of `page`. There must be a page with this number.
+    /// Returns the index of the first item of `page`.
     pub(crate) fn at(&self, page: usize) -> usize
         requires { page < length self.now.items }
         ensures { result ≡ slice_index self.now.items page }
@@ -62,8 +62,8 @@ impl Starts {
         self.starts[page] + self.added[page / GROUP]
     }
 
-    /// Adds 1 to the indices of page `from` and of all later pages. Each index of the list must be at most 2^64 - 2.
-    /// Changes at most the indices of one group, and one number for each later group.
+    /// Adds 1 to the indices of page `from` and of all later pages. Changes at most the indices of one group, and one
+    /// number for each later group.
     pub(crate) fn shift(&mut self, from: usize)
         requires fits { All (λ start. start + 1 < 2 ^ 64) self.old.items }
         ensures items { self.new.items
@@ -85,8 +85,7 @@ impl Starts {
         count_up(&mut self.added, group + 1, groups);
     }
 
-    /// Inserts `start` as the index of page `page`. `page` must be at most the number of pages. The list must have room
-    /// for one more index. Takes time linear in the number of pages and groups.
+    /// Inserts `start` as the index of page `page`. Takes time linear in the number of pages and groups.
     pub(crate) fn insert(&mut self, page: usize, start: usize)
         requires page { page ≤ length self.old.items }
         requires room { 0 < self.old.room }
@@ -97,8 +96,8 @@ impl Starts {
         insert_within(&mut self.starts, page, start);
     }
 
-    /// Appends `start`. The list must have room for one more index. Takes constant time if `added` has 0 for the group
-    /// of the new index. Otherwise takes time linear in the number of pages and groups.
+    /// Appends `start`. Takes constant time if `added` has 0 for the group of the new index. Otherwise takes time
+    /// linear in the number of pages and groups.
     pub(crate) fn push(&mut self, start: usize)
         requires room { 0 < self.old.room }
         ensures items { self.new.items ≡ self.old.items ++ start ∷ [] }
@@ -112,8 +111,7 @@ impl Starts {
         }
     }
 
-    /// Reserves room for `n` further indices. If memory runs out, returns an error, and the room is no less than it
-    /// was.
+    /// Reserves room for `n` further indices, or returns an error if memory runs out.
     pub(crate) fn reserve(&mut self, n: usize) -> Result<(), AllocError>
         ensures ok { OnOk result (n ≤ self.new.room) }
         ensures room { self.old.room ≤ self.new.room }
@@ -145,8 +143,7 @@ fn open_groups(added: &mut Vec<usize>, groups: usize) -> Result<(), AllocError>
     added.resize(groups, 0)
 }
 
-/// Adds 1 to each number at an index from `from` up to, but not including, `until`. `until` must be at least `from`,
-/// and at most the length of `numbers`. Each of the first `until` numbers must be less than 2^64 - 1.
+/// Adds 1 to each number at an index from `from` up to, but not including, `until`.
 fn count_up(numbers: &mut [usize], from: usize, until: usize)
     requires from { from ≤ until }
     requires until { until ≤ length numbers.old }
@@ -161,7 +158,6 @@ fn count_up(numbers: &mut [usize], from: usize, until: usize)
 }
 
 /// Adds to each index in `numbers` the number of its group in `added`, and then sets the numbers of all groups to 0.
-/// `added` must have a number for each group, and all sums must fit in 64 bits.
 fn settle(numbers: &mut Vec<usize>, added: &mut Vec<usize>)
     requires grouped { length numbers.old.items ≤ 64 * length added.old.items }
     requires fits { All (λ n. n < 2 ^ 64) (raised added.old.items 0 numbers.old.items) }
@@ -190,8 +186,7 @@ fn has_any(numbers: &[usize]) -> bool
     false
 }
 
-/// Adds to the start of each page in `numbers` the number of its group in `added`. `added` must have a number for each
-/// group, and all sums must fit in 64 bits.
+/// Adds to the start of each page in `numbers` the number of its group in `added`.
 fn add_all(numbers: &mut [usize], added: &[usize])
     requires grouped { length numbers.old ≤ 64 * length added.now }
     requires fits { All (λ n. n < 2 ^ 64) (raised added.now 0 numbers.old) }

@@ -79,8 +79,7 @@ fn by_spread(
     Ok((plan, positions))
 }
 
-/// Returns the usable switches in the order of the rule that spreads by `order`, and an order that names them so. Loads
-/// are balanced in that order exactly if they are in `order`.
+/// Returns the usable switches in the order of the rule that spreads by `order`, and an order that names them so.
 fn named(
     alloc: Global,
     store: &Store,
@@ -110,8 +109,7 @@ fn named_in(order: &SwitchOrder, switches: Vec<Guid>) -> SwitchOrder
     }
 }
 
-/// Returns the fault to report if memory runs out before the LIDs are known. The fault is `NoRoom` if some end port
-/// finds no LID, and otherwise `Memory`.
+/// Returns the fault if memory runs out before the LIDs are known: `NoRoom` if some end port finds none, else `Memory`.
 fn out_of_memory(store: &Store, lmc: Lmc) -> PlanFault
     ensures { result ≡ unwrap_or (lid_fault (no_room lmc (cells_of store.now))) Memory }
 {

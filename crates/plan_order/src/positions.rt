@@ -38,8 +38,7 @@ fn by_rank(alloc: Global, wires: &Wires) -> Result<Vec<usize>, Refused>
     Ok(rank_positions(alloc, &graph)?)
 }
 
-/// Returns the position of each usable switch, in ascending order of GUID, in the order of the rule that spreads by
-/// `order`.
+/// Returns the position of each usable switch, by ascending GUID, in the order of the rule that spreads by `order`.
 fn by_spread(alloc: Global, wires: &Wires, order: &SwitchOrder) -> Result<Vec<usize>, Refused>
     ensures { IfOk result (λ positions.
         positions.items ≡ positions_by (spread_in (order_value_of order.now)) (cells_of wires.now)) }
@@ -65,8 +64,7 @@ pub fn positions_named(
         .collect(alloc)
 }
 
-/// Returns the position of `switch` in the list `ordered`, or the length of `ordered` if `switch` is not there. Takes
-/// time linear in that length.
+/// Returns the position of `switch` in `ordered`, or else the length of `ordered`, in time linear in that length.
 fn position_of(ordered: &[Guid], switch: Guid) -> usize
     ensures { result ≡ position_of ordered.now switch }
 {

@@ -7,9 +7,8 @@ use smp_bytes::Guid;
 use std::alloc::{AllocError, Global};
 use updown_routes::Graph;
 
-/// Returns, for each switch in ascending order of GUID, how many switches come before it in the order by rank and
-/// then by GUID. A missing rank counts as 0. Besides looking up the ranks, takes time quadratic in the number of
-/// switches.
+/// Returns, for each switch in ascending order of GUID, how many switches come before it by rank and then by GUID.
+/// Besides looking up the ranks, takes time quadratic in the number of switches.
 pub(crate) fn rank_positions(alloc: Global, graph: &Graph) -> Result<Vec<usize>, AllocError>
     ensures { IfOk result (λ positions.
         positions.items ≡ map (rank_position graph.now) (guids_of graph.now)) }
@@ -50,8 +49,7 @@ fn count_before(ranked: &[(usize, Guid)], own: &(usize, Guid)) -> usize
         .count()
 }
 
-/// Returns whether the switch `other` comes before the switch `own`: its rank is less, or the ranks are equal and its
-/// GUID is less.
+/// Returns whether the switch `other` comes before the switch `own`, by rank and then by GUID.
 fn comes_before(other: &(usize, Guid), own: &(usize, Guid)) -> bool
     ensures { result ≡ comes_before other.now own.now }
 {

@@ -12,8 +12,7 @@ use smp_bytes::{AttributeId, Guid, Lid, PortNum};
 use std::alloc::{AllocError, Global};
 use sweep::Sweep;
 
-/// Builds a step for each block of the plan at each usable switch that the sweep reached, in ascending order of GUID
-/// and then of block.
+/// Builds a step for each block of the plan at each usable switch that the sweep reached, in ascending order.
 pub(crate) fn block_steps(
     alloc: Global,
     sweep: &Sweep,
@@ -28,8 +27,7 @@ pub(crate) fn block_steps(
     Ok(steps)
 }
 
-/// Appends to `steps` the steps that set the blocks of the switch `guid`. Appends nothing if the sweep did not reach
-/// the switch.
+/// Appends to `steps` those that set the blocks of the switch `guid`, if the sweep reached it.
 #[tactic(auto, using(crate::proofs::Ranges::given_some, crate::proofs::Ranges::given_none))]
 fn add_switch_steps(
     steps: &mut Vec<Step>,
@@ -48,8 +46,7 @@ fn add_switch_steps(
     Ok(())
 }
 
-/// Builds the step that sets block `b` of the switch `guid`. Returns `None` if the plan has no such block, or the
-/// sweep did not reach the switch. `b` must be below 1024.
+/// Builds the step that sets block `b` of the switch `guid`, if the plan has it and the sweep reached the switch.
 fn block_step(sweep: &Sweep, plan: &Plan, guid: Guid, b: usize) -> Option<Step>
     requires { b < 1024 }
     ensures { result ≡ block_step sweep.now plan.now guid b }
@@ -65,8 +62,7 @@ fn block_step(sweep: &Sweep, plan: &Plan, guid: Guid, b: usize) -> Option<Step>
     )
 }
 
-/// Builds a step for each usable switch that the sweep reached, in ascending order of GUID. The step sets the top of
-/// the switch to the greatest LID of the plan. Builds no step if the plan has no LID.
+/// Builds the steps that set the greatest LID of the plan, if any, at each usable switch that the sweep reached.
 pub(crate) fn top_steps(alloc: Global, sweep: &Sweep, plan: &Plan) -> Result<Vec<Step>, AllocError>
     ensures { IfOk result (λ steps. steps.items ≡ top_steps sweep.now plan.now) }
 {
@@ -76,8 +72,7 @@ pub(crate) fn top_steps(alloc: Global, sweep: &Sweep, plan: &Plan) -> Result<Vec
     }
 }
 
-/// Builds a step for each usable switch that the sweep reached, in ascending order of GUID. The step sets the
-/// greatest LID of the switch to `top`.
+/// Builds the steps that set the greatest LID to `top` at each usable switch that the sweep reached.
 #[tactic(auto, using(crate::proofs::Walked::walked_some, crate::proofs::Walked::walked_none))]
 fn steps_with_top(
     alloc: Global,
@@ -97,8 +92,7 @@ fn steps_with_top(
     Ok(steps)
 }
 
-/// Builds the step that sets the greatest LID of the switch `guid` to `top`. Returns `None` if the sweep did not
-/// reach the switch.
+/// Builds the step that sets the greatest LID of the switch `guid` to `top`, if the sweep reached the switch.
 fn top_step(sweep: &Sweep, top: Lid, guid: Guid) -> Option<Step>
     ensures { result ≡ top_step sweep.now top guid }
 {
@@ -113,8 +107,7 @@ fn top_step(sweep: &Sweep, top: Lid, guid: Guid) -> Option<Step>
     )
 }
 
-/// Returns the SwitchInfo that has `top` as the greatest LID, and everything else as `carried_switch` gives it for
-/// `read`.
+/// Returns the SwitchInfo with `top` as the greatest LID, and all else as `carried_switch` gives it for `read`.
 fn top_data(read: Option<SwitchInfo>, top: Lid) -> [u8; 64]
     ensures { result ≡ top_data read top }
 {

@@ -40,8 +40,7 @@ pub struct PortRead {
     pub far: Option<PortInfo>,
 }
 
-/// Returns the PortInfo that was read from `port` of the node `guid`, and that of the far end, if the port is on a
-/// wire and the far end's PortInfo is kept. Returns `None` if the port's own PortInfo is not kept.
+/// Returns the PortInfo that was read from `port` of `guid`, if it is kept, and that of the far end of its wire.
 pub(crate) fn port_read(store: &Store, sweep: &Sweep, guid: Guid, port: PortNum) -> Option<PortRead>
     ensures { result ≡ port_read (cells_of store.now) sweep.now guid port }
 {
@@ -50,8 +49,7 @@ pub(crate) fn port_read(store: &Store, sweep: &Sweep, guid: Guid, port: PortNum)
     Some(PortRead { own, far })
 }
 
-/// Returns the PortInfo that was read of the far end of the wire at `port` of the node `guid`. Returns `None` if the
-/// port is not on a wire, or if the far end's PortInfo is not kept.
+/// Returns the PortInfo that was read of the far end of the wire at `port` of the node `guid`, if it is kept.
 fn far_image(store: &Store, sweep: &Sweep, guid: Guid, port: PortNum) -> Option<PortInfo>
     ensures { result ≡ far_image (cells_of store.now) sweep.now guid port }
 {
@@ -59,9 +57,7 @@ fn far_image(store: &Store, sweep: &Sweep, guid: Guid, port: PortNum) -> Option<
     sweep.port_image(far_node, far_port)
 }
 
-/// Returns the PortInfo that a Set carries: the one that was read, with some changes. Some fields have a default if
-/// they were 0, NeighborMTU is the MTU of the wire, ClientReregister is 0, and fields that must not be written back
-/// say "no change". Returns zeros if `read` is `None`.
+/// Returns the PortInfo that a Set carries for `read`, or zeros if `read` is `None`.
 pub(crate) fn carried_port(read: Option<PortRead>) -> PortInfo
     ensures { result ≡ carried_port read }
 {
@@ -71,8 +67,7 @@ pub(crate) fn carried_port(read: Option<PortRead>) -> PortInfo
     }
 }
 
-/// Returns the PortInfo `own`, which was read of a port, as a Set carries it. `far` is the PortInfo that was read of
-/// the far end, or `None` if there is no wire or the far end's PortInfo is not kept.
+/// Returns the PortInfo `own` as a Set carries it, where `far` is the PortInfo of the far end, if there is one.
 fn carried_port_of(own: &[u8; 64], far: Option<PortInfo>) -> [u8; 64]
     ensures { result ≡ carried_port (Some (record { own = own.now; far = far })) }
 {
@@ -96,8 +91,7 @@ fn carried_port_of(own: &[u8; 64], far: Option<PortInfo>) -> [u8; 64]
     bytes
 }
 
-/// Returns the lesser of the MTUCaps in `own` and `far`, if `far` is not `None` and neither MTUCap is 0. Otherwise
-/// returns the NeighborMTU in `own`.
+/// Returns the lesser of the MTUCaps in `own` and `far`, if `far` is given and neither is 0, or else NeighborMTU.
 fn mtu_of(own: &[u8; 64], far: Option<PortInfo>) -> u8
     ensures value { result ≡ mtu_of own.now far }
     ensures fits { result < 16 }
@@ -112,8 +106,7 @@ fn mtu_of(own: &[u8; 64], far: Option<PortInfo>) -> u8
     }
 }
 
-/// Returns the SwitchInfo that a Set carries: `read`, with a default if LifeTimeValue is 0, and with the bit set that
-/// clears PortStateChange. Returns zeros if `read` is `None`.
+/// Returns the SwitchInfo that a Set carries for `read`, or zeros if `read` is `None`.
 pub(crate) fn carried_switch(read: Option<SwitchInfo>) -> SwitchInfo
     ensures { result ≡ carried_switch read }
 {

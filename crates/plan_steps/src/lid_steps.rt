@@ -13,8 +13,7 @@ use std::alloc::{AllocError, Global};
 use subnet_view::EndPort;
 use sweep::Sweep;
 
-/// Returns the LID of the manager at the port with the number `port` and the GUID `own_guid`. This is the LID of the
-/// first end port in `lids` that has this number and is known to have this GUID, or 0 if there is no such end port.
+/// Returns the manager's LID: that of the first end port with the number `port` and the GUID `own_guid`, or 0.
 pub(crate) fn own_lid(store: &Store, lids: &LidMap, own_guid: Guid, port: PortNum) -> Lid
     ensures { result ≡ own_lid (cells_of store.now) lids.now.ports own_guid port }
 {
@@ -33,8 +32,7 @@ fn is_own_port(store: &Store, end: EndPort, own_guid: Guid, port: PortNum) -> bo
     end.port == port && store.port_guid(end.node, end.port) == Some(own_guid)
 }
 
-/// Builds a step for each end port that has a LID in `lids` and that the sweep reached, in ascending order of LID.
-/// The step sets the port's LID and LMC, and the manager's LID `master`.
+/// Builds the steps that set the LID, the LMC and `master` at each end port that the sweep reached, in order of LID.
 pub(crate) fn lid_steps(
     alloc: Global,
     store: &Store,
@@ -54,8 +52,7 @@ pub(crate) fn lid_steps(
     Ok(steps)
 }
 
-/// Builds the step for the end port that owns `lid`: it sets `lid`, the port's LMC and the manager's LID `master`.
-/// Returns `None` if no end port owns `lid`, or if the sweep did not reach this end port.
+/// Builds the step that sets `lid`, the LMC and `master` at the owner of `lid`, if it has one that the sweep reached.
 fn owner_step(store: &Store, sweep: &Sweep, master: Lid, lids: &LidMap, lid: Lid) -> Option<Step>
     ensures { result ≡ owner_step (cells_of store.now) sweep.now master lids.now lid }
 {
@@ -64,8 +61,7 @@ fn owner_step(store: &Store, sweep: &Sweep, master: Lid, lids: &LidMap, lid: Lid
     lid_step(store, sweep, master, lid, lmc, end)
 }
 
-/// Builds the step that sets `lid`, `lmc` and the manager's LID `master` at `end`. Returns `None` if the sweep did not
-/// reach `end`.
+/// Builds the step that sets `lid`, `lmc` and the manager's LID `master` at `end`, if the sweep reached `end`.
 fn lid_step(
     store: &Store,
     sweep: &Sweep,
@@ -87,8 +83,7 @@ fn lid_step(
     )
 }
 
-/// Returns the PortInfo that has `lid`, `lmc`, the manager's LID `master` and `state`, and everything else as
-/// `carried_port` gives it for `read`.
+/// Returns the PortInfo with `lid`, `lmc`, `master` and `state`, and all else as `carried_port` gives it for `read`.
 pub(crate) fn port_data(
     read: Option<PortRead>,
     lid: Lid,

@@ -46,9 +46,7 @@ fn wired_port(store: &Store, sighting: &Sighting) -> Option<(Guid, PortNum)>
     }
 }
 
-/// Builds a step for each of `ports`, in the order of `ports`, that sets `state` there. Leaves out a port that the
-/// sweep did not see in Initialize or, if `state` is Active, in Armed. Also leaves out a port whose vertex the sweep
-/// did not reach. Builds no step if `state` is neither Armed nor Active.
+/// Builds the steps that set `state` at those of `ports` that are due to go there and that the sweep reached.
 #[tactic(auto, using(crate::proofs::Walked::walked_some, crate::proofs::Walked::walked_none))]
 pub(crate) fn state_steps(
     alloc: Global,
@@ -71,8 +69,7 @@ pub(crate) fn state_steps(
     Ok(steps)
 }
 
-/// Builds the step that sets `state` at `port` of the node `guid`. Returns `None` if the sweep did not see the port
-/// in a state from which the port is due to go to `state`, or did not reach the port's vertex.
+/// Builds the step that sets `state` at `port` of the node `guid`, if it is due to go there and the sweep reached it.
 fn state_step(
     store: &Store,
     sweep: &Sweep,
@@ -108,8 +105,7 @@ fn is_still_due(sweep: &Sweep, state: PortState, guid: Guid, port: PortNum) -> b
     }
 }
 
-/// Returns whether a port in the state `seen` is due to go to `state`: from Initialize to Armed or Active, or from
-/// Armed to Active.
+/// Returns whether a port goes from `seen` to `state`: from Initialize to Armed or Active, or from Armed to Active.
 fn is_due(state: PortState, seen: PortState) -> bool
     ensures { result ≡ is_due state seen }
 {
@@ -131,9 +127,8 @@ fn vertex_port(store: &Store, guid: Guid, port: PortNum) -> PortNum
     }
 }
 
-/// Returns the PortInfo that sets `state` at `port` of the node `guid`, with everything else as `carried_port` gives
-/// it for `read`. If the port has a LID in `lids`, the PortInfo has this LID, the port's LMC and the manager's LID
-/// `master`. Otherwise it has 0 for these three.
+/// Returns the PortInfo that sets `state` at `port` of the node `guid`, with everything else as `carried_port` gives it
+/// for `read`, and the port's LID and LMC and `master`, or 0 if it has no LID.
 fn state_data(
     read: Option<PortRead>,
     lids: &LidMap,

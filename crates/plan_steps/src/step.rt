@@ -33,8 +33,7 @@ impl Step {
     }
 }
 
-/// Builds the step that sets `payload` as the attribute along the path that first reached the vertex of the node
-/// `guid` with the port `vertex`. This port is 0 for a switch. Returns `None` if the sweep did not reach the vertex.
+/// Builds the step that sets `payload` along the path that first reached the vertex of `guid` with the port `vertex`.
 pub(crate) fn step_at(
     sweep: &Sweep,
     guid: Guid,

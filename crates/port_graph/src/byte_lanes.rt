@@ -17,9 +17,7 @@ pub(crate) struct Hops {
     pub(crate) ports: [u8; LANES],
 }
 
-/// Returns for each lane the least number that any vertex that `edges` lead to has in the lane. The port is that of the
-/// first edge to a vertex with this number. A lane gets `NONE` and port 0 if none of these vertices has a number in the
-/// lane. `numbers` must have an entry for each of these vertices.
+/// Returns, for each lane, the least number of the vertices that `edges` lead to, with the port of the first such edge.
 pub(crate) fn nearest(edges: &[Edge], numbers: &[[u8; LANES]]) -> Hops
     requires { All (λ edge. edge.to < length numbers.now) edges.now }
     ensures { EachLane (λ k. (slice_index result.numbers k, slice_index result.ports k)
@@ -35,8 +33,7 @@ pub(crate) fn nearest(edges: &[Edge], numbers: &[[u8; LANES]]) -> Hops
     nearest
 }
 
-/// In each lane in which `numbers` has a lesser number than `found`, sets the number in `found` to that number and the
-/// port in `found` to `port`.
+/// Takes into `found`, with the port `port`, each number of `numbers` that is less than that of its lane.
 fn take_nearer(found: &mut Hops, numbers: &[u8; LANES], port: u8)
     ensures { EachLane (λ k. (slice_index found.new.numbers k, slice_index found.new.ports k)
         ≡ nearer (slice_index found.old.numbers k, slice_index found.old.ports k) (slice_index numbers.now k) port) }
@@ -53,8 +50,7 @@ fn take_nearer(found: &mut Hops, numbers: &[u8; LANES], port: u8)
     }
 }
 
-/// Returns `numbers` with 1 added in each lane that has a number. Returns `None` if a number is 254, since one more is
-/// too great for a lane.
+/// Returns `numbers` with 1 added in each lane that has a number, or `None` if a number is 254.
 pub(crate) fn one_more(numbers: &[u8; LANES]) -> Option<[u8; LANES]>
     ensures { MatchOption result (AnyLane (λ k. slice_index numbers.now k ≡ 254))
         (λ more. EachLane (λ k. IsOneMore (slice_index numbers.now k) (slice_index more k))) }

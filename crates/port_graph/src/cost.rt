@@ -8,11 +8,8 @@ use crate::adjacency::Adjacency;
 use crate::edge::Edge;
 use std::alloc::{AllocError, Global};
 
-/// Returns the cost of each vertex. The cost of a vertex with a distance is its distance. The cost of any other vertex
-/// is one more than the least cost of the vertices that its edges up lead to, or `None` if none of these has a cost.
-/// Each edge of `ups` must lead to a lesser vertex. `distances` must have one entry for each vertex. Each entry must be
-/// `None` or less than the number of vertices. Takes time linear in the number of vertices and edges. Returns an error
-/// if memory runs out.
+/// Returns the cost of each vertex by `distances` and the edges up. Takes time linear in the number of vertices and
+/// edges. Returns an error if memory runs out.
 pub(crate) fn costs(
     alloc: Global,
     ups: &Adjacency,
@@ -31,8 +28,7 @@ pub(crate) fn costs(
     Ok(costs)
 }
 
-/// Returns the cost of a vertex with the distance `distance` and the edges up `ups`. `costs` must have an entry for
-/// each vertex that `ups` lead to. Each entry must be `None` or less than `usize::MAX`.
+/// Returns the cost of a vertex with the distance `distance` and the edges up `ups`.
 fn cost(distance: Option<usize>, ups: &[Edge], costs: &[Option<usize>]) -> Option<usize>
     requires known { All (λ edge. edge.to < length costs.now) ups.now }
     requires room { AreLess usize.MAX costs.now }
@@ -45,8 +41,7 @@ fn cost(distance: Option<usize>, ups: &[Edge], costs: &[Option<usize>]) -> Optio
     Some(least + 1)
 }
 
-/// Returns the least cost of the vertices that `edges` lead to, or `None` if none of these vertices has a cost. `costs`
-/// must have an entry for each of these vertices.
+/// Returns the least cost of the vertices that `edges` lead to, or `None` if none of these vertices has a cost.
 fn least_cost(edges: &[Edge], costs: &[Option<usize>]) -> Option<usize>
     requires { All (λ edge. edge.to < length costs.now) edges.now }
     ensures { result ≡ least_of (filter_map (λ edge. slice_index_or costs.now edge.to None) edges.now) }
@@ -58,8 +53,7 @@ fn least_cost(edges: &[Edge], costs: &[Option<usize>]) -> Option<usize>
     least
 }
 
-/// Returns the lesser of `one` and `other`. If only one of the two is a number, returns that number. If neither is,
-/// returns `None`.
+/// Returns the lesser of the numbers among `one` and `other`, or `None` if neither is a number.
 fn lesser(one: Option<usize>, other: Option<usize>) -> Option<usize>
     ensures { result ≡ lesser_of one other }
 {

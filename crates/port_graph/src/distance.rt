@@ -29,8 +29,7 @@ pub fn distances(
     Ok(distances)
 }
 
-/// Gives the distance `distance` to each vertex that `edges` lead to and that has no distance yet, and appends each
-/// such vertex with its distance to `queue`. `distances` must have an entry for each of these vertices.
+/// Gives `distance` to each vertex that `edges` lead to and that has none yet, and appends it to `queue`.
 fn reach_all(
     edges: &[Edge],
     distance: usize,

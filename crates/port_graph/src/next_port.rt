@@ -8,11 +8,8 @@ use crate::edge::Edge;
 use smp_bytes::PortNum;
 use std::alloc::{AllocError, Global};
 
-/// Returns the next port of each vertex towards `target`. If a walk down leads from the vertex to `target`, the port is
-/// that of the first edge down to a vertex whose distance is one less. Otherwise the port is that of the first edge up
-/// to a vertex of least cost. `target` and each vertex without a route have `None`. The edges must be slopes
-/// (`AreSlopes`), and `target` must be a vertex. Takes time linear in the number of vertices and edges. Returns an
-/// error if memory runs out.
+/// Returns the next port of each vertex towards `target`, or `None` for `target` and each vertex without a route. Takes
+/// time linear in the number of vertices and edges. Returns an error if memory runs out.
 pub(crate) fn next_ports(
     alloc: Global,
     ups: &Adjacency,
@@ -33,8 +30,7 @@ pub(crate) fn next_ports(
 }
 
 /// Returns the next port of `vertex`, or `None` if no edge leads one nearer to the target. `distances` has the down
-/// distances of all vertices, and `costs` has their costs. Each must have an entry for each vertex. The edges must be
-/// slopes (`AreSlopes`), and `vertex` must be a vertex.
+/// distances of all vertices, and `costs` their costs.
 fn next_port(
     ups: &Adjacency,
     downs: &Adjacency,
@@ -56,8 +52,7 @@ fn next_port(
     }
 }
 
-/// Returns the port of the first edge to a vertex whose number is one less than `number`. Returns `None` if `number` is
-/// `None`, or if no edge leads to such a vertex. `numbers` must have an entry for each vertex that `edges` lead to.
+/// Returns the port of the first edge to a vertex whose number is one less than `number`, or `None` if there is none.
 fn port_nearer(edges: &[Edge], numbers: &[Option<usize>], number: Option<usize>) -> Option<PortNum>
     requires { All (λ edge. edge.to < length numbers.now) edges.now }
     ensures { result ≡ port_nearer edges.now numbers.now number }

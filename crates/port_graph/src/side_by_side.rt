@@ -40,8 +40,7 @@ pub fn next_ports_between(
     Ok(rows)
 }
 
-/// Returns the targets of the lanes: `vertices[first]` and the vertices after it. `first` must be an index of
-/// `vertices`. A lane for which no vertex is left gets the last of `vertices`.
+/// Returns the targets of the lanes: the vertices from `vertices[first]` on, and the last for each lane that is left.
 fn targets_from(vertices: &[usize], first: usize) -> [usize; LANES]
     requires { first < length vertices.now }
     ensures { EachLane (λ k. slice_index result k ≡ target_in vertices.now first k) }
@@ -79,8 +78,7 @@ impl Block {
     }
 
     /// Computes the costs of all vertices and their next ports towards `targets`. Sets `is_routed` to whether all
-    /// numbers that this computes fit in the lanes. The edges must be slopes (`AreSlopes`), and the block must be for
-    /// as many vertices as the graph has. Each of `targets` must be a vertex.
+    /// numbers that this computes fit in the lanes.
     fn route(&mut self, ups: &Adjacency, downs: &Adjacency, targets: [usize; LANES])
         requires slopes { AreSlopes ups.now downs.now }
         requires numbers { length self.old.numbers.items ≡ length ups.now }
@@ -94,9 +92,7 @@ impl Block {
         self.is_routed = route_in_lanes(ups, downs, &targets, &mut self.numbers, &mut self.ports);
     }
 
-    /// Returns the next ports of `vertices` towards the target of `lane`. The edges must be slopes (`AreSlopes`), and
-    /// the block must be for these edges (`IsBlock`). `lane` must be less than 16. The target of `lane` must be a
-    /// vertex, and so must each of `vertices`. Returns an error if memory runs out.
+    /// Returns the next ports of `vertices` towards the target of `lane`. Returns an error if memory runs out.
     fn row(
         &self,
         alloc: Global,
@@ -129,8 +125,7 @@ impl Block {
 
 /// Computes, for each lane, the costs of all vertices and their next ports towards the lane's target. Computes down
 /// distances first, from the last vertex to the first, and then costs, from the first to the last. Returns `false` if a
-/// number that is computed for this is over 254, and so too great for a lane. The edges must be slopes (`AreSlopes`),
-/// each target must be a vertex, and `numbers` and `ports` must have an entry for each vertex.
+/// number that is computed for this is over 254, and so too great for a lane.
 fn route_in_lanes(
     ups: &Adjacency,
     downs: &Adjacency,
@@ -178,9 +173,8 @@ fn route_in_lanes(
     true
 }
 
-/// Returns the down distances of `vertex` and its ports down, for each lane. `downs` are the edges down of `vertex`,
-/// and `numbers` must have the down distances of the vertices that `downs` lead to. A lane whose target is `vertex`
-/// gets 0. Returns `None` if the least of these distances is 254 in a lane, since one more is too great for a lane.
+/// Returns the down distances of `vertex` and its ports down, for each lane, by those in `numbers` of the vertices that
+/// its edges down `downs` lead to. Returns `None` if the least is 254 in a lane, since one more is too great.
 fn down_from(
     downs: &[Edge],
     numbers: &[[u8; LANES]],
@@ -201,10 +195,8 @@ fn down_from(
     })
 }
 
-/// Returns the hops of a vertex with the edges up `ups`. A lane in which `down` has a down distance keeps this
-/// distance and its port. Any other lane gets one more than the least cost of the vertices that `ups` lead to. Its
-/// port is that of the first edge to a vertex of that cost. `numbers` must have the costs of these vertices. Returns
-/// `None` if the least of these costs is 254 in a lane, since one more is too great for a lane.
+/// Returns the hops of a vertex with the edges up `ups` and the down distances `down`, by the costs `numbers` of the
+/// vertices that `ups` lead to. Returns `None` if the least of them is 254 in a lane, since one more is too great.
 fn up_from(ups: &[Edge], numbers: &[[u8; LANES]], down: Hops) -> Option<Hops>
     requires { All (λ edge. edge.to < length numbers.now) ups.now }
     ensures { MatchOption result (AnyLane (λ k. (nearest_by (λ a. at numbers.now a k) ups.now).0 ≡ 254))
@@ -221,8 +213,7 @@ fn up_from(ups: &[Edge], numbers: &[[u8; LANES]], down: Hops) -> Option<Hops>
     Some(hops)
 }
 
-/// Returns, for each of `vertices`, its port in `lane`, or `None` if the vertex is the lane's target or has no route.
-/// `lane` must be less than 16, and `numbers` and `ports` must have an entry for each of `vertices`.
+/// Returns the port of each of `vertices` in `lane`, or `None` if it is the lane's target or has no route.
 fn ports_in_lane(
     alloc: Global,
     numbers: &[[u8; LANES]],
@@ -243,7 +234,7 @@ fn ports_in_lane(
     Ok(found)
 }
 
-/// Returns the entries of `ports` for `vertices`. `ports` must have an entry for each of `vertices`.
+/// Returns the entries of `ports` for `vertices`.
 fn ports_at(
     alloc: Global,
     ports: &[Option<PortNum>],

@@ -13,9 +13,8 @@ use fact_store::{Cell, IngestFault, Key, ReportFault, Store, Value};
 use smp_bytes::Generation;
 
 /// Adds the contents of the record `bytes` to `store`. Returns the key of the record's cell, or `None` if the record is
-/// a report. Returns an error if the record has a fault or memory runs out. The error is the record's fault, with
-/// `index`, or `Memory`. `index` is the index of the record in its file. `last` is the key of the cell in the record
-/// before it, or `None` if there is no such cell. `bytes` must have the length of a record of `format`.
+/// a report. Fails with the record's fault, at `index`, or with `Memory`. `index` is the index of the record in its
+/// file, and `last` the key of the cell in the record before it, if there is one.
 pub(crate) fn absorb_record(
     format: Format,
     last: Option<Key>,
@@ -37,8 +36,7 @@ pub(crate) fn absorb_record(
     }
 }
 
-/// Adds the facts of the report that `bytes` spell. Returns `BadReport` if `bytes` do not spell a report or the
-/// report has a fault, and `Memory` if memory runs out. `bytes` must have 272 bytes.
+/// Adds the facts of the report that `bytes` spell. Fails with `BadReport` or, if memory runs out, `Memory`.
 fn absorb_report(bytes: &[u8], index: u64, store: &mut Store) -> Result<(), FileFault>
     requires { length bytes.now ≡ 272 }
     ensures judged { AbsorbsJudged (judged Reports None bytes.now) index result
@@ -57,9 +55,8 @@ fn absorb_report(bytes: &[u8], index: u64, store: &mut Store) -> Result<(), File
     }
 }
 
-/// Adds the cell that `bytes` spell, and returns its key. Returns `BadCell` if `bytes` do not spell a cell, or if the
-/// cell is below the header's floor `floor`. Returns `CellOrder` if the cell's key does not come after `last`, and
-/// `Memory` if memory runs out. `bytes` must have 32 bytes.
+/// Adds the cell that `bytes` spell, and returns its key. Fails with `BadCell`, with `CellOrder` if the key does not
+/// come after `last`, or with `Memory`.
 fn absorb_cell(
     floor: Option<Generation>,
     last: Option<Key>,

@@ -80,9 +80,8 @@ impl Absorber {
     }
 }
 
-/// Takes the bytes of `piece` up to the file's 2^40th byte. Returns the part that is awaited after these bytes, or
-/// the first fault. If the file reaches its 2^40th byte without another fault, the fault is `TooLong`. `part` must
-/// not be complete, and fewer than 2^40 bytes may have come so far.
+/// Takes the bytes of `piece` up to the file's 2^40th byte. Returns the part that is awaited after these bytes, or the
+/// first fault. If the file reaches its 2^40th byte without another fault, the fault is `TooLong`.
 fn take_piece(
     awaited: Awaited,
     part: &mut Part,
@@ -110,8 +109,7 @@ fn take_piece(
 }
 
 /// Takes those of `bytes` that belong to the awaited part. Returns the part that is awaited after the taken bytes, and
-/// how many bytes were taken. Returns the fault instead if the awaited part has one, or if memory runs out. `bytes`
-/// must not be empty, and `part` must not be complete. All bytes must be among the file's first 2^40.
+/// how many bytes were taken. Returns the fault instead if the awaited part has one, or if memory runs out.
 fn take_front(
     awaited: Awaited,
     part: &mut Part,

@@ -39,7 +39,7 @@ impl Awaited {
         }
     }
 
-    /// Returns the offset of the part in the file. The offset must be less than 2^40.
+    /// Returns the offset of the part in the file.
     pub(crate) fn offset(&self) -> u64
         requires { offset_of self.now < 2 ^ 40 }
         ensures { result ≡ offset_of self.now }
@@ -52,8 +52,7 @@ impl Awaited {
         }
     }
 
-    /// Returns the outcome if the file ends after `count` bytes of the part. The offset of the part must be less than
-    /// 2^40.
+    /// Returns the outcome if the file ends after `count` bytes of the part.
     pub(crate) fn end(&self, count: usize) -> Result<(), FileFault>
         requires { offset_of self.now < 2 ^ 40 }
         ensures { result ≡ ending_at self.now count }
@@ -67,9 +66,7 @@ impl Awaited {
         }
     }
 
-    /// Judges `bytes`, adds the contents of the part to `store`, and returns the part that is awaited next. `bytes`
-    /// must be the whole part. Returns the part's fault if the part has one, and `Memory` if memory runs out. The
-    /// part's offset must be less than 2^40.
+    /// Judges the part `bytes` and adds its contents to `store`. Returns the part awaited next, its fault, or `Memory`.
     pub(crate) fn absorb(self, bytes: &[u8], store: &mut Store) -> Result<Awaited, FileFault>
         requires whole { length bytes.now ≡ awaited_size self }
         requires in_reach { offset_of self < 2 ^ 40 }
@@ -95,8 +92,7 @@ impl Awaited {
     }
 }
 
-/// Returns the part that is awaited after `front`, the first 8 bytes of a file, or the fault `Magic` if these bytes
-/// are not a magic. `front` must have 8 bytes.
+/// Returns the part that is awaited after `front`, the first 8 bytes of a file, or the fault `Magic`.
 fn behind_magic(front: &[u8]) -> Result<Awaited, FileFault>
     requires { length front.now ≡ 8 }
     ensures { result ≡ behind_magic_of (format_in front.now) }
@@ -112,8 +108,7 @@ fn behind_magic(front: &[u8]) -> Result<Awaited, FileFault>
     }
 }
 
-/// Raises the store's floor to the floor in the header `bytes`, which must have 8 bytes, and returns the part that is
-/// awaited after the header. Returns `BadFloor` if the bytes are not a header.
+/// Raises the store's floor to that in the header `bytes`, and returns the part that is awaited next, or `BadFloor`.
 fn absorb_header(bytes: &[u8], store: &mut Store) -> Result<Awaited, FileFault>
     requires { length bytes.now ≡ 8 }
     ensures takes { TakesAwaited Awaited.Header bytes.now result store.old store.new }

@@ -74,8 +74,7 @@ fn value_bytes(value: Value) -> [u8; VALUE_LEN]
     bytes
 }
 
-/// Returns the cell that the record `bytes` spells, or `None` if `bytes` do not spell a cell. `bytes` must have 32
-/// bytes.
+/// Returns the cell that the record `bytes` spells, or `None` if `bytes` do not spell a cell.
 #[tactic(auto, unfolding(crate::specs::CellRecord::cell_of))]
 pub(crate) fn cell_of(bytes: &[u8]) -> Option<Sighting>
     requires { length bytes.now ≡ 32 }
@@ -90,8 +89,7 @@ pub(crate) fn cell_of(bytes: &[u8]) -> Option<Sighting>
 }
 
 /// Returns the cell of the record `bytes`, or `None` if the cell's key, generation or value is reserved or out of
-/// range. Does not check the bytes that have to be 0, and takes any state byte other than 1 to mean disputed. `bytes`
-/// must have 32 bytes.
+/// range. Does not check the bytes that have to be 0, and takes any state byte other than 1 to mean disputed.
 fn sighting_in(bytes: &[u8]) -> Option<Sighting>
     requires { length bytes.now ≡ 32 }
     ensures { result ≡ option_and_then if_sighting (candidate bytes.now) }
@@ -123,8 +121,7 @@ fn key_of(kind: u8, guid: u64, port: u8) -> Option<Key>
     }
 }
 
-/// Returns the value in `bytes`, of the kind that `key` has. Returns `None` if `key` is of a node and the node type is
-/// reserved. `bytes` must have 16 bytes.
+/// Returns the value in `bytes`, of the kind that `key` has, or `None` if it is a reserved node type.
 fn value_of(key: &Key, bytes: &[u8]) -> Option<Value>
     requires { length bytes.now ≡ 16 }
     ensures { result ≡ value_in key.now bytes.now }

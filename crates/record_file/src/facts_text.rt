@@ -25,8 +25,7 @@ fn write_subject<W: Sink>(sink: &mut W, key: &Key) -> Result<(), WriteFault>
     }
 }
 
-/// Writes the word for the kind of `key` (`node`, `portguid`, `link`, `port`, `claim` or `cap`), and then the node or
-/// the port that `key` is about.
+/// Writes the word for the kind of `key`, and then the node or the port that `key` is about.
 fn write_key<W: Sink>(sink: &mut W, key: &Key) -> Result<(), WriteFault>
     ensures writes { Writes W.written W.has_failed result sink.old sink.new (key_text key.now) }
 {

@@ -22,7 +22,7 @@ pub(crate) fn head_of(floor: Generation) -> [u8; MAGIC_LEN + HEADER_LEN]
     bytes
 }
 
-/// Returns the floor if `bytes` are a header, and otherwise `None`. `bytes` must have 8 bytes.
+/// Returns the floor if `bytes` are a header, and otherwise `None`.
 pub(crate) fn floor_told(bytes: &[u8]) -> Option<Generation>
     requires { length bytes.now ≡ 8 }
     ensures { result ≡ floor_in_header bytes.now }

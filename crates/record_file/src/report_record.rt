@@ -9,8 +9,7 @@ use smp_bytes::{Guid, PortNum};
 /// 256 bytes of the reply.
 pub(crate) const RECORD_LEN: usize = 272;
 
-/// Returns the report that the record `bytes` spells, or `None` if `bytes` do not spell a report. `bytes` must have 272
-/// bytes.
+/// Returns the report that the record `bytes` spells, or `None` if `bytes` do not spell a report.
 #[tactic(auto, unfolding(crate::specs::ReportRecord::report_of))]
 pub(crate) fn report_of(bytes: &[u8]) -> Option<Report>
     requires { length bytes.now ≡ 272 }

@@ -23,8 +23,7 @@ pub enum Key {
 impl Key {
     ghost use Rattle.reply_facts.specs.Key.{key_guid, key_kind, key_numbers, key_port, kind_word};
 
-    /// Returns the numbers by which keys are ordered: the number of the key's kind, the GUID, and the port. The port is
-    /// 0 if the key has no port.
+    /// Returns the numbers by which keys are ordered: the kind, the GUID, and the port or 0.
     pub(crate) fn sort_key(&self) -> [u64; 3]
         ensures { result ≡ key_numbers self.now }
     {

@@ -121,9 +121,8 @@ fn sightings_by_node_info(
     }
 }
 
-/// Returns the facts that an answer with NodeInfo contains about a node of type `kind`: its type and number of ports,
-/// and a port GUID. If the context is `Via`, the facts include both directions of the link by which the request came.
-/// The ports must be in range.
+/// Returns the facts that an answer with NodeInfo contains about a node of type `kind` and, if the context is `Via`,
+/// about both directions of the link by which the request came.
 fn sightings_of_kind(
     generation: Generation,
     context: &Context,
@@ -165,9 +164,7 @@ fn fits_node_info(context: &Context, hops: u8) -> bool
     }
 }
 
-/// Returns whether the ports of an answer with NodeInfo are in range. NumPorts must be from 1 to 254, and LocalPortNum
-/// at most NumPorts. The port in a `Via` context must be from 1 to 254. LocalPortNum may be 0 only if the node is the
-/// manager's own and a switch.
+/// Returns whether the ports of an answer with NodeInfo are in range.
 fn are_ports_in_range(context: &Context, kind: NodeType, info: &NodeInfo) -> bool
     ensures { result ≡ are_ports_in_range context.now kind info.now }
 {
@@ -180,8 +177,7 @@ fn are_ports_in_range(context: &Context, kind: NodeType, info: &NodeInfo) -> boo
     is_cabled_port(info.num_ports) && asked_by <= info.num_ports && may_be_asked
 }
 
-/// Returns the facts of an answer with PortInfo, or its first fault. The facts are whether the port is up, and the LID
-/// that the port claims.
+/// Returns the facts of an answer with PortInfo, whether the port is up and the LID that it claims, or its first fault.
 fn sightings_by_port_info(
     generation: Generation,
     context: &Context,
@@ -219,8 +215,7 @@ pub fn is_up(info: &PortInfo) -> bool
     }
 }
 
-/// Returns the fact of an answer with SwitchInfo, or its fault. The fact is how many LIDs the switch's linear
-/// forwarding table has room for.
+/// Returns the fact of an answer with SwitchInfo, how many LIDs the switch's table has room for, or its fault.
 fn sightings_by_switch_info(
     generation: Generation,
     context: &Context,

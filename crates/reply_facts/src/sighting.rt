@@ -80,8 +80,7 @@ impl Sighting {
         }
     }
 
-    /// Creates a sighting of `value`, as reported in `generation`, under `key`. `value` must be of the kind of `key`,
-    /// and all numbers must be in range.
+    /// Creates a sighting of `value`, as reported in `generation`, under `key`.
     pub(crate) fn known(generation: Generation, key: Key, value: Value) -> Self
         requires { IsSighting (key, Known generation value) }
         ensures { result ≡ (key, Known generation value) }
@@ -89,7 +88,7 @@ impl Sighting {
         Sighting::of(&key, &Cell::Known(generation, value))
     }
 
-    /// Creates a sighting of `cell` under `key`. The cell must fit the key, and all numbers must be in range.
+    /// Creates a sighting of `cell` under `key`.
     fn of(key: &Key, cell: &Cell<Value>) -> Self
         requires { IsSighting (key.now, cell.now) }
         ensures { result ≡ (key.now, cell.now) }
@@ -181,8 +180,7 @@ fn other_of(cell: &Cell<Value>) -> Guid
     }
 }
 
-/// Returns the number in the value of `cell`: a number of ports, a port, a LID, or the size of a table in LIDs. Returns
-/// 0 if the value has no number, or if `cell` is disputed.
+/// Returns the number in the value of `cell`, or 0 if the value has no number or `cell` is disputed.
 fn number_of(cell: &Cell<Value>) -> u16
     ensures { result ≡ number_of cell.now }
 {

@@ -24,8 +24,7 @@ impl Out {
         self.deadline <= time
     }
 
-    /// Returns whether `packet` answers the request: it is a response with the TransactionID, AttributeID,
-    /// AttributeModifier and class of the request.
+    /// Returns whether `packet` is a response with the TransactionID, attribute, modifier and class of the request.
     pub(crate) fn is_answered_by(&self, packet: &Smp) -> bool
         ensures { result ≡ answers packet.now self.now }
     {

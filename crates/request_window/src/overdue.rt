@@ -5,8 +5,7 @@ use crate::late::Late;
 use crate::limits::Limits;
 use crate::out::Out;
 
-/// Takes the first of `outs` that is late at `time` as sent again at `time` or, if it was sent `limits.tries` times or
-/// is a poll, removes it. Returns what becomes of it, or `None` if none of `outs` is late.
+/// Notes the first of `outs` that is late at `time` as sent again, or removes it, and returns what becomes of it.
 pub(crate) fn judge_late(outs: &mut Vec<Out>, limits: Limits, time: u64) -> Option<Late>
     ensures outs { outs.new.items ≡ (late_in limits time outs.old.items).outs }
     ensures late { result ≡ (late_in limits time outs.old.items).late }

@@ -5,8 +5,7 @@ use crate::roots_text_fault::RootsTextError;
 use smp_bytes::Guid;
 use text_words::{number, split_word};
 
-/// Returns the root in the only word of `line`, or `None` if `line` has no word. Returns `Syntax` if `line` has more
-/// than one word, and otherwise the fault of its word, if the word has one (`root`).
+/// Returns the root in the only word of `line`, if it has one. Fails with `Syntax` if it has more, or the word's fault.
 #[tactic(auto, unfolding(crate::specs::Line::root_on))]
 pub(crate) fn root_on(line: &[u8]) -> Result<Option<Guid>, RootsTextError>
     ensures { result ≡ root_on line.now }
@@ -23,8 +22,7 @@ pub(crate) fn root_on(line: &[u8]) -> Result<Option<Guid>, RootsTextError>
     }
 }
 
-/// Parses a root: 1 to 16 hex digits, not all 0, with or without `0x`. Returns `Guid` if there are more digits or the
-/// number is 0. Returns `Syntax` if `word` is not hex digits, with or without `0x`.
+/// Parses a root: 1 to 16 hex digits, not all 0, with or without `0x`.
 #[tactic(auto, using(crate::proofs::Guids::whole, crate::proofs::Guids::long, crate::proofs::Guids::zero_is_none, crate::proofs::Guids::no_digits))]
 fn root(word: &[u8]) -> Result<Guid, RootsTextError>
     ensures { result ≡ root_of word.now }

@@ -45,8 +45,7 @@ pub fn parse(alloc: Global, text: &[u8]) -> Result<Vec<Guid>, RootsTextFault>
     }
 }
 
-/// Returns the roots that the lines of `text` name, or the first fault of the lines. Returns `Memory` if memory is
-/// refused before the first fault.
+/// Returns the roots that the lines of `text` name, the first fault of the lines, or `Memory`.
 #[tactic(auto, using(crate::proofs::Folds::reading))]
 fn read_lines(alloc: Global, text: &[u8]) -> Result<Roots, RootsTextFault>
     ensures { Reads result (roots_of text.now) }
@@ -62,8 +61,7 @@ fn read_lines(alloc: Global, text: &[u8]) -> Result<Roots, RootsTextFault>
     Ok(roots)
 }
 
-/// Appends the root that `line` names, if it names one. `number` is the number of `line`. Returns the fault of `line`
-/// if there is one, and `Memory` if memory is refused.
+/// Appends the root that `line`, of number `number`, names if it names one. Fails with its fault, or with `Memory`.
 fn with_line(roots: Roots, number: usize, line: &[u8]) -> Result<Roots, RootsTextFault>
     ensures { Reads result (with_line number roots line.now) }
 {

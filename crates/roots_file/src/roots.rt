@@ -38,8 +38,7 @@ impl Roots {
         }
     }
 
-    /// Appends `root`, which the line with the number `line` names. Returns `Repeated` at that line if the list already
-    /// has `root`, and `Memory` if memory is refused. Takes time logarithmic in the number of roots.
+    /// Appends `root`, which the line with the number `line` names. Takes time logarithmic in the number of roots.
     pub(crate) fn with(self, line: usize, root: Guid) -> Result<Self, RootsTextFault>
         ensures { Reads result (root_more line self root) }
     {

@@ -46,8 +46,7 @@ pub(crate) fn lesser(one: Bound, other: Bound) -> Bound
     }
 }
 
-/// Returns what a port, given by its node and its number, lets through, by its PortInfo and that of the far end of its
-/// wire. If its PortInfo is not kept, returns the least that each port lets through.
+/// Returns what a port, given by node and number, lets through, or the least of all ports if its PortInfo is not kept.
 pub(crate) fn bound_at(told: &Told<'_>, at: &(Guid, PortNum)) -> Bound
     ensures { result ≡ bound_at (value_of told.now) at.now }
 {

@@ -111,8 +111,7 @@ fn reply_between(
     }
 }
 
-/// Returns the path from `source` with `slid` to `target` with `dlid`, if packets arrive there and back and the path is
-/// as the request asks.
+/// Returns the path from `source` with `slid` to `target` with `dlid`, if packets arrive both ways and it is as asked.
 fn path_between(
     told: &Told<'_>,
     mask: u64,
@@ -156,8 +155,7 @@ fn guid_of(told: &Told<'_>, port: &EndPort) -> Option<Guid>
     told.store.port_guid(port.node, port.port)
 }
 
-/// Returns the path between two ends, on which a packet may live for the time with the number `life`, and whose ports
-/// let through what `bound` says.
+/// Returns the path between two ends, with the life of number `life`, whose ports let through what `bound` says.
 fn path_of(
     mask: u64,
     asked: &PathRecord,
@@ -241,8 +239,7 @@ fn suits_lane(mask: u64, asked: &PathRecord) -> bool
         && (!gives(mask, SL) || asked.qos_class_and_sl % 16 == 0)
 }
 
-/// Returns whether `value` is as the request asks, if it gives the selector and the number of `field`, whose bits are
-/// `bit`, which must be less than 63, and the next one.
+/// Returns whether `value` is as asked, if the request gives selector and number of `field` (`bit` and the next).
 fn suits(mask: u64, bit: u32, field: u8, value: u8) -> bool
     requires { bit < 63 }
     ensures { result ≡ suits (λ n. n) mask bit field value }
@@ -277,7 +274,7 @@ fn is_selected(field: u8, wanted: u16, has: u16, value: u8) -> bool
     }
 }
 
-/// Returns whether the request gives the components with the bit `bit`, which must be less than 63, and the next one.
+/// Returns whether the request gives the components with the bit `bit` and the next one.
 fn gives_both(mask: u64, bit: u32) -> bool
     requires { bit < 63 }
     ensures { result ≡ gives_both mask bit }
@@ -285,7 +282,7 @@ fn gives_both(mask: u64, bit: u32) -> bool
     gives(mask, bit) && gives(mask, bit + 1)
 }
 
-/// Returns whether the request gives the component with the bit `bit`, which must be less than 64.
+/// Returns whether the request gives the component with the bit `bit`.
 fn gives(mask: u64, bit: u32) -> bool
     requires { bit < 64 }
     ensures { result ≡ gives mask bit }

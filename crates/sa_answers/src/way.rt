@@ -30,9 +30,8 @@ pub enum WayNext {
     Goes((Guid, PortNum), Bound),
 }
 
-/// Returns what the ports let through that a packet from `source` for `lid`, a LID of `owner`, passes, and the two end
-/// ports. Returns `None` if the packet does not come to the owner. Does some ten binary searches among the facts at
-/// each wire.
+/// Returns what the ports let through that a packet from `source` for `lid`, a LID of `owner`, passes, or `None` if it
+/// does not come to the owner. Does some ten binary searches among the facts at each wire.
 pub(crate) fn bound_of_way(
     told: &Told<'_>,
     lid: Lid,
@@ -65,8 +64,8 @@ fn port_at(port: &EndPort) -> (Guid, PortNum)
     (port.node, port.port)
 }
 
-/// Returns what follows the step of a packet for `lid`, a LID of `owner`, at the port `at`, to which it came by a wire,
-/// or whose own it is.
+/// Returns what follows the step of a packet for `lid`, a LID of `owner`, at the port `at`, come there by a wire or
+/// not.
 fn take_step(
     told: &Told<'_>,
     lid: Lid,
@@ -106,8 +105,7 @@ fn over_wire(told: &Told<'_>, least: Bound, out: &(Guid, PortNum), into: &(Guid,
     lesser(lesser(least, bound_at(told, out)), bound_at(told, into))
 }
 
-/// Returns what becomes of a packet for `lid`, a LID of `owner`, at the port `at`, to which it came by a wire, or whose
-/// own it is.
+/// Returns what becomes of a packet for `lid`, a LID of `owner`, at the port `at`, to which it came by a wire or not.
 fn step_at(
     told: &Told<'_>,
     lid: Lid,

@@ -33,8 +33,7 @@ impl Model for Known {
     ghost view = { λ a. record { seats = a.seats.items; deciders = a.deciders.items } };
 }
 
-/// Returns the first fault of `text`. Returns `None` if `text` has no fault, or has more than 64 managers before its
-/// first fault.
+/// Returns the first fault of `text`, or `None` if there is none, or more than 64 managers come before it.
 pub(crate) fn first_fault(topology: &Topology, text: &[u8]) -> Option<ScheduleFault>
     ensures found { IfSome result (λ fault.
         fault_of (schedule_of_lines topology.now.nodes (lines text.now)) ≡ Some fault) }
@@ -58,9 +57,8 @@ pub(crate) fn first_fault(topology: &Topology, text: &[u8]) -> Option<ScheduleFa
 }
 
 impl Known {
-    /// Checks `line`, whose number is `number`. If the line has a new manager, adds it. Returns the line's fault if it
-    /// has one. Otherwise returns `false` if there is no room for the new manager, since there are 64 of its kind
-    /// already, and `true` if not.
+    /// Checks `line`, whose number is `number`, and adds its manager if it has a new one. Returns its fault, or else
+    /// whether there was room, which there is for 64 of each kind.
     fn judge_line(
         &mut self,
         topology: &Topology,

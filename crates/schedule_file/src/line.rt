@@ -69,8 +69,7 @@ fn manner_in(line: &[u8]) -> Option<Manner>
     manner_of(word, number)
 }
 
-/// Parses the two words that follow the priority of a new manager: `live` and a 64-bit SM_Key in decimal, or `decides`
-/// and a generation of up to 4,294,967,294 in decimal. Returns `None` for anything else.
+/// Parses two words after a new manager's priority: `live` and a 64-bit SM_Key, or `decides` and a generation.
 fn manner_of(word: &[u8], number: &[u8]) -> Option<Manner>
     ensures { result ≡ manner_of word.now number.now }
 {

@@ -73,7 +73,7 @@ fn are_letters_and_digits(bytes: &[u8]) -> bool
     bytes.iter().all(|byte| byte.is_ascii_alphanumeric())
 }
 
-/// Returns the text of `name`, which must be a manager's name.
+/// Returns the text of the manager's name `name`.
 fn text(name: &[u8]) -> ArrayString<16>
     requires { IsTrue (is_manager_name name.now) }
     ensures { result.bytes ≡ name.now }

@@ -23,8 +23,7 @@ pub(crate) struct PortName {
 /// the seat of the manager is known. Whether a manager of which something is shown decides by itself is known then too.
 pub(crate) type NamedCommand = Command<ManagerName, PortName>;
 
-/// Parses a command from `word`, the first word of its line, and `line`, the rest. Returns `None` if the grammar has no
-/// such command.
+/// Parses a command from `word`, the first word of its line, and `line`, the rest, if the grammar has it.
 pub(crate) fn named_command(word: &[u8], line: &[u8]) -> Option<NamedCommand>
     ensures { result ≡ command_in word.now (words line.now) }
 {
@@ -76,8 +75,7 @@ fn of_one(word: &[u8], arg: &[u8]) -> Option<NamedCommand>
     }
 }
 
-/// Parses the command that has two words, `word` and a manager's name, `name`. Returns `None` if the grammar has no
-/// such command.
+/// Parses the command of two words, `word` and a manager's name, `name`, if the grammar has it.
 fn to_manager(word: &[u8], name: &[u8]) -> Option<NamedCommand>
     ensures { result ≡ to_manager word.now name.now }
 {
@@ -88,8 +86,7 @@ fn to_manager(word: &[u8], name: &[u8]) -> Option<NamedCommand>
     }
 }
 
-/// Parses the command that has two words, `word`, which asks a manager for nothing, and a manager's name, `name`.
-/// Returns `None` if the grammar has no such command.
+/// Parses the command of `word`, which asks a manager for nothing, and a manager's name, `name`, if there is one.
 fn of_manager(word: &[u8], name: &[u8]) -> Option<NamedCommand>
     ensures { result ≡ of_manager word.now name.now }
 {
@@ -104,8 +101,7 @@ fn of_manager(word: &[u8], name: &[u8]) -> Option<NamedCommand>
     }
 }
 
-/// Parses the command that has the three words `word`, `one` and `other`. Returns `None` if the grammar has no such
-/// command.
+/// Parses the command of the three words `word`, `one` and `other`, if the grammar has it.
 fn of_two(word: &[u8], one: &[u8], other: &[u8]) -> Option<NamedCommand>
     ensures { result ≡ of_two word.now one.now other.now }
 {
@@ -186,8 +182,7 @@ fn wait(time: &[u8], most: &[u8]) -> Option<NamedCommand>
     Some(Command::Wait(time, number_up_to(most, 10_000)?))
 }
 
-/// Parses `word` as the name of a packet in flight: `last`, or a 64-bit serial number in decimal. Returns `None` for
-/// anything else.
+/// Parses `word` as the name of a packet in flight: `last`, or a 64-bit serial number in decimal.
 fn which(word: &[u8]) -> Option<Which>
     ensures { result ≡ which_of word.now }
 {
@@ -198,8 +193,7 @@ fn which(word: &[u8]) -> Option<Which>
     }
 }
 
-/// Parses a node's name in quotes, directly followed by a port number of up to 255 in brackets. Returns `None` for
-/// anything else.
+/// Parses a node's name in quotes, directly followed by a port number of up to 255 in brackets.
 pub(crate) fn port_name(word: &[u8]) -> Option<PortName>
     ensures { result ≡ port_name word.now }
 {

@@ -3,8 +3,7 @@ ghost use Rattle.text_words.specs.Numbers.{number_up_to};
 
 use text_words::number;
 
-/// Parses `word` as a decimal number. Returns `None` if it is not one, or if the number is above `most`. Takes time
-/// linear in the length of `word`.
+/// Parses `word` as a decimal number of at most `most`. Takes time linear in the length of `word`.
 pub(crate) fn number_up_to(word: &[u8], most: u32) -> Option<u32>
     ensures { result ≡ number_up_to most word.now }
 {
@@ -16,8 +15,7 @@ pub(crate) fn number_up_to(word: &[u8], most: u32) -> Option<u32>
     }
 }
 
-/// Parses `word` as a decimal number. Returns `None` if `word` is not a decimal number, or if the number does not fit
-/// in 64 bits. Takes time linear in the length of `word`.
+/// Parses `word` as a decimal number of 64 bits. Takes time linear in the length of `word`.
 pub(crate) fn serial(word: &[u8]) -> Option<u64>
     ensures { result ≡ number_up_to (2 ^ 64 - 1) word.now }
 {

@@ -16,13 +16,9 @@ use topo_file::{Node, Topology};
 /// and nodes by their ids.
 pub type SeatCommand = Command<usize, NodePort>;
 
-/// Resolves the names in `command`, which is from the line `line`. `seats` are the managers so far that are asked, and
-/// `deciders` are those that decide by themselves.
-///
-/// # Errors
-///
-/// Returns `Decides` if the command asks one of `deciders` for something, or is to pause or resume one of `seats`.
-/// Otherwise returns `Name` if a name is unknown.
+/// Resolves the names in `command`, of the line `line`, for the managers `seats` that are asked and `deciders` that
+/// decide by themselves. Fails with `Decides` if it asks one of `deciders` for something, or is to pause or resume one
+/// of `seats`, and otherwise with `Name` if a name is unknown.
 pub(crate) fn resolve(
     topology: &Topology,
     seats: &[Seat],
@@ -106,16 +102,14 @@ fn shown(seats: &[Seat], deciders: &[Seat], name: &ManagerName, what: Shown) -> 
     }
 }
 
-/// Returns the index of the manager with the name `name`, or `None` if no manager has this name. Takes time linear in
-/// the number of managers.
+/// Returns the index of the manager with the name `name`, if any, in time linear in the number of managers.
 pub(crate) fn seat(seats: &[Seat], name: &ManagerName) -> Option<usize>
     ensures { result ≡ seat_of seats.now name.now }
 {
     seats.iter().position(|seat| seat.name.is(name))
 }
 
-/// Returns the port that `name` names, or `None` if the topology has no node with the node name in `name`. The node
-/// need not have this port.
+/// Returns the port that `name` names, which its node need not have, or `None` if no node has the node name.
 pub(crate) fn port(topology: &Topology, name: &PortName) -> Option<NodePort>
     ensures { result ≡ port_of topology.now.nodes name.now }
 {

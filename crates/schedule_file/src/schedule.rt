@@ -96,8 +96,7 @@ impl Schedule {
         }
     }
 
-    /// Adds the seat or the command, if any, that `line` gives. `number` is the number of the line. Returns the
-    /// line's fault if it has one, or `Memory` if memory runs out.
+    /// Adds the seat or the command that `line`, of the number `number`, gives. Fails with its fault, or `Memory`.
     fn with(self, topology: &Topology, number: usize, line: &[u8]) -> Result<Self, ScheduleFault>
         ensures { Reads result (with_line topology.now.nodes number self (line_of line.now)) }
     {
@@ -151,9 +150,8 @@ fn and_one<T: Drop>(items: Vec<T>, item: T) -> Result<Vec<T>, ScheduleFault>
     Ok(items)
 }
 
-/// Builds the seat of the manager `new`, which is from the line `line`. Returns `Name` if the manager's name is
-/// taken, or if no node has the name in `new.at`. Otherwise returns `Seat` if no manager may sit at this port, or if
-/// one of `seats` or `deciders` is there already.
+/// Builds the seat of the manager `new`, of the line `line`. Fails with `Name` if its name is taken or no node has the
+/// name in `new.at`, and otherwise with `Seat` if no manager may sit there or one does already.
 pub(crate) fn new_seat(
     topology: &Topology,
     seats: &[Seat],

@@ -120,8 +120,7 @@ pub fn write_state<W: Sink>(
     write_end_word(sink, state.word())
 }
 
-/// Prints the line of a trap that a manager repressed, with the manager's name unless `manager` is `None`. `issuer`
-/// is the LID of the port that issued the trap.
+/// Prints the line of a trap from the port with the LID `issuer` that a manager repressed, with `manager` if given.
 pub(crate) fn write_trap<W: Sink>(
     sink: &mut W,
     manager: Option<&str>,

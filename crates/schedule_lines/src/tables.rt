@@ -30,8 +30,7 @@ pub fn show_tables<W: Sink>(alloc: Global, fabric: &Fabric, sink: &mut W) -> Res
 /// A LID, with the node GUID and the number of the port that has it, and the port's LMC.
 type AgentLid = (Lid, Guid, PortNum, Lmc);
 
-/// Prints a line for each of `lids`: the LID, the LMC unless it is 0, and the node and the number of the port that
-/// has the LID.
+/// Prints a line for each of `lids`: the LID, the LMC unless it is 0, and the node and number of its port.
 fn write_held<W: Sink>(sink: &mut W, lids: &[AgentLid]) -> Result<(), RunFault>
     ensures prints { PrintsUnless W.written W.has_failed result sink.old sink.new
         (flat_map held_line lids.now) }
@@ -46,8 +45,7 @@ fn write_held<W: Sink>(sink: &mut W, lids: &[AgentLid]) -> Result<(), RunFault>
     Ok(())
 }
 
-/// Returns the LIDs that ports have, in ascending order of LID, node GUID and port. Ties are in the order of the
-/// nodes. Returns an error if memory runs out.
+/// Returns the LIDs that ports have, in order of LID, node GUID and port. Returns an error if memory runs out.
 fn held_lids(alloc: Global, fabric: &Fabric) -> Result<Vec<AgentLid>, AllocError>
     ensures { IfOk result (λ held. held.items ≡ all_held fabric.now.agents) }
 {
@@ -59,8 +57,7 @@ fn held_lids(alloc: Global, fabric: &Fabric) -> Result<Vec<AgentLid>, AllocError
     Ok(held)
 }
 
-/// Appends to `held` the LIDs that the ports of `agent` have, in the order of the ports, port 0 first. A port with
-/// LID 0 has no LID. Returns an error if memory runs out.
+/// Appends to `held` the LIDs other than 0 that the ports of `agent` have, in the order of the ports.
 fn hold_lids(held: &mut Vec<AgentLid>, agent: &Agent) -> Result<(), AllocError>
     ensures { OnOk result (held.new.items ≡ held.old.items ++ held_by agent.now) }
 {
@@ -75,8 +72,7 @@ fn hold_lids(held: &mut Vec<AgentLid>, agent: &Agent) -> Result<(), AllocError>
     Ok(())
 }
 
-/// Returns the agents of the switches, in ascending order of GUID. Agents with equal GUIDs are in the order of their
-/// nodes. Returns an error if memory runs out.
+/// Returns the agents of the switches, in ascending order of GUID. Returns an error if memory runs out.
 fn switches<'f>(alloc: Global, fabric: &'f Fabric) -> Result<Vec<&'f Agent>, AllocError>
     ensures { IfOk result (λ found. map (λ agent. agent.now) found.items ≡ switches fabric.now.agents) }
 {
@@ -122,7 +118,7 @@ fn write_blocks<W: Sink>(sink: &mut W, agent: &Agent) -> Result<(), RunFault>
     Ok(())
 }
 
-/// Returns block `b` of the table of `agent`. `b` must be below 1024.
+/// Returns block `b` of the table of `agent`.
 fn block(agent: &Agent, b: usize) -> [u8; 64]
     requires { b < 1024 }
     ensures { result ≡ block_at agent.now b }

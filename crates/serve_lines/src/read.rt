@@ -44,8 +44,7 @@ fn said_by(line: &[u8]) -> Option<ServeLine>
     Some(ServeLine::Packet(bytes, from))
 }
 
-/// Parses the words `word`, `hex` and `between`, and then those of `rest`, as a packet and the LID that it came from.
-/// Returns `None` if these are not four words, `packet`, the packet in hex digits, `from` and the LID.
+/// Parses `word`, `hex` and `between`, and then `rest`, as a packet and the LID that it came from, if they are so.
 pub(crate) fn packet_behind(
     word: &[u8],
     hex: &[u8],
@@ -91,8 +90,7 @@ fn of_one(word: &[u8], arg: &[u8]) -> Option<ServeLine>
     }
 }
 
-/// Parses the four words `packet`, the packet in hex digits, `from`, and the LID that the packet came from. Returns
-/// `None` for other words.
+/// Parses the four words `packet`, the packet in hex digits, `from`, and the LID that the packet came from.
 fn packet_in(word: &[u8], hex: &[u8], between: &[u8], lid: &[u8]) -> Option<([u8; 256], Lid)>
     ensures { result ≡ packet_in word.now hex.now between.now lid.now }
 {
@@ -103,8 +101,7 @@ fn packet_in(word: &[u8], hex: &[u8], between: &[u8], lid: &[u8]) -> Option<([u8
     Some((bytes, lid_of(lid)?))
 }
 
-/// Parses the 256 bytes of a packet, each written as two hex digits of either case. Returns `None` unless `word` is 512
-/// hex digits.
+/// Parses the 256 bytes of a packet, each written as two hex digits of either case.
 pub(crate) fn packet_of(word: &[u8]) -> Option<[u8; 256]>
     ensures { result ≡ packet_of word.now }
 {

@@ -38,8 +38,7 @@ fn told_by(line: &[u8]) -> Option<ManageLine>
     Some(ManageLine::Told(time, behind_time(rest)?))
 }
 
-/// Parses a time, a number of milliseconds in decimal. Returns `None` if a byte of `word` is not a decimal digit, or if
-/// the number does not fit in 64 bits.
+/// Parses a time, a 64-bit number of milliseconds in decimal.
 fn time_of(word: &[u8]) -> Option<u64>
     ensures { result ≡ time_of word.now }
 {
@@ -75,8 +74,7 @@ fn behind_time(rest: &[u8]) -> Option<ManageWord>
     long_of(word, hex, between, rest)
 }
 
-/// Parses the words `word` and `hex` as `light` and a packet in hex digits. Returns `None` if the grammar has no such
-/// words.
+/// Parses the words `word` and `hex` as `light` and a packet in hex digits.
 fn light_of(word: &[u8], hex: &[u8]) -> Option<ManageWord>
     ensures { result ≡ light_of word.now hex.now }
 {
@@ -87,8 +85,7 @@ fn light_of(word: &[u8], hex: &[u8]) -> Option<ManageWord>
     }
 }
 
-/// Parses the words `word`, `hex` and `between`, and then those of `rest`. Returns `None` if the grammar has no such
-/// words.
+/// Parses the words `word`, `hex` and `between`, and then those of `rest`, if the grammar has them.
 fn long_of(word: &[u8], hex: &[u8], between: &[u8], rest: &[u8]) -> Option<ManageWord>
     ensures { result ≡ long_of word.now hex.now between.now (words rest.now) }
 {

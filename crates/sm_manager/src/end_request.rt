@@ -17,8 +17,8 @@ use sm_state::{Control, Event, Standing};
 use smp_bytes::{Smp, Status};
 
 impl Manager {
-    /// Takes `smp` as the answer to a request outside sweeps, and ends that request. Returns `Unasked` if `smp` answers
-    /// no such request. Returns `SequenceSpent` or `Memory` if the next phase of a writing is due and cannot be sent.
+    /// Takes `smp` as the answer to a request outside sweeps, and ends that request. Fails with `Unasked` if there is
+    /// none, and with `SequenceSpent` or `Memory` if the next phase of a writing is due and cannot be sent.
     pub(crate) fn take_answer(&mut self, smp: &Smp) -> Result<(), ManagerFault>
         ensures judged { JudgesButFor is_memory result
             (request_answered self.old smp.now (pending_for self.old smp.now)).fault }
@@ -32,9 +32,8 @@ impl Manager {
         }
     }
 
-    /// Ends the outstanding request at `index`, in ascending order of number. There must be one. `answer` is the
-    /// status of the answer to the request, or `None` if the request timed out. Returns `SequenceSpent` or `Memory`
-    /// if the next phase of a writing is due and cannot be sent.
+    /// Ends the outstanding request at `index`, with the status `answer` or, if it timed out, `None`. Fails with
+    /// `SequenceSpent` or `Memory` if the next phase of a writing is due and cannot be sent.
     pub(crate) fn end_request(
         &mut self,
         index: usize,
@@ -87,8 +86,7 @@ fn end_poll(standing: &mut Standing, was_answered: bool)
     }
 }
 
-/// Returns whether the manager moves as ACKNOWLEDGE would move it when the control `ended` ends: its conduct is live,
-/// the control is a HANDOVER, and `answer` is status 0. `None` stands for a timeout.
+/// Returns whether `ended` moves the manager as ACKNOWLEDGE: a HANDOVER under the live conduct that status 0 answers.
 fn is_relieved(standing: &Standing, ended: &Pending, answer: Option<Status>) -> bool
     ensures { result ≡ is_relieved standing.now ended.now (status_number answer) }
 {

@@ -15,8 +15,7 @@ impl Manager {
         }
     }
 
-    /// Returns the generation after the newest one in the store, or the store's floor if that is greater. Returns
-    /// `None` if the newest one is the greatest possible generation.
+    /// Returns the generation after the newest one in the store, but at least its floor, or `None` if there is none.
     pub(crate) fn next_generation(&self) -> Option<Generation>
         ensures some { IfSome result (λ next. next ≡ next_generation self.now.store) }
         ensures none { IsNone result → newest_held self.now.store ≡ 2 ^ 32 - 1 }

@@ -72,8 +72,7 @@ impl Manager {
         Ok(())
     }
 
-    /// Returns the way of a poll: to `lid` or, if `lid` is `None`, to the manager to poll. Returns `Nobody` if there is
-    /// no manager to poll, or no way to it.
+    /// Returns the way of a poll, to `lid` or, if it is `None`, to the manager to poll, or `Nobody` if there is none.
     fn poll_way(&self, lid: Option<Lid>) -> Result<Way, ManagerFault>
         ensures judged { Judges result (unless_way (poll_way self.now lid)) }
         ensures way { IfOk result (λ way. poll_way self.now lid ≡ Some way) }
@@ -84,9 +83,8 @@ impl Manager {
         }
     }
 
-    /// Returns the way to the port where the manager `seen` was seen: the path by which the last sweep first reached
-    /// that port. Returns `Nobody` if `seen` is `None`, if there is no such path, if the path has more than 63 hops, or
-    /// if it does not leave by this manager's port.
+    /// Returns the way to the port where `seen` was seen: the path by which the last sweep first reached it, if it has
+    /// at most 63 hops and leaves by this manager's port, and otherwise `Nobody`.
     fn way_seen(&self, seen: Option<SeenManager>) -> Result<Way, ManagerFault>
         ensures judged { Judges result (unless_way (way_seen self.now seen)) }
         ensures way { IfOk result (λ way. way_seen self.now seen ≡ Some way) }
@@ -100,8 +98,7 @@ impl Manager {
         }
     }
 
-    /// Returns the path by which the last sweep first reached the port where it saw the manager `seen`, or `None` if
-    /// there is no such path.
+    /// Returns the path by which the last sweep first reached the port where it saw the manager `seen`.
     fn path_seen(&self, seen: &SeenManager) -> Option<&Path<63>>
         ensures { option_copied result ≡ path_seen self.now.sweep seen.now }
     {
@@ -167,8 +164,7 @@ impl Manager {
         }
     }
 
-    /// Queues a HANDOVER to the port where the manager `receiver` was seen. Returns the first of these that applies:
-    /// `NotMaster`; the fault of `receiver_way`.
+    /// Queues a HANDOVER to the port where `receiver` was seen. Fails with `NotMaster`, or the fault of `receiver_way`.
     fn hand_to(&mut self, receiver: Option<SeenManager>) -> Result<(), ManagerFault>
         ensures judged { JudgesButFor is_memory result (handing_fault self.old receiver) }
         ensures ok { OnOk result (self.new ≡ handed_to self.old (receiver_way self.old receiver)) }
@@ -195,10 +191,8 @@ impl Manager {
         Ok(())
     }
 
-    /// Returns the way of a HANDOVER to the port where the manager `receiver` was seen: under the live conduct the path
-    /// by which the last sweep first reached this port, and otherwise to its LID in the plan. Returns the first of
-    /// these that applies: `Nobody` if `receiver` is `None` or, under the live conduct, there is no such way;
-    /// otherwise the fault of `receiver_lid`; `SequenceSpent` if no number is left for the request; `Memory`.
+    /// Returns the way of a HANDOVER to the port where `receiver` was seen: under the live conduct the path by which
+    /// the last sweep first reached it, and otherwise to its LID in the plan.
     fn receiver_way(&self, receiver: Option<SeenManager>) -> Result<Way, ManagerFault>
         ensures judged { JudgesButFor is_memory result (receiver_fault self.now receiver) }
         ensures way { IfOk result (λ way. receiver_way self.now receiver ≡ Some way) }
@@ -212,8 +206,7 @@ impl Manager {
         }
     }
 
-    /// Returns the way to the port where the manager `receiver` was seen. Returns the first of these that applies:
-    /// `Nobody` if there is no such way; `SequenceSpent` if no number is left for a request.
+    /// Returns the way to the port where `receiver` was seen, `Nobody`, or `SequenceSpent` if no number is left.
     fn numbered_way(&self, receiver: Option<SeenManager>) -> Result<Way, ManagerFault>
         ensures judged { Judges result
             (or_else (unless_way (way_seen self.now receiver)) (number_fault (self.now.counter + 1))) }
@@ -228,9 +221,7 @@ impl Manager {
         }
     }
 
-    /// Returns the LID that the plan gives to the port where the manager `receiver` was seen. Returns the first of
-    /// these that applies: `Nobody` if `receiver` is `None`; `NoRoom`; `Nobody` if the receiver's port is not known to
-    /// be an end port; `SequenceSpent` if no number is left for the request; `Memory`.
+    /// Returns the LID that the plan gives to the port where the manager `receiver` was seen, or the first fault.
     fn receiver_lid(&self, receiver: Option<SeenManager>) -> Result<Lid, ManagerFault>
         ensures judged { JudgesButFor is_memory result (planned_fault self.now receiver) }
         ensures lid { IfOk result (λ lid. receiver_lid self.now receiver ≡ Some lid) }
@@ -245,8 +236,7 @@ impl Manager {
         where_numbered(self.planned_lid(port), self.requests.has_numbers(1))
     }
 
-    /// Returns why nothing can be sent to a port that is not known to be an end port: `NoRoom` if some end port finds
-    /// no LID, and otherwise `Nobody`. Does not allocate.
+    /// Returns why nothing can be sent to a port that is no known end port: `NoRoom` or `Nobody`. Does not allocate.
     fn lidless_fault(&self) -> ManagerFault
         ensures { Some result
             ≡ or_else (plan_fault self.now.planning.lmc (cells_of self.now.store)) (Some ManagerFault.Nobody) }
@@ -257,8 +247,7 @@ impl Manager {
         }
     }
 
-    /// Returns the LID that the plan gives to `port`, which must be an end port of the facts. Returns `NoRoom` if
-    /// some end port finds no LID, and otherwise `Memory` if memory runs out.
+    /// Returns the LID that the plan gives to the end port `port`, `NoRoom` if some end port finds none, or `Memory`.
     fn planned_lid(&self, port: EndPort) -> Result<Lid, ManagerFault>
         requires { is_end_port (cells_of self.now.store) port.node port.port ≡ true }
         ensures judged { JudgesButFor is_memory result (plan_fault self.now.planning.lmc (cells_of self.now.store)) }
@@ -269,8 +258,7 @@ impl Manager {
         Ok(lids.lid_of(port).unwrap())
     }
 
-    /// Returns the LIDs of this manager's plan. Returns `NoRoom` if some end port finds no LID, and otherwise
-    /// `Memory` if memory runs out.
+    /// Returns the LIDs of this manager's plan, `NoRoom` if some end port finds no LID, or `Memory`.
     fn plan_lids(&self) -> Result<LidMap, ManagerFault>
         ensures judged { JudgesButFor is_memory result (plan_fault self.now.planning.lmc (cells_of self.now.store)) }
         ensures lids { IfOk result (λ map. map ≡ lids self.now.planning.lmc (cells_of self.now.store)) }
@@ -283,8 +271,7 @@ impl Manager {
     }
 }
 
-/// Returns the port where the manager `seen` was seen, or `None` if the facts of `store` do not say that this port is
-/// an end port.
+/// Returns the port where the manager `seen` was seen, if the facts of `store` say that it is an end port.
 fn port_seen(store: &Store, seen: &SeenManager) -> Option<EndPort>
     ensures { result ≡ port_seen (cells_of store.now) seen.now }
 {
@@ -319,9 +306,7 @@ fn is_way_out(port: PortNum, path: &Path<63>) -> bool
     }
 }
 
-/// Queues the control that carries `message`, to be sent by `way`. Does nothing if `way` or `message` is `None`.
-/// Otherwise `requests` must have memory and a number for the control, and `outgoing` must have memory for its packet.
-/// Does not allocate.
+/// Queues the control that carries `message`, to be sent by `way`, if there are both. Does not allocate.
 pub(crate) fn send_message(
     way: Option<Way>,
     message: &Option<Message>,
@@ -347,8 +332,7 @@ pub(crate) fn send_message(
     }
 }
 
-/// Queues `control`, with the SMInfo of `standing`, to be sent by `way`. `requests` must have memory and a number for
-/// the control, and `outgoing` must have memory for its packet. Does not allocate.
+/// Queues `control`, with the SMInfo of `standing`, to be sent by `way`. Does not allocate.
 fn send_control(
     way: Way,
     control: Control,

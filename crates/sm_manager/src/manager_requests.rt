@@ -96,9 +96,8 @@ impl ManagerRequests {
         self.table.reserve(count)
     }
 
-    /// Adds a request for `step` under the next number, and returns its packet. If `counts`, the plan counts as
-    /// written only if the step is done. There must be memory for the request, and the next number must fit in 32
-    /// bits. Does not allocate.
+    /// Adds a request for `step` under the next number, and returns its packet. If `counts`, the plan counts as written
+    /// only if the step is done. Does not allocate.
     pub(crate) fn send(&mut self, counts: bool, step: Step) -> Smp
         requires room { 0 < self.old.room }
         requires number { self.old.counter < 2 ^ 32 }
@@ -124,8 +123,7 @@ impl ManagerRequests {
         packet
     }
 
-    /// Adds a request for SMInfo that goes `way` under the next number, and returns its packet. `purpose` must not be a
-    /// step. There must be memory for the request, and the next number must fit in 32 bits. Does not allocate.
+    /// Adds a request for SMInfo that goes `way` under the next number, and returns its packet. Does not allocate.
     pub(crate) fn send_info(
         &mut self,
         purpose: Purpose,
@@ -155,15 +153,14 @@ impl ManagerRequests {
         Outgoing { packet, to }
     }
 
-    /// Returns the outstanding request at `index`, in ascending order of number, or `None` if at most `index`
-    /// requests are outstanding.
+    /// Returns the outstanding request at `index`, in ascending order of number, or `None` if there is none.
     pub(crate) fn get(&self, index: usize) -> Option<&Pending>
         ensures { option_copied result ≡ slice_get self.now.pending index }
     {
         self.table.get(index)
     }
 
-    /// Returns the purpose of the outstanding request at `index`, in ascending order of number. There must be one.
+    /// Returns the purpose of the outstanding request at `index`, in ascending order of number.
     pub(crate) fn purpose(&self, index: usize) -> Purpose
         requires { index < length self.now.pending }
         ensures { Some result
@@ -179,16 +176,14 @@ impl ManagerRequests {
         self.counting == 0
     }
 
-    /// Returns the index of the outstanding request with the TransactionID `transaction`, or `None` if no such
-    /// request is outstanding. Does a binary search among the outstanding requests.
+    /// Returns the index of the outstanding request with this TransactionID, or `None`. Does a binary search.
     pub(crate) fn index_of(&self, transaction: u64) -> Option<usize>
         ensures { IsIndexFor (with_number transaction self.now.pending) self.now.pending result }
     {
         self.table.index_of(transaction)
     }
 
-    /// Returns the index of the outstanding request that `smp` answers, or `None` if `smp` answers none. Does a
-    /// binary search among the outstanding requests.
+    /// Returns the index of the outstanding request that `smp` answers, or `None`. Does a binary search.
     pub(crate) fn index_for(&self, smp: &Smp) -> Option<usize>
         ensures { IsIndexFor (find (answers smp.now) self.now.pending) self.now.pending result }
     {
@@ -201,7 +196,7 @@ impl ManagerRequests {
         }
     }
 
-    /// Removes the outstanding request at `index`, in ascending order of number, and returns it. There must be one.
+    /// Removes the outstanding request at `index`, in ascending order of number, and returns it.
     pub(crate) fn end(&mut self, index: usize) -> Pending
         requires { index < length self.old.pending }
         ensures request { Some result ≡ slice_get self.old.pending index }
@@ -220,8 +215,7 @@ impl ManagerRequests {
     }
 }
 
-/// Reserves memory for `count` more requests and for `packets` more packets. Returns `SequenceSpent` if too few numbers
-/// are left for the requests, and otherwise `Memory` if memory runs out.
+/// Reserves memory for `count` more requests and for `packets` more packets. Fails with `SequenceSpent` or `Memory`.
 pub(crate) fn make_room(
     count: usize,
     packets: usize,

@@ -58,7 +58,7 @@ impl Manager {
         }
     }
 
-    /// Handles the packet `smp`. `from` is the LID of the sender. If `smp` came by LIDs, `from` must not be `None`.
+    /// Handles the packet `smp`. `from` is the LID of the sender.
     fn take(&mut self, smp: &Smp, from: Option<Lid>) -> Result<(), ManagerFault>
         requires { HasSender smp.now from }
         ensures judged { JudgesButFor is_memory result (packet_taken self.old smp.now from None).fault }
@@ -77,8 +77,7 @@ impl Manager {
     }
 
     /// Takes the reply `smp` to the sweep: adds its facts, or notes the manager that it shows, and queues the next
-    /// requests. Returns `Unasked` if no sweep has begun, `Sweep` if the sweep refuses the reply, and `Memory` if
-    /// memory runs out.
+    /// requests. Fails with `Unasked`, `Sweep` or `Memory`.
     fn take_reply(&mut self, smp: &Smp) -> Result<(), ManagerFault>
         ensures judged { JudgesButFor is_memory result
             (sweep_answered self.old smp.now self.old.sweep).fault }
@@ -118,8 +117,7 @@ fn refusal_of(fault: SweepFault) -> ManagerFault
     }
 }
 
-/// Returns the fault for the reply `smp` when there is no memory for the requests that may follow: `Sweep` with the
-/// sweep's fault if the sweep refuses the reply, and otherwise `Memory`.
+/// Returns the fault for the reply `smp` without memory for further requests: the sweep's fault, or `Memory`.
 fn fault_without_room(sweep: &Sweep, smp: &Smp) -> ManagerFault
     ensures { IsFaultWithoutRoom (judged sweep.now smp.now) result }
 {
@@ -129,8 +127,7 @@ fn fault_without_room(sweep: &Sweep, smp: &Smp) -> ManagerFault
     }
 }
 
-/// Returns whether `smp` is a GetResp along a directed route, and the high half of its TransactionID is not 0. The
-/// answers to the requests of a sweep are such packets.
+/// Returns whether `smp` may answer a sweep: a GetResp along a directed route whose TransactionID's high half is not 0.
 fn is_for_sweep(smp: &Smp) -> bool
     ensures { result ≡ is_for_sweep smp.now }
 {

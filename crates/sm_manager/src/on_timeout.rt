@@ -32,8 +32,7 @@ impl Manager {
         }
     }
 
-    /// Handles the timeout of the request of the last sweep with the TransactionID `transaction`. Returns `Unasked`
-    /// if no such request is outstanding, or if no sweep has begun.
+    /// Handles the timeout of the last sweep's request with the TransactionID `transaction`, or fails with `Unasked`.
     fn give_up(&mut self, transaction: u64) -> Result<(), ManagerFault>
         ensures judged { JudgesButFor is_memory result
             (sweep_gave_up self.old transaction self.old.sweep).fault }

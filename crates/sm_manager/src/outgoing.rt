@@ -13,8 +13,7 @@ pub struct Outgoing {
     pub to: Option<Lid>,
 }
 
-/// Moves all requests that `sweep` has queued to `outgoing`, which must have memory for them. The requests are then
-/// outstanding. Does not allocate.
+/// Moves all requests that `sweep` has queued to `outgoing`. The requests are then outstanding. Does not allocate.
 pub(crate) fn send_queued(sweep: &mut Sweep, outgoing: &mut VecDeque<Outgoing>)
     requires { deque_len outgoing.old + length sweep.old.queued ≤ deque_capacity outgoing.old }
     ensures sweep { sweep.new ≡ with_all_sent sweep.old }

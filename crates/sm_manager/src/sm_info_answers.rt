@@ -23,11 +23,9 @@ use std::alloc::AllocError;
 use std::collections::VecDeque;
 
 impl Manager {
-    /// Answers the request `smp` for SMInfo. If `smp` is a control and the table of states has a move for it, obeys
-    /// `smp`. Under the live conduct, any control may be obeyed; otherwise, only a control by LIDs. The answer is
-    /// sent back along the path of `smp` if `smp` came along a directed route, and otherwise to `from`, the LID of
-    /// the sender. Returns `SequenceSpent` if an ACKNOWLEDGE is due and no number is left for it. Otherwise returns
-    /// `Memory` if memory runs out.
+    /// Answers the request `smp` for SMInfo, and obeys it if it is a control for which the table of states has a move
+    /// and that came by LIDs or, under the live conduct, by any way. The answer goes back along the path of `smp`, or
+    /// to `from`, the LID of the sender. Fails with `SequenceSpent` or `Memory`.
     pub(crate) fn serve(&mut self, smp: &Smp, from: Option<Lid>) -> Result<(), ManagerFault>
         ensures judged { JudgesButFor is_memory result
             (unless_spent self.old (served self.old smp.now from)).fault }
@@ -42,8 +40,7 @@ impl Manager {
         }
     }
 
-    /// Queues the answer to the request `smp` for SMInfo, without taking it as a control. Returns `Memory` if memory
-    /// runs out.
+    /// Queues the answer to the request `smp` for SMInfo, without taking it as a control, or fails with `Memory`.
     fn reply(&mut self, smp: &Smp, from: Option<Lid>) -> Result<(), ManagerFault>
         ensures judged { JudgesButFor is_memory result
             (unless_spent self.old (replying self.old smp.now from)).fault }
@@ -58,9 +55,8 @@ impl Manager {
         Ok(())
     }
 
-    /// Moves the state according to the table of states, and queues the answer to the control `smp`. If the
-    /// transition has a message and the control came by LIDs, then queues the message to `from`. Returns
-    /// `SequenceSpent` if no number is left for the message. Otherwise returns `Memory` if memory runs out.
+    /// Moves the state by the table of states, and queues the answer to the control `smp` and, if it came by LIDs, the
+    /// message of the transition to `from`. Fails with `SequenceSpent` if no number is left for it, or with `Memory`.
     fn answer_control(&mut self, smp: &Smp, from: Option<Lid>) -> Result<(), ManagerFault>
         ensures judged { JudgesButFor is_memory result
             (unless_spent self.old (controlled self.old smp.now from)).fault }
@@ -91,8 +87,7 @@ impl Manager {
     }
 }
 
-/// Moves `standing` by `transition`, and returns the answer to the control `smp`. If the status of the answer is 0,
-/// the answer has the new state.
+/// Moves `standing` by `transition`, and returns the answer to the control `smp`.
 fn move_on(
     transition: &Transition,
     smp: &Smp,
@@ -107,8 +102,7 @@ fn move_on(
     answer(smp, from, transition.status(), standing)
 }
 
-/// Builds the answer to `smp` with `status`, which must be below 2^15. The answer is sent back along the path of
-/// `smp` if `smp` came along a directed route, and otherwise to `from`.
+/// Builds the answer to `smp` with `status`, sent back along the directed route of `smp` or, if it has none, to `from`.
 fn answer(smp: &Smp, from: &Option<Lid>, status: Status, standing: &Standing) -> Outgoing
     requires { status.0 < 2 ^ 15 }
     ensures { result ≡ answer_out standing.now smp.now from.now status.0 }
@@ -121,8 +115,7 @@ fn answer(smp: &Smp, from: &Option<Lid>, status: Status, standing: &Standing) ->
     Outgoing { packet, to }
 }
 
-/// Returns the way of the acknowledgement of the control `smp`: to `from`, or `None` if `smp` came along a directed
-/// route.
+/// Returns the way of the acknowledgement of the control `smp`: to `from` unless it came along a directed route.
 fn acknowledged_by(smp: &Smp, from: Option<Lid>) -> Option<Way>
     ensures { result ≡ acknowledged_by smp.now from }
 {
@@ -151,8 +144,7 @@ fn is_control(standing: &Standing, smp: &Smp) -> bool
         && (standing.conduct.is_live() || smp.class() == SmpClass::LidRouted)
 }
 
-/// Returns the status of the answer to a request that is not taken as a control: 0 for a Get, invalid field for a Set,
-/// and method not supported for any other method.
+/// Returns the status for `smp` as no control: 0 for a Get, invalid field for a Set, else method not supported.
 fn status_for(smp: &Smp) -> Status
     ensures status { result.0 ≡ status_for smp.now }
     ensures small { result.0 < 2 ^ 15 }

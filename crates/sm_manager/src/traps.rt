@@ -58,8 +58,7 @@ impl Manager {
         }
     }
 
-    /// Queues the answer to the trap `smp`, addressed to `from`, the LID of the sender. Once the sender has this
-    /// answer, it no longer repeats the trap. Returns `Memory` if memory runs out.
+    /// Queues the answer to the trap `smp` to its sender `from`, which then no longer repeats it. Fails with `Memory`.
     pub(crate) fn repress(&mut self, smp: &Smp, from: Option<Lid>) -> Result<(), ManagerFault>
         ensures ok { OnOk result (self.new ≡ repressing self.old smp.now from) }
         ensures err { OnErr result (self.new ≡ self.old) }
@@ -71,8 +70,7 @@ impl Manager {
     }
 }
 
-/// Builds the answer to the trap `smp`, addressed to `from`, the LID of the sender. The answer has the attribute, the
-/// modifier, the TransactionID and the data of the trap.
+/// Builds the answer to the trap `smp`, addressed to `from`, the LID of the sender.
 fn repress_out(smp: &Smp, from: Option<Lid>) -> Outgoing
     ensures { result ≡ repress_out smp.now from }
 {

@@ -42,8 +42,7 @@ impl Manager {
         Ok(())
     }
 
-    /// Returns a writing of the plan of the manager's facts. None of its steps is sent yet. Returns the same errors as
-    /// `write_steps`.
+    /// Returns a writing of the plan of the manager's facts, none of its steps sent yet, or the fault of `write_steps`.
     fn planned(&self) -> Result<Writing, ManagerFault>
         ensures judged { JudgesButFor is_memory result (writing_fault self.now) }
         ensures writing { IfOk result (λ w. w
@@ -88,9 +87,8 @@ impl Manager {
         Ok(sweep)
     }
 
-    /// Ends the outstanding request at `index`, in ascending order of number. There must be one, and it must be a
-    /// step. `was_done` says whether the step was done. If no other step is outstanding, queues the next phase.
-    /// Returns `SequenceSpent` or `Memory` if that phase cannot be sent.
+    /// Ends the outstanding step at `index`, in ascending order of number, which was done if `was_done`. If no other
+    /// step is outstanding, queues the next phase, or fails with `SequenceSpent` or `Memory`.
     pub(crate) fn end_step(&mut self, index: usize, was_done: bool) -> Result<(), ManagerFault>
         requires within { index < length self.old.pending }
         requires step { (p : Pending) → slice_get self.old.pending index ≡ Some p
@@ -114,8 +112,7 @@ impl Manager {
         Ok(())
     }
 
-    /// Returns the number of steps that are sent when an outstanding step ends: 0 if two or more steps are
-    /// outstanding or there is no writing, and otherwise the number of steps of the next phase.
+    /// Returns how many steps are sent when an outstanding step ends: those of the next phase if it is the last one.
     fn count_after(&self) -> usize
         ensures { result ≡ count_after self.now }
     {
@@ -129,8 +126,7 @@ impl Manager {
     }
 }
 
-/// Returns `found` if `are_numbers`. Otherwise returns the fault of `found` if it has one other than `Memory`, and
-/// else `SequenceSpent`.
+/// Returns `found` if `are_numbers`, and otherwise the fault of `found` other than `Memory`, or else `SequenceSpent`.
 pub(crate) fn where_numbered<T: Drop>(
     found: Result<T, ManagerFault>,
     are_numbers: bool,

@@ -60,8 +60,7 @@ impl Writing {
     }
 
     /// Removes the next phase from the writing and queues its steps, which are then outstanding. Does nothing if no
-    /// phase is left. `requests` must have memory and numbers for these steps, and `outgoing` must have memory for
-    /// their packets. Does not allocate.
+    /// phase is left. Does not allocate.
     pub(crate) fn send_next(
         &mut self,
         requests: &mut ManagerRequests,
@@ -113,9 +112,8 @@ fn pass(later: &mut VecDeque<Phase>)
     }
 }
 
-/// Queues `steps`, which are then outstanding. If `counts`, the plan is written only if all of `steps` are done.
-/// `requests` must have memory and numbers for these steps, and `outgoing` must have memory for their packets. Does
-/// not allocate.
+/// Queues `steps`, which are then outstanding. If `counts`, the plan is written only if all are done. Does not
+/// allocate.
 fn send_steps(
     counts: bool,
     steps: Vec<Step>,

@@ -63,8 +63,7 @@ impl Policy {
         Act::Write
     }
 
-    /// Returns what is done at the time `now` about a plan that was written and stands: it is written once more if
-    /// that may bring up a port, or take back one that names another master.
+    /// Returns what is done at `now` about a plan that stands: another writing if that may bring up or take back ports.
     fn look_after(&mut self, now: u64, ports: Ports) -> Act
         ensures policy { self.new ≡ (stood now ports self.old).policy }
         ensures act { result ≡ (stood now ports self.old).act }

@@ -156,8 +156,7 @@ impl Policy {
         }
     }
 
-    /// Notes a failure at the time `now`, and asks for a sweep after a wait, which is the longer the more failures
-    /// came in a row.
+    /// Notes a failure at the time `now`, and asks for a sweep after a wait that grows with the failures in a row.
     pub(crate) fn wait_longer(&mut self, now: u64)
         ensures { self.new ≡ waited_longer now self.old }
     {

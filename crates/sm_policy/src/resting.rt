@@ -55,8 +55,7 @@ impl Policy {
         }
     }
 
-    /// Returns when a standby announces itself to a lesser master next, or `None` if it is no standby or knows no
-    /// lesser master.
+    /// Returns when a standby announces itself to a lesser master next, or `None` if it knows none.
     fn call_due(&self) -> Option<u64>
         ensures { result ≡ call_due self.now }
     {
@@ -66,9 +65,7 @@ impl Policy {
         }
     }
 
-    /// Returns when the next sweep begins: for a manager that discovers, or is standby and knows no master, as soon as
-    /// one may begin; otherwise once one is asked for, and for a master also after a period. Returns `None` if no
-    /// sweep is due.
+    /// Returns when the next sweep begins, or `None` if none is due.
     fn sweep_due(&self) -> Option<u64>
         ensures { result ≡ sweep_due self.now }
     {

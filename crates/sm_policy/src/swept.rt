@@ -40,8 +40,7 @@ impl Policy {
         }
     }
 
-    /// Notes that a sweep is over at the time `now`, whether it has every answer, and which master it saw. If it lacks
-    /// answers, asks for another one, unless a standby saw a master, to whom it leaves that, or a master goes on.
+    /// Notes that a sweep is over at the time `now`, whether it has every answer, and which master it saw.
     fn end_sweep(&mut self, now: u64, is_whole: bool, rival: Option<Rival>)
         ensures { self.new ≡ ended now is_whole rival self.old }
     {
@@ -62,8 +61,7 @@ impl Policy {
         self.next_sweep = later_by(u64::from(self.timing.every), now);
     }
 
-    /// Returns whether a master goes on without what lacks answers: several sweeps in a row lacked some, and it is not
-    /// strict.
+    /// Returns whether a master goes on without answers: several sweeps in a row lacked some, and it is not strict.
     fn goes_on(&self) -> bool
         ensures { result ≡ goes_on self.now }
     {
@@ -95,8 +93,7 @@ impl Policy {
         }
     }
 
-    /// Returns whether a sweep of a standby that saw no master counts: it has every answer, or several in a row had
-    /// not.
+    /// Returns whether a standby's sweep without a master counts: it has every answer, or several in a row had not.
     fn counts(&self) -> bool
         ensures { result ≡ counts self.now }
     {
@@ -168,8 +165,7 @@ impl Policy {
         }
     }
 
-    /// Returns whether a plan may be made of what is known: the last sweep has every answer, or several in a row had
-    /// not, and the manager is not strict.
+    /// Returns whether a plan may be made: the last sweep has every answer, or several had not and it is not strict.
     fn may_plan(&self) -> bool
         ensures { result ≡ may_plan self.now }
     {
@@ -177,8 +173,7 @@ impl Policy {
     }
 }
 
-/// Returns whether a manager in `state` that saw the master `rival` leaves it to that one what lacks answers: it is
-/// standby.
+/// Returns whether a manager in `state` leaves what lacks answers to the master `rival`: it is standby and saw one.
 fn leaves_it(state: SmState, rival: Option<Rival>) -> bool
     ensures { result ≡ leaves_it state rival }
 {

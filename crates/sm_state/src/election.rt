@@ -127,8 +127,7 @@ fn better(best: Option<SeenManager>, other: SeenManager) -> SeenManager
     }
 }
 
-/// Returns whether the manager whose SMInfo is `own` may hand over to `other`: it hears `other`, and `other` reports
-/// Standby or Master and wins over `own`.
+/// Returns whether `own` may hand over to `other`: it hears `other`, which is Standby or Master and wins over `own`.
 fn is_candidate(own: &SmInfo, other: &SeenManager) -> bool
     ensures { result ≡ is_candidate own.now other.now }
 {
@@ -150,8 +149,7 @@ fn is_heard_in(state: SmState, own: &SmInfo, other: &SeenManager) -> bool
     is_heard(own, &other.info) && says(state, &other.info)
 }
 
-/// Returns whether `other` outranks the manager whose SMInfo is `own`. That manager must hear `other`, and `other`
-/// must be a master, or must win over `own` and not be Not-active.
+/// Returns whether `other` outranks `own`: it is heard, and is a master, or wins over `own` and is not Not-active.
 fn outranks(own: &SmInfo, other: &SmInfo) -> bool
     ensures { result ≡ outranks own.now other.now }
 {
@@ -159,8 +157,7 @@ fn outranks(own: &SmInfo, other: &SmInfo) -> bool
         && (says(SmState::Master, other) || (!says(SmState::NotActive, other) && wins(other, own)))
 }
 
-/// Returns whether the manager whose SMInfo is `own` hears `other`: the SM_Key of `own` is 0, or the two SM_Keys are
-/// equal.
+/// Returns whether the manager `own` hears `other`: the SM_Key of `own` is 0, or the two SM_Keys are equal.
 fn is_heard(own: &SmInfo, other: &SmInfo) -> bool
     ensures { result ≡ is_heard own.now other.now }
 {

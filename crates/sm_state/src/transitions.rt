@@ -18,8 +18,7 @@ fn goes_to(state: SmState, message: Option<Message>) -> Transition
     }
 }
 
-/// Returns the refusal of a control for which the table of states has no move from `state`. The state stays `state`,
-/// and nothing is sent.
+/// Returns the refusal of a control for which the table of states has no move from `state`.
 fn refuses(state: SmState) -> Transition
     ensures { result ≡ refused state }
 {
@@ -68,9 +67,8 @@ fn after_control(conduct: Conduct, state: SmState, control: Option<Control>) -> 
     }
 }
 
-/// Returns what a standby does about ACKNOWLEDGE. Under the live conduct nothing changes and the control is not
-/// refused, since the answer to the HANDOVER that this manager sent may already have made it a standby. Under the
-/// plain conduct the control is refused.
+/// Returns what a standby does about ACKNOWLEDGE. Under the live conduct it is not refused, since the answer to this
+/// manager's HANDOVER may already have made it a standby.
 fn acknowledged_late(conduct: Conduct) -> Transition
     ensures { result ≡ acknowledged_late conduct }
 {

@@ -48,7 +48,7 @@ impl Guid {
     }
 }
 
-/// Returns the lower-case hex digit of `number`, which must be less than 16, as ASCII.
+/// Returns the lower-case hex digit of `number`, as ASCII.
 fn hex_digit(number: u8) -> u8
     requires { number < 16 }
     ensures { result ≡ digit_glyph false number }

@@ -124,8 +124,7 @@ pub fn put_bits(bytes: &mut [u8], at: usize, shift: u32, width: u32, number: u8)
     put_u8(bytes, at, replaced);
 }
 
-/// Returns `byte` with `number` in the `width` bits from bit `shift` up. `byte` must be less than 256, `shift + width`
-/// at most 8, and `number` less than 2^`width`.
+/// Returns `byte` with `number` in the `width` bits from bit `shift` up.
 fn replaced(byte: u32, shift: u32, width: u32, number: u32) -> u8
     requires byte { byte < 256 }
     requires within { shift + width ≤ 8 }

@@ -58,8 +58,7 @@ impl CandidateLists {
     }
 }
 
-/// Sets the list of each target to the ports of the edges whose set in `sets` has the target. There must be 64 lists,
-/// and a set for each edge.
+/// Sets the list of each target to the ports of the edges whose set in `sets` has the target.
 fn find_all(
     lists: &mut [Vec<PortNum>],
     edges: &[Edge],
@@ -83,8 +82,7 @@ fn clear(lists: &mut [Vec<PortNum>])
     }
 }
 
-/// Appends to the list of each target the ports of the edges whose set in `sets` has the target. There must be 64
-/// lists, and a set for each edge.
+/// Appends to the list of each target the ports of the edges whose set in `sets` has the target.
 fn add_all(lists: &mut [Vec<PortNum>], edges: &[Edge], sets: &[TargetSet]) -> Result<(), AllocError>
     requires lists { length lists.old ≡ 64 }
     requires all { length sets.now ≡ length edges.now }
@@ -98,7 +96,7 @@ fn add_all(lists: &mut [Vec<PortNum>], edges: &[Edge], sets: &[TargetSet]) -> Re
     Ok(())
 }
 
-/// Appends `port` to the list of each target in `targets`. There must be 64 lists.
+/// Appends `port` to the list of each target in `targets`.
 fn add(lists: &mut [Vec<PortNum>], port: PortNum, targets: TargetSet) -> Result<(), AllocError>
     requires { length lists.old ≡ 64 }
     ensures { OnOk result (EachTarget (λ k. slice_index_or (map (λ list. list.items) lists.new) k []

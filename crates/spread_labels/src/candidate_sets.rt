@@ -48,8 +48,7 @@ impl CandidateSets {
     }
 }
 
-/// Returns, for each edge of each vertex, the indices in `targets` of the targets towards which the edge is a
-/// candidate. `targets` must have at most 64 elements, each a vertex, and all edges must lead to vertices.
+/// Returns, for each edge of each vertex, the indices in `targets` of those towards which the edge is a candidate.
 fn rows_towards(
     alloc: Global,
     edges: &Adjacency,

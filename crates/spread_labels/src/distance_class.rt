@@ -60,8 +60,7 @@ pub fn grade(
     })
 }
 
-/// Returns the distance class of each vertex. `roots` and `leaves` must have a summary for each vertex: of its
-/// distances from the roots, and of its distances from the leaf vertices.
+/// Returns the distance class of each vertex by the summaries of its distances from the `roots` and from the `leaves`.
 fn distance_classes(
     alloc: Global,
     roots: &[DistanceSum],
@@ -79,8 +78,7 @@ fn distance_classes(
     Ok(distance_classes)
 }
 
-/// Returns the distance class of a vertex. `roots` summarizes its distances from the roots, and `leaves` summarizes
-/// its distances from the leaf vertices. The sum in `leaves` must be at most 2^64 times the count.
+/// Returns the distance class of a vertex by the summaries of its distances from the roots and from the leaf vertices.
 fn distance_class(roots: DistanceSum, leaves: DistanceSum) -> u128
     requires { IsDistanceSum leaves }
     ensures { result ≡ distance_class_by roots leaves }
@@ -91,8 +89,7 @@ fn distance_class(roots: DistanceSum, leaves: DistanceSum) -> u128
     }
 }
 
-/// Returns four times the mean of `count` numbers whose sum is `sum`, rounded down, or 0 if `count` is 0. The mean must
-/// be at most 2^64.
+/// Returns four times the mean of `count` numbers whose sum is `sum`, rounded down, or 0 if `count` is 0.
 fn quarters(sum: u128, count: usize) -> u128
     requires { sum ≤ count * 2 ^ 64 }
     ensures { result ≡ quarters_of sum count }
@@ -104,8 +101,7 @@ fn quarters(sum: u128, count: usize) -> u128
     4 * (sum / count) + 4 * (sum % count) / count
 }
 
-/// Returns, for each vertex, the summary of its distances from the vertices `some`. Each of `some` must be a vertex,
-/// and all edges must lead to vertices.
+/// Returns, for each vertex, the summary of its distances from the vertices `some`.
 pub(crate) fn distance_sums(
     alloc: Global,
     edges: &Adjacency,
@@ -128,8 +124,7 @@ pub(crate) fn distance_sums(
     Ok(distance_sums)
 }
 
-/// Adds to each of `distance_sums` the distance at its index, if there is one. There must be as many distances as
-/// summaries, and each summary must have room for one more distance.
+/// Adds to each of `distance_sums` the distance at its index, if there is one.
 fn add_distances(distance_sums: &mut [DistanceSum], distances: &[Option<usize>])
     requires all { length distance_sums.old ≡ length distances.now }
     requires room { All HasRoom distance_sums.old }
@@ -140,8 +135,7 @@ fn add_distances(distance_sums: &mut [DistanceSum], distances: &[Option<usize>])
     }
 }
 
-/// Returns `distance_sum` with `distance` added, or unchanged if `distance` is `None`. `distance_sum` must have room
-/// for one more distance.
+/// Returns `distance_sum` with `distance` added, or unchanged if `distance` is `None`.
 fn with(distance_sum: DistanceSum, distance: Option<usize>) -> DistanceSum
     requires { HasRoom distance_sum }
     ensures { result ≡ with_distance distance_sum distance }

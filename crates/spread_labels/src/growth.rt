@@ -47,8 +47,7 @@ pub fn grown_order(
     Ok(vertices)
 }
 
-/// Returns the next vertex of the order: the earliest of those beside a placed vertex or, if there is none, of all
-/// those left. Returns `None` if all vertices are placed. `stages` must have the stage of each vertex.
+/// Returns the next vertex of the order, or `None` if all vertices are placed. `stages` has the stage of each vertex.
 fn next_vertex(keys: &[VertexKey], stages: &[Stage]) -> Option<usize>
     requires { length stages.now ≡ length keys.now }
     ensures next { result ≡ next_at (before_by keys.now) stages.now (length keys.now) }
@@ -60,8 +59,7 @@ fn next_vertex(keys: &[VertexKey], stages: &[Stage]) -> Option<usize>
     }
 }
 
-/// Returns the vertex with the earliest key among the vertices at `stage`, or `None` if no vertex is at `stage`. If
-/// keys are equal, the lesser vertex comes first. `stages` must have the stage of each vertex.
+/// Returns the vertex with the earliest key among the vertices at `stage`, the lesser of equals, or `None`.
 fn earliest(keys: &[VertexKey], stages: &[Stage], stage: Stage) -> Option<usize>
     requires { length stages.now ≡ length keys.now }
     ensures earliest { result ≡ earliest_at (before_by keys.now) stages.now stage (length keys.now) }
@@ -83,8 +81,7 @@ fn is_at(one: Stage, stage: Stage) -> bool
     one == stage
 }
 
-/// Returns the earlier of `vertex` and `found` by `is_before`, or `vertex` if `found` is `None`. `keys` must have a
-/// key for each of the two.
+/// Returns the earlier of `vertex` and `found` by `is_before`, or `vertex` if `found` is `None`.
 pub(crate) fn earlier(keys: &[VertexKey], found: Option<usize>, vertex: usize) -> usize
     requires vertex { vertex < length keys.now }
     requires found { MatchOption found (Unit {0}) (λ other. other < length keys.now) }
@@ -96,8 +93,7 @@ pub(crate) fn earlier(keys: &[VertexKey], found: Option<usize>, vertex: usize) -
     }
 }
 
-/// Sets the stage of `vertex` to `Placed`. Then each vertex that `edges` lead to and whose stage is `Left` gets the
-/// stage `Beside`. `stages` must have the stage of each of these vertices.
+/// Gives `vertex` the stage `Placed`, and then each vertex at `Left` that `edges` lead to the stage `Beside`.
 fn add_vertex(edges: &[Edge], vertex: usize, stages: &mut [Stage])
     requires vertex { vertex < length stages.old }
     requires lead { All (λ edge. edge.to < length stages.old) edges.now }

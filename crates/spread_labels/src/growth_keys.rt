@@ -46,8 +46,7 @@ fn by_distance_class(alloc: Global, distance_classes: &[u128]) -> Result<Vec<Ver
     keys.collect(alloc)
 }
 
-/// Returns the distance of each vertex from the first vertex of its component. The first vertex is the one with the
-/// earliest key in `keys`. There must be a key for each vertex. For each edge there must be an edge back.
+/// Returns the distance of each vertex from the first vertex of its component, the one with the earliest key in `keys`.
 fn far(
     alloc: Global,
     edges: &Adjacency,
@@ -68,9 +67,7 @@ fn far(
     Ok(far)
 }
 
-/// Returns the distance of each vertex from the first vertex of the component of `vertex`. The first vertex is the
-/// one with the earliest key in `keys`. The distance is `None` for a vertex of another component. There must be a key
-/// for each vertex, `vertex` must be a vertex, and all edges must lead to vertices.
+/// Returns the distance of each vertex from the first vertex, by `keys`, of the component of `vertex`.
 fn from_first(
     alloc: Global,
     edges: &Adjacency,
@@ -87,8 +84,7 @@ fn from_first(
     distances(alloc, edges, first)
 }
 
-/// Sets each missing distance of `far` to the distance at its index in `found`, if there is one. `far` and `found` must
-/// be equally long.
+/// Sets each missing distance of `far` to the distance at its index in `found`, if there is one.
 fn fill(far: &mut [Option<usize>], found: &[Option<usize>])
     requires { length far.old ≡ length found.now }
     ensures { FillsIn far.old found.now far.new }
@@ -98,8 +94,7 @@ fn fill(far: &mut [Option<usize>], found: &[Option<usize>])
     }
 }
 
-/// Returns the vertex with the earliest key in `keys` among the vertices that have a distance in `distances`, or
-/// `None` if no vertex has one. `keys` and `distances` must be equally long.
+/// Returns the vertex with the earliest key among those that have a distance in `distances`, or `None` if none has.
 fn first(keys: &[VertexKey], distances: &[Option<usize>]) -> Option<usize>
     requires { length distances.now ≡ length keys.now }
     ensures first { result ≡ first_among keys.now distances.now }

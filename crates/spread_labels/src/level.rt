@@ -46,8 +46,7 @@ pub fn digit_weights(
     Ok(digit_weights)
 }
 
-/// Returns the digit weight of each level from 0 to the greatest of `levels`. `levels` must have a level for each
-/// vertex, and all edges must lead to vertices.
+/// Returns the digit weight of each level from 0 to the greatest of `levels`.
 fn digit_weights_by_level(
     alloc: Global,
     edges: &Adjacency,
@@ -68,8 +67,7 @@ fn digit_weights_by_level(
     Ok(digit_weights)
 }
 
-/// Returns the digit weight of the next level above one that has the digit weight `digit_weight` and the width `width`.
-/// It is the product of the two, but at most 65536.
+/// Returns the digit weight of the next level above one with the digit weight `digit_weight` and the width `width`.
 fn next_digit_weight(digit_weight: usize, width: usize) -> usize
     ensures { result ≡ min (digit_weight * width) 65536 }
 {
@@ -87,8 +85,7 @@ pub fn greatest_of(levels: &[usize]) -> usize
     found
 }
 
-/// Returns the width of `level`: the greatest number of edges from a vertex of `level` to vertices of higher levels,
-/// but at least 1. `levels` must have a level for each vertex, and all edges must lead to vertices.
+/// Returns the width of `level`: the most edges from a vertex of it to vertices of higher levels, but at least 1.
 fn width(edges: &Adjacency, levels: &[usize], level: usize) -> usize
     requires all { length levels.now ≡ length edges.now }
     requires lead { LeadToVertices edges.now }
@@ -104,7 +101,6 @@ fn width(edges: &Adjacency, levels: &[usize], level: usize) -> usize
 }
 
 /// Returns how many of `edges`, the edges of `vertex`, lead to vertices of a higher level than that of `vertex`.
-/// `levels` must have a level for `vertex` and for each vertex that `edges` lead to.
 fn rises(edges: &[Edge], vertex: usize, levels: &[usize]) -> usize
     requires vertex { vertex < length levels.now }
     requires lead { All (λ edge. edge.to < length levels.now) edges.now }

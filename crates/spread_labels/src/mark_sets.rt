@@ -32,8 +32,7 @@ struct Givers {
     ups: TargetSet,
 }
 
-/// Returns the targets for which `edge` gives `vertex` a mark, according to the sets of the vertex that `edge` leads
-/// to. `marks` must have these sets.
+/// Returns the targets for which `edge` gives `vertex` a mark, by the sets of the vertex that `edge` leads to.
 fn giver_set(edge: &Edge, vertex: usize, marks: &MarkSets) -> TargetSet
     requires marked { edge.now.to < length marks.now.marked.items }
     requires downs { edge.now.to < length marks.now.downs.items }
@@ -46,9 +45,7 @@ fn giver_set(edge: &Edge, vertex: usize, marks: &MarkSets) -> TargetSet
     }
 }
 
-/// Returns the targets for which any of `edges` gives `vertex` a mark, and the targets for which an edge that leads
-/// up gives it one. `edges` are the edges of `vertex`. `marks` must have the sets of each vertex that `edges` lead
-/// to.
+/// Returns the targets for which any of `edges` gives `vertex` a mark, and those for which an edge that leads up does.
 fn given_by(edges: &[Edge], vertex: usize, marks: &MarkSets) -> Givers
     requires marked { All (λ edge. edge.to < length marks.now.marked.items) edges.now }
     requires downs { All (λ edge. edge.to < length marks.now.downs.items) edges.now }
@@ -70,8 +67,7 @@ fn given_by(edges: &[Edge], vertex: usize, marks: &MarkSets) -> Givers
     Givers { targets, ups }
 }
 
-/// Adds to the set of each edge in `row` the targets of `new` for which the edge gives `vertex` a mark. `row` must
-/// have a set for each of `edges`, and `marks` must have the sets of each vertex that `edges` lead to.
+/// Adds to the set of each edge in `row` the targets of `new` for which the edge gives `vertex` a mark.
 fn note(row: &mut [TargetSet], edges: &[Edge], vertex: usize, marks: &MarkSets, new: TargetSet)
     requires all { length row.old ≡ length edges.now }
     requires marked { All (λ edge. edge.to < length marks.now.marked.items) edges.now }
@@ -87,8 +83,7 @@ fn note(row: &mut [TargetSet], edges: &[Edge], vertex: usize, marks: &MarkSets, 
 }
 
 /// Returns the sets of `vertex` after one more round. Adds to the set of each edge in `row` the targets for which the
-/// edge gives a mark in this round. `row` must have a set for each of `edges`. `marks` must have the sets of `vertex`
-/// and of each vertex that `edges` lead to.
+/// edge gives a mark in this round.
 fn set_step(edges: &[Edge], vertex: usize, marks: &MarkSets, row: &mut [TargetSet]) -> VertexSets
     requires row { length row.old ≡ length edges.now }
     requires in_marked { vertex < length marks.now.marked.items }
@@ -107,10 +102,8 @@ fn set_step(edges: &[Edge], vertex: usize, marks: &MarkSets, row: &mut [TargetSe
     }
 }
 
-/// Returns the sets of all vertices after one more round. Adds to the set of each edge in `rows` the targets for
-/// which the edge gives a mark in this round. `rows` must have a row for each vertex, with a set for each of its
-/// edges. `marks` must have the sets of each vertex, and all edges must lead to vertices. Returns an error if memory
-/// runs out.
+/// Returns the sets of all vertices after one more round. Adds to the set of each edge in `rows` the targets for which
+/// the edge gives a mark in this round. Returns an error if memory runs out.
 pub(crate) fn after_round(
     alloc: Global,
     edges: &Adjacency,
@@ -135,8 +128,7 @@ pub(crate) fn after_round(
     Ok(MarkSets { marked, downs })
 }
 
-/// Returns the sets of `count` vertices before the first round: each target is marked `Down` for itself. `targets` must
-/// have at most 64 vertices, each less than `count`.
+/// Returns the sets of `count` vertices before the first round: each target is marked `Down` for itself.
 pub(crate) fn at_first(
     alloc: Global,
     count: usize,
@@ -153,8 +145,7 @@ pub(crate) fn at_first(
     })
 }
 
-/// Returns, for each of `count` vertices, the indices at which `targets` has the vertex. `targets` must have at most 64
-/// vertices, each less than `count`.
+/// Returns, for each of `count` vertices, the indices at which `targets` has the vertex.
 fn at_targets(alloc: Global, count: usize, targets: &[usize]) -> Result<Vec<TargetSet>, AllocError>
     requires few { length targets.now ≤ 64 }
     requires vertices { All (λ target. target < count) targets.now }
@@ -167,8 +158,7 @@ fn at_targets(alloc: Global, count: usize, targets: &[usize]) -> Result<Vec<Targ
     Ok(sets)
 }
 
-/// Returns whether each vertex has marks for the same targets in `old` and in `new`. The two must have equally many
-/// vertices.
+/// Returns whether each vertex has marks for the same targets in `old` and in `new`.
 pub(crate) fn are_same(old: &MarkSets, new: &MarkSets) -> bool
     requires { length old.now.marked.items ≡ length new.now.marked.items }
     ensures { IsTrue result ↔ AreSame old.now.marked.items new.now.marked.items (length old.now.marked.items) }

@@ -20,7 +20,7 @@ impl TargetSet {
         TargetSet { bits: 0 }
     }
 
-    /// Returns this set with `target` added. `target` must be less than 64.
+    /// Returns this set with `target` added.
     pub(crate) fn with(self, target: usize) -> Self
         requires { target < 64 }
         ensures { EachTarget (λ k. has result k ≡ ((k == target) || has self k)) }
@@ -91,7 +91,7 @@ impl TargetSet {
         }
     }
 
-    /// Returns this set without `target`. `target` must be in the set.
+    /// Returns this set without `target`.
     pub(crate) fn but(self, target: usize) -> Self
         requires target { target < 64 }
         requires among { has self target ≡ true }

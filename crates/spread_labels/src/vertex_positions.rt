@@ -85,8 +85,7 @@ pub fn by_positions(
     Ok(placed)
 }
 
-/// Returns `edges`, with the vertex that each edge leads to replaced by the position of that vertex. `positions` must
-/// have a position for each of these vertices.
+/// Returns `edges`, with the vertex that each edge leads to replaced by the position of that vertex.
 fn to_positions(alloc: Global, edges: &[Edge], positions: &[usize]) -> Result<Vec<Edge>, AllocError>
     requires { All (λ edge. edge.to < length positions.now) edges.now }
     ensures { IfOk result (λ found. found.items ≡ map (to_position positions.now) edges.now) }

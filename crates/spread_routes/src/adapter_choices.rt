@@ -53,10 +53,8 @@ impl Model for AdapterChoices {
 }
 
 impl AdapterChoices {
-    /// Balances the loads of `edges`, a graph by positions, where each adapter sends one packet to each adapter.
-    /// `digits`, `leaf_numbers` and `adapters` must have the level and the digit weight, the leaf number and the number
-    /// of adapters of each position, and all edges must lead to positions. Takes as long as `first_loads`. If these
-    /// loads are not even, it also takes as long as `balanced_choices`.
+    /// Balances the loads of `edges`, a graph by positions, where each adapter sends one packet to each adapter. Takes
+    /// as long as `first_loads` and, if these loads are not even, as long as `balanced_choices` as well.
     pub(crate) fn of(
         alloc: Global,
         edges: &Adjacency,
@@ -92,9 +90,7 @@ impl AdapterChoices {
         self.counted.is_some()
     }
 
-    /// Returns the number of the candidate that packets for a LID with the number `number` take at the position `own`
-    /// towards the position `target`. Returns 0 if there are no adapters at `target`. The choices must have been made
-    /// from counted loads.
+    /// Returns the number of the candidate for a LID with the number `number` at `own` towards the position `target`.
     pub(crate) fn towards(&self, number: usize, own: usize, target: usize) -> usize
         requires { IsTrue (is_some self.now.counted) }
         ensures { (weight : ℕ) → result ≡ choice_towards self.now weight number own target }
@@ -111,8 +107,7 @@ impl AdapterChoices {
         }
     }
 
-    /// Returns the number of the first adapter at `position`, by which first choices are made. Returns 0 if `position`
-    /// is past the last position.
+    /// Returns the number of the first adapter at `position`, by which first choices are made, or 0 past the last.
     pub(crate) fn first_number(&self, position: usize) -> usize
         ensures number { result ≡ first_number self.now.leaf_numbers self.now.adapters position }
         ensures small { result < 2 ^ 32 }
@@ -120,8 +115,7 @@ impl AdapterChoices {
         self.leaf_number_at(position) * usize::from(self.most)
     }
 
-    /// Returns the index in `counted` of an adapter at `position`, but at most 2^64 - 1. It is the adapter whose
-    /// choices a LID with the number `number` takes. There must be such a position.
+    /// Returns the index in `counted` of the adapter at `position` whose choices a LID with the number `number` takes.
     fn adapter_of(&self, number: usize, position: usize) -> usize
         requires { position < length self.now.adapters }
         ensures { result ≡ min (adapter_of self.now.adapters number position) (2 ^ 64 - 1) }
@@ -171,8 +165,7 @@ fn choice_at(choices: &[u8], position: usize) -> usize
     }
 }
 
-/// Returns the number of packets that each position sends to each adapter: one packet from each adapter at the
-/// position.
+/// Returns the packets that each position sends to each adapter: one from each adapter at the position.
 fn sent(alloc: Global, adapters: &[u16]) -> Result<Vec<usize>, AllocError>
     ensures { IfOk result (λ sent. sent.items ≡ adapters.now) }
 {
@@ -183,9 +176,8 @@ fn sent(alloc: Global, adapters: &[u16]) -> Result<Vec<usize>, AllocError>
     Ok(sent)
 }
 
-/// Returns, as destinations, the positions that have adapters. `leaf_numbers` and `adapters` must be equally long. Each
-/// destination has one end for each of its adapters. The number of its first end is its leaf number times the greatest
-/// number of adapters at any position.
+/// Returns, as destinations, the positions that have adapters, with an end for each adapter. The number of the first
+/// end is the leaf number times the greatest number of adapters at any position.
 fn destinations(
     alloc: Global,
     leaf_numbers: &[u16],
@@ -208,8 +200,7 @@ fn destinations(
     Ok(found)
 }
 
-/// Returns balanced choices, or `None` if the loads under first choices are even. `sent` and `digits` must have an
-/// entry for each position, destinations must be at positions, and all edges must lead to positions.
+/// Returns balanced choices, or `None` if the loads under first choices are even.
 fn counted_if_uneven(
     alloc: Global,
     edges: &Adjacency,

@@ -74,8 +74,7 @@ impl<'s> Exits<'s> {
         })
     }
 
-    /// Sets how the ports for LIDs are chosen: by `choices`, at the position `own` towards the positions `targets`. If
-    /// `choices` is `None`, they are chosen by the LID digit.
+    /// Lets ports for LIDs be chosen at `own` towards `targets` by `choices` or, if this is `None`, by the LID digit.
     pub(crate) fn choose_by(
         &mut self,
         choices: Option<&'s AdapterChoices>,
@@ -94,9 +93,8 @@ impl<'s> Exits<'s> {
         self.targets = targets;
     }
 
-    /// Sets the exits of a switch: `edges[i]` is a candidate towards each target in `sets[i]`. There must be a set for
-    /// each edge. `higher` must have the targets for which a candidate leads to a higher switch. The digit weight must
-    /// not be 0.
+    /// Sets the exits of a switch: `edges[i]` is a candidate towards each target in `sets[i]`. `higher` has the targets
+    /// for which a candidate leads to a higher switch.
     pub(crate) fn find(
         &mut self,
         lid_digit: LidDigit,
@@ -164,8 +162,7 @@ impl<'s> Exits<'s> {
 }
 
 /// Writes, in the entry of each of `lids`, the one of `ports` that is chosen by the LID's number in `numbers`, at the
-/// position `own` towards the position `target`, as `choices` says. The choices must have been made from counted
-/// loads, and there must be a port. `entries` and `numbers` must be equally long, and each LID must be within them.
+/// position `own` towards the position `target`, as `choices` says.
 fn write_chosen(
     entries: &mut [u8],
     lids: &[Lid],
@@ -191,9 +188,7 @@ fn write_chosen(
 }
 
 /// Writes, in the entry of each of `lids`, the one of `ports` that is the first choice for the LID's number in
-/// `numbers`, at the position `own` towards the position `target`. `weight` is the weight of the digit that counts. The
-/// choices must not have been made from counted loads, and there must be a port. `entries` and `numbers` must be
-/// equally long, and each LID must be within them.
+/// `numbers`, at the position `own` towards the position `target`. `weight` is the weight of the digit that counts.
 fn write_in_turn(
     entries: &mut [u8],
     lids: &[Lid],
@@ -222,7 +217,7 @@ fn write_in_turn(
     }
 }
 
-/// Writes `none` in the entry of each of `lids`. Each LID must be within `entries`.
+/// Writes `none` in the entry of each of `lids`.
 fn write_none(entries: &mut [u8], lids: &[Lid], none: u8)
     requires { All (λ lid. lid < length entries.old) lids.now }
     ensures { entries.new ≡ with_entries (λ lid. none) entries.old lids.now }
@@ -233,8 +228,7 @@ fn write_none(entries: &mut [u8], lids: &[Lid], none: u8)
 }
 
 /// Writes, in the entry of each of `lids`, the one of `ports` that is chosen by `lid_digit` and the LID's number in
-/// `numbers`. `is_higher` says whether one of the ports leads to a higher switch. There must be a port, and the digit
-/// weight must not be 0. `entries` and `numbers` must be equally long, and each LID must be within them.
+/// `numbers`. `is_higher` says whether one of the ports leads to a higher switch.
 fn write_ports(
     entries: &mut [u8],
     lids: &[Lid],
@@ -259,7 +253,7 @@ fn write_ports(
     }
 }
 
-/// Returns the number of `lid`. `lid` must be within `numbers`.
+/// Returns the number of `lid`.
 fn number_of(numbers: &[u16], lid: usize) -> usize
     requires { lid < length numbers.now }
     ensures number { result ≡ slice_index numbers.now lid }

@@ -7,8 +7,8 @@ use smp_bytes::Guid;
 use std::alloc::{AllocError, Global};
 use subnet_view::SwitchGraph;
 
-/// Returns the indices of those of `guids` that are switches of `graph`, in the order of `guids`. Ignores other GUIDs.
-/// Does a binary search among the switches for each GUID.
+/// Returns the indices of those of `guids` that are switches of `graph`, in the order of `guids`. Does a binary search
+/// among the switches for each GUID.
 pub(crate) fn indices(
     alloc: Global,
     graph: &SwitchGraph,

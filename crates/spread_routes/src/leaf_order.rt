@@ -30,8 +30,7 @@ pub fn leaf_numbers(
     Ok(numbers)
 }
 
-/// Returns the leaf number of the vertex `index`: the number of leaf vertices that come before the vertex, modulo 2^16.
-/// `neighbors` must have the least neighbor of each vertex, and `leaves` the leaf vertices.
+/// Returns the leaf number of the vertex `index`: how many of `leaves`, modulo 2^16, come before it (`goes_first`).
 fn leaf_number(neighbors: &[usize], leaves: &[usize], index: usize) -> u16
     requires index { index < length neighbors.now }
     requires leaves { All (λ leaf. leaf < length neighbors.now) leaves.now }
@@ -40,8 +39,7 @@ fn leaf_number(neighbors: &[usize], leaves: &[usize], index: usize) -> u16
     (count_before(neighbors, leaves, index) % 65536) as u16
 }
 
-/// Returns the number of leaf vertices that come before the vertex `index`. `neighbors` must have the least neighbor
-/// of each vertex, and `leaves` the leaf vertices.
+/// Returns how many of `leaves` come before the vertex `index` by the least neighbors `neighbors`.
 fn count_before(neighbors: &[usize], leaves: &[usize], index: usize) -> usize
     requires index { index < length neighbors.now }
     requires leaves { All (λ leaf. leaf < length neighbors.now) leaves.now }
@@ -53,8 +51,7 @@ fn count_before(neighbors: &[usize], leaves: &[usize], index: usize) -> usize
         .count()
 }
 
-/// Returns whether vertex `a` comes before vertex `b`: its least neighbor is less, or the least neighbors are equal
-/// and `a` is less. `neighbors` must have the least neighbor of each of the two.
+/// Returns whether vertex `a` comes before vertex `b`: its least neighbor is less, or it is equal and `a` is less.
 fn goes_first(neighbors: &[usize], a: usize, b: usize) -> bool
     requires a { a < length neighbors.now }
     requires b { b < length neighbors.now }

@@ -27,9 +27,8 @@ pub(crate) struct LidDigit {
 }
 
 impl LidDigit {
-    /// Returns the turn of the number 0 among `count` ports. From there, the turn can go to the numbers of LIDs.
-    /// `count` and the digit weight must not be 0. `is_higher` says whether one of the ports leads to a higher switch.
-    /// If none does, the digit of a number is the number itself.
+    /// Returns the turn of the number 0 among `count` ports. `is_higher` says whether one of the ports leads to a
+    /// higher switch. If none does, the digit of a number is the number itself.
     pub(crate) fn turn(&self, is_higher: bool, count: usize) -> RoundRobin
         requires weight { 0 < self.now.digit_weight }
         requires count { 0 < count }
@@ -46,8 +45,7 @@ impl LidDigit {
         )
     }
 
-    /// Returns the weight of the digit that choices go by: the digit weight if one of the ports leads to a higher
-    /// switch, which `is_higher` says, and otherwise 1.
+    /// Returns the weight of the digit that choices go by: the digit weight if `is_higher`, and otherwise 1.
     pub(crate) fn weight_if(&self, is_higher: bool) -> usize
         ensures { result ≡ weight_if self.now is_higher }
     {
@@ -71,9 +69,7 @@ pub(crate) fn level_digits(
         .collect(alloc)
 }
 
-/// Returns the LID digit of the switch at each position of `order`. `levels` must have the level of each switch, in
-/// ascending order of GUID. `edges` must be the edges of `graph` by index, and `order` must have only indices of
-/// switches.
+/// Returns the LID digit of the switch at each position of `order`, by the `levels` of the switches.
 pub(crate) fn lid_digits(
     alloc: Global,
     graph: &SwitchGraph,
@@ -101,8 +97,7 @@ pub(crate) fn lid_digits(
     Ok(lid_digits)
 }
 
-/// Returns the targets towards which any of `edges` leads to a switch whose level is higher than that of `lid_digit`.
-/// An edge counts for the targets in its set in `sets`. There must be a set for each edge.
+/// Returns the targets towards which any of `edges`, by its set in `sets`, leads above the level of `lid_digit`.
 pub(crate) fn higher_targets(
     lid_digits: &[LidDigit],
     lid_digit: &LidDigit,
@@ -124,7 +119,7 @@ pub(crate) fn higher_targets(
     higher
 }
 
-/// Returns the level of the switch at `position`. There must be such a position.
+/// Returns the level of the switch at `position`.
 fn level_at(lid_digits: &[LidDigit], position: usize) -> usize
     requires { position < length lid_digits.now }
     ensures { result ≡ (slice_index_or lid_digits.now position no_lid_digit).level }

@@ -118,8 +118,7 @@ impl<'g> Spread<'g> {
         }
     }
 
-    /// Balances the loads of the routes. `leaf_numbers` and `adapters` must have the leaf number and the number of
-    /// adapters of each position.
+    /// Balances the loads of the routes.
     fn balanced(
         self,
         alloc: Global,
@@ -141,9 +140,7 @@ impl<'g> Spread<'g> {
         })
     }
 
-    /// Computes the routes, and does not balance loads. `keys` and `levels` must have the key and the level of each
-    /// switch, in ascending order of GUID. `vertices` must have the indices of the switches in the order that grows by
-    /// `keys`.
+    /// Computes the routes by the `keys` and the `levels` of the switches. Does not balance loads.
     fn by_keys(
         alloc: Global,
         graph: &'g SwitchGraph,

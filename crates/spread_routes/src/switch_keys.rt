@@ -44,7 +44,7 @@ pub fn switches_in_order(
     switches_at(alloc, graph.switches(), &vertices)
 }
 
-/// Returns the GUIDs at `indices` of `guids`, in the order of `indices`. Each index must be within `guids`.
+/// Returns the GUIDs at `indices` of `guids`, in the order of `indices`.
 fn switches_at(alloc: Global, guids: &[Guid], indices: &[usize]) -> Result<Vec<Guid>, AllocError>
     requires { All (λ i. i < length guids.now) indices.now }
     ensures { IfOk result (λ found. found.items ≡ map (at_position guids.now) indices.now) }
@@ -56,8 +56,7 @@ fn switches_at(alloc: Global, guids: &[Guid], indices: &[usize]) -> Result<Vec<G
     Ok(found)
 }
 
-/// Returns the keys and the levels of the switches. `order` says how the order of switches is grown, and so which keys
-/// they have. `adapters` must have the number of adapters at each switch, in ascending order of GUID.
+/// Returns the levels of the switches, and the keys that grow the order of switches as `order` says.
 pub(crate) fn switch_keys(
     alloc: Global,
     graph: &SwitchGraph,
@@ -78,8 +77,7 @@ pub(crate) fn switch_keys(
     }
 }
 
-/// Returns the keys of the switches according to their distances from `roots`, and their levels. `adapters` must have
-/// the number of adapters at each switch, in ascending order of GUID.
+/// Returns the keys of the switches according to their distances from `roots`, and their levels.
 fn from_roots(
     alloc: Global,
     graph: &SwitchGraph,
@@ -102,8 +100,7 @@ fn from_roots(
     Ok(SwitchKeys { keys, levels })
 }
 
-/// Returns the keys of the switches according to the list `switches`, and their levels. `adapters` must have the number
-/// of adapters at each switch, in ascending order of GUID.
+/// Returns the keys of the switches according to the list `switches`, and their levels.
 fn as_named(
     alloc: Global,
     graph: &SwitchGraph,
@@ -125,8 +122,7 @@ fn as_named(
     Ok(SwitchKeys { keys, levels })
 }
 
-/// Returns the keys of the switches that give the order of the least trial load, and their levels. `adapters` must have
-/// the number of adapters at each switch, in ascending order of GUID.
+/// Returns the keys of the switches that give the order of the least trial load, and their levels.
 fn least_loaded(
     alloc: Global,
     graph: &SwitchGraph,

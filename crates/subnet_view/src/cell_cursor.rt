@@ -41,8 +41,7 @@ impl<'s> CellCursor<'s> {
         CellCursor { next, later }
     }
 
-    /// Returns the type of `node` and its number of ports, or `None` if they are not known. Passes the cells of keys
-    /// before `Key::Node(node)`.
+    /// Returns the type of `node` and its number of ports, or `None` if they are not known.
     pub(crate) fn node(&mut self, node: Guid) -> Option<(NodeType, u8)>
         ensures value { result ≡ node_of self.old node }
         ensures later { KeepsFrom (Node node) self.old self.new }
@@ -53,8 +52,7 @@ impl<'s> CellCursor<'s> {
         }
     }
 
-    /// Returns the GUID of `port` of `node`, or `None` if it is not known. Passes the cells of keys before
-    /// `Key::PortGuid(node, port)`.
+    /// Returns the GUID of `port` of `node`, or `None` if it is not known.
     pub(crate) fn port_guid(&mut self, node: Guid, port: PortNum) -> Option<Guid>
         ensures value { result ≡ port_guid_of self.old node port }
         ensures later { KeepsFrom (PortGuid node port) self.old self.new }
@@ -65,8 +63,7 @@ impl<'s> CellCursor<'s> {
         }
     }
 
-    /// Returns the number of LIDs that the linear forwarding table of the switch `node` has room for, or `None` if this
-    /// number is not known. Passes the cells of keys before `Key::Cap(node)`.
+    /// Returns how many LIDs the table of the switch `node` has room for, or `None` if this is not known.
     pub(crate) fn cap(&mut self, node: Guid) -> Option<u16>
         ensures value { result ≡ cap_of self.old node }
         ensures later { KeepsFrom (Cap node) self.old self.new }
@@ -86,7 +83,6 @@ impl<'s> CellCursor<'s> {
     }
 
     /// Returns the value of `key`, or `None` if the value is not known. Passes the cells of keys before `key`.
-    /// Afterwards only `key` and later keys can be looked up.
     fn known(&mut self, key: Key) -> Option<Value>
         ensures value { result ≡ known_in self.old key }
         ensures later { KeepsFrom key self.old self.new }

@@ -98,9 +98,8 @@ pub(crate) fn sort_key(end: &(Guid, EndPort)) -> [u64; 3]
     ]
 }
 
-/// Returns the end port whose GUID `sighting` gives, with this GUID. Returns `None` if `sighting` does not give the
-/// GUID of an end port. `sighting` must be a cell of `store`. Does a binary search among the cells if the key of
-/// `sighting` is that of a port GUID.
+/// Returns the end port whose GUID `sighting` gives, with this GUID, or `None` if there is none. Does a binary search
+/// among the cells if the key of `sighting` is that of a port GUID.
 pub(crate) fn guid_and_port(store: &Store, sighting: &Sighting) -> Option<(Guid, EndPort)>
     requires { cell_for store.now sighting.now.0 ≡ Some sighting.now.1 }
     ensures { result ≡ guid_and_port (cells_of store.now) sighting.now }
@@ -118,8 +117,7 @@ pub(crate) fn guid_and_port(store: &Store, sighting: &Sighting) -> Option<(Guid,
     }
 }
 
-/// Returns whether `port` is port 0 of a switch, or from 1 to the number of ports of another node. Returns `false` if
-/// the type of `node` is not known. Does a binary search among the cells.
+/// Returns whether `port` of `node` can be an end port. Does a binary search among the cells.
 fn is_end_port_number(store: &Store, node: Guid, port: PortNum) -> bool
     ensures { result ≡ is_end_port_number (cells_of store.now) node port }
 {

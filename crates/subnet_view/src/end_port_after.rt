@@ -25,8 +25,7 @@ pub fn next_end_port(store: &Store, last: Option<(Guid, EndPort)>) -> Option<(Gu
     next
 }
 
-/// Returns `end` if it comes after `last` and before `next`. Otherwise returns `next`. If `last` or `next` is `None`,
-/// it sets no bound.
+/// Returns `end` if it comes after `last` and before `next`, and otherwise `next`. `None` sets no bound.
 fn nearer(
     last: &Option<(Guid, EndPort)>,
     next: Option<(Guid, EndPort)>,

@@ -31,9 +31,8 @@ impl<'s> PortReader<'s> {
         }
     }
 
-    /// Returns the two ends of the link that `sighting` reports: the port in its key, and the far end. Returns `None`
-    /// if `sighting` is not of a link, if the link is disputed, or if the port in the key cannot have a wire. Passes
-    /// what is known of earlier ports.
+    /// Returns the port in the key of `sighting` and the far end of its link. Returns `None` if the link is not known,
+    /// or if the port cannot have a wire. Passes what is known of earlier ports.
     pub(crate) fn wire_end(
         &mut self,
         sighting: &Sighting,
@@ -67,7 +66,6 @@ impl<'s> PortReader<'s> {
 }
 
 /// Returns whether `port` is from 1 to the number of ports in `node`, which is what is known of the port's node.
-/// Returns `false` if `node` is `None`.
 fn is_port_of(port: PortNum, node: Option<(NodeType, u8)>) -> bool
     ensures { result ≡ is_within port (count_of node) }
 {

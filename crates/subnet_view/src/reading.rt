@@ -48,8 +48,7 @@ pub(crate) fn guid_said(sighting: &Sighting) -> Option<Guid>
     }
 }
 
-/// Returns the value of `sighting` if it is the far end of a link. Returns `None` if the value is of another kind or
-/// disputed.
+/// Returns the far end of a link in `sighting`, or `None` if the value is of another kind or disputed.
 pub(crate) fn peer_said(sighting: &Sighting) -> Option<(Guid, PortNum)>
     ensures { result ≡ peer_in (value_in (Some sighting.now.1)) }
 {

@@ -8,8 +8,7 @@ use crate::switch_graph::SwitchGraph;
 use smp_bytes::Guid;
 use std::alloc::{AllocError, Global};
 
-/// Returns the root of the component of each switch, in ascending order of the switches' GUIDs. A switch to which no
-/// walk leads from an earlier switch is the root of its component. Does a breadth-first search for each component.
+/// Returns the root of each switch, in ascending order of GUID. Does a breadth-first search for each component.
 pub(crate) fn roots(alloc: Global, graph: &SwitchGraph) -> Result<Vec<Option<Guid>>, AllocError>
     ensures { IfOk result (λ roots. roots.items ≡ map (root_of graph.now) (guids_of graph.now)) }
 {
@@ -24,8 +23,7 @@ pub(crate) fn roots(alloc: Global, graph: &SwitchGraph) -> Result<Vec<Option<Gui
     Ok(roots)
 }
 
-/// Sets `root` as the root of each switch that has no root yet and has a distance. `roots` and `distances` must be
-/// equally long.
+/// Sets `root` as the root of each switch that has no root yet and has a distance.
 fn fill(roots: &mut [Option<Guid>], distances: &[Option<usize>], root: Guid)
     requires { length roots.old ≡ length distances.now }
     ensures { FillsIn roots.old distances.now root roots.new }

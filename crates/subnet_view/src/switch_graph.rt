@@ -128,7 +128,7 @@ impl SwitchGraph {
     }
 }
 
-/// Returns the edges of each switch. `guids` must be the usable switches, in ascending order of GUID.
+/// Returns the edges of each switch.
 fn edges(alloc: Global, wires: &Wires, guids: &[Guid]) -> Result<Adjacency, AllocError>
     requires { guids.now ≡ switches (cells_of wires.now) }
     ensures wires { IfOk result (λ edges.
@@ -143,8 +143,7 @@ fn edges(alloc: Global, wires: &Wires, guids: &[Guid]) -> Result<Adjacency, Allo
     Ok(edges)
 }
 
-/// Returns the edges of the switch `guid`, in ascending order of port. `guids` must be the usable switches, in
-/// ascending order of GUID.
+/// Returns the edges of the switch `guid`, in ascending order of port.
 fn edges_of(
     alloc: Global,
     wires: &Wires,
@@ -165,9 +164,8 @@ fn edges_of(
     Ok(found)
 }
 
-/// Returns the edge of the wire in `port` of `guid`, or `None` if no wire leads from `port` to a switch. `guids` must
-/// be the usable switches, in ascending order of GUID. Does at most two binary searches among the ports that can have a
-/// wire, and one among the switches if a wire is in `port`.
+/// Returns the edge of the wire in `port` of `guid`, or `None` if no wire leads from `port` to a switch. Does at most
+/// two binary searches among the ports that can have a wire, and one among the switches if a wire is in `port`.
 fn edge_at(wires: &Wires, guids: &[Guid], guid: Guid, port: PortNum) -> Option<Edge>
     requires { guids.now ≡ switches (cells_of wires.now) }
     ensures wire { option_map (by_guid guids.now) result ≡ edge_at (cells_of wires.now) guid port }
@@ -178,8 +176,7 @@ fn edge_at(wires: &Wires, guids: &[Guid], guid: Guid, port: PortNum) -> Option<E
     Some(Edge { port, to })
 }
 
-/// Returns the index of `guid` in `guids`, or `None` if `guids` does not contain `guid`. `guids` must be in strictly
-/// ascending order. Does a binary search.
+/// Returns the index of `guid` in `guids`, or `None` if it is not there. Does a binary search.
 fn index_of(guids: &[Guid], guid: Guid) -> Option<usize>
     requires { IsStrictlyIncreasing guids.now }
     ensures { IsIndexIn guids.now guid result }

@@ -80,8 +80,7 @@ impl<'s> Wires<'s> {
         }
     }
 
-    /// Returns the far end of the link at `port` of `node`, or `None` if the port cannot have a wire or the link is not
-    /// known. Does a binary search among the ports that can have a wire.
+    /// Returns the far end of the known link at `port` of `node`, if the port can have a wire. Does a binary search.
     fn end_link(&self, node: Guid, port: PortNum) -> Option<(Guid, PortNum)>
         ensures { result ≡ end_link (cells_of self.now) node port }
     {
@@ -93,16 +92,14 @@ impl<'s> Wires<'s> {
     }
 }
 
-/// Returns whether `near` and `far` are different ports and `back` is `near`. `back` is the far end of the link at
-/// `far`.
+/// Returns whether `near` and `far` are different ports and `back`, the far end of the link at `far`, is `near`.
 fn is_pair(near: (Guid, PortNum), far: (Guid, PortNum), back: Option<(Guid, PortNum)>) -> bool
     ensures { result ≡ is_pair near far back }
 {
     near != far && back == Some(near)
 }
 
-/// Returns the ports that can have a wire and whose links are known, each with the far end, in ascending order of GUID
-/// and port.
+/// Returns the ports that can have a wire and whose links are known, each with its far end, in ascending order.
 fn wire_ends(
     alloc: Global,
     store: &Store,

@@ -41,8 +41,7 @@ impl Model for Discovered {
     } };
 }
 
-/// Returns the index of the vertex with `guid` and `port`, or the index at which that vertex would be inserted.
-/// `vertices` must be in ascending order of GUID and port. Does a binary search.
+/// Returns the index of the vertex of `guid` and `port`, or where it would be inserted. Does a binary search.
 fn vertex_index(vertices: &[Vertex], guid: Guid, port: PortNum) -> usize
     requires { AreInOrder vertex_key vertices.now }
     ensures { IsIndexFor vertex_key (guid, port) vertices.now result }
@@ -147,8 +146,7 @@ impl Discovered {
         self.seen.reserve(1)
     }
 
-    /// Returns the first vertex of the node `guid`, or `None` if the node was not reached. The vertices must be in
-    /// ascending order of GUID and port. Does a binary search.
+    /// Returns the first vertex of the node `guid`, or `None` if the node was not reached. Does a binary search.
     pub(crate) fn first_of(&self, guid: Guid) -> Option<&Vertex>
         requires { AreInOrder vertex_key self.now.reached }
         ensures { option_copied result ≡ first_vertex self.now.reached guid }
@@ -156,8 +154,7 @@ impl Discovered {
         first_of(&self.vertices, guid)
     }
 
-    /// Returns the vertex with `guid` and `port`, or `None` if the vertex was not reached. The vertices must be in
-    /// ascending order of GUID and port. Does a binary search.
+    /// Returns the vertex with `guid` and `port`, or `None` if it was not reached. Does a binary search.
     pub(crate) fn vertex(&self, guid: Guid, port: PortNum) -> Option<&Vertex>
         requires { AreInOrder vertex_key self.now.reached }
         ensures { option_copied result ≡ vertex_at self.now.reached guid port }
@@ -165,8 +162,7 @@ impl Discovered {
         vertex_at(&self.vertices, guid, port)
     }
 
-    /// Returns the state of `port` of the node `guid`, or `None` if no state of the port was seen. The states must be
-    /// in ascending order of GUID and port. Does a binary search.
+    /// Returns the state of `port` of the node `guid`, or `None` if none was seen. Does a binary search.
     pub(crate) fn state(&self, guid: Guid, port: PortNum) -> Option<PortState>
         requires { AreInOrder state_key self.now.states }
         ensures { result ≡ state_at self.now.states guid port }
@@ -175,8 +171,7 @@ impl Discovered {
     }
 
     /// Adds the vertex or the state of `finding`, unless there is one for the same GUID and port already. Counts the
-    /// port if it leads too far. Vertices and states must be in ascending order of GUID and port, with memory for one
-    /// more of each. Fewer than 2^32 ports may be counted so far. Does not allocate.
+    /// port if it leads too far. Does not allocate.
     pub(crate) fn put(&mut self, finding: Finding)
         requires reached { AreInOrder vertex_key self.old.reached }
         requires states { AreInOrder state_key self.old.states }
@@ -200,8 +195,7 @@ impl Discovered {
     }
 }
 
-/// Inserts `vertex` in its order, unless there is a vertex with the same GUID and port already. `vertices` must be in
-/// ascending order of GUID and port, and have memory for one more vertex.
+/// Inserts `vertex` in its order, unless there is a vertex with the same GUID and port already.
 fn put_vertex(vertices: &mut Vec<Vertex>, vertex: Vertex)
     requires order { AreInOrder vertex_key vertices.old.items }
     requires room { vec_len vertices.old < vec_capacity vertices.old }
@@ -217,8 +211,7 @@ fn put_vertex(vertices: &mut Vec<Vertex>, vertex: Vertex)
     }
 }
 
-/// Inserts the state in `found` in its order, unless the state is `None` or the port has a state already. `states`
-/// must be in ascending order of GUID and port, and have memory for one more state.
+/// Inserts the state in `found` in its order, unless the state is `None` or the port has a state already.
 fn put_state_of(states: &mut PageList<SeenState>, found: &PortFinding)
     requires order { AreInOrder state_key states.old.items }
     requires room { 0 < states.old.room }

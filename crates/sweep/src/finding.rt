@@ -132,8 +132,7 @@ impl Sweep {
         Finding::NewVertex(vertex_of(path, info, first.kind, first.ports))
     }
 
-    /// Returns what the PortInfo `info` of a port adds: its state, whether to ask the manager that sits there, and
-    /// whether the sweep goes on through the port.
+    /// Returns what the PortInfo `info` adds: the state, whether to ask its manager, and whether to go on.
     fn port_found(&self, path: &Path<63>, guid: Guid, port: PortNum, info: &PortInfo) -> Finding
         ensures { result ≡ port_found_of self.now path.now guid port info.now }
     {
@@ -146,8 +145,7 @@ impl Sweep {
         })
     }
 
-    /// Returns whether to ask the manager at a port: `info` reports a manager, the node `guid` is an adapter, and
-    /// `path` is not empty.
+    /// Returns whether to ask the manager at a port: `info` reports one, `guid` is an adapter, and `path` is not empty.
     fn asks_manager(&self, path: &Path<63>, guid: Guid, info: &PortInfo) -> bool
         ensures { result ≡ asks_manager self.now path.now guid info.now }
     {
@@ -183,9 +181,8 @@ impl Sweep {
         is_up(info) && self.goes_by(path, guid, port)
     }
 
-    /// Returns whether the sweep goes on through `port` if the port is up: `path` is empty and the sweep leaves the
-    /// manager's own node by `port`, or the node `guid` is a switch and `port` is neither 0 nor the port at which a
-    /// request first reached the node.
+    /// Returns whether the sweep goes on through `port` if it is up: from the manager's own node by its port, or from a
+    /// switch by any port but 0 and that at which a request first reached the node.
     fn goes_by(&self, path: &Path<63>, guid: Guid, port: PortNum) -> bool
         ensures { result ≡ goes_by self.now path.now guid port }
     {
@@ -206,8 +203,7 @@ fn has_manager(info: &PortInfo) -> bool
     info.is_sm()
 }
 
-/// Returns the vertex of a node that answered. Its port is 0 for a switch. For an adapter, it is the port at which
-/// the request arrived.
+/// Returns the vertex of a node that answered: at port 0 for a switch, and for an adapter where the request arrived.
 fn vertex_of(path: &Path<63>, info: &NodeInfo, kind: NodeType, ports: u8) -> Vertex
     ensures { result ≡ vertex_of path.now info.now kind ports }
 {

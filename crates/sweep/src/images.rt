@@ -80,10 +80,8 @@ impl Images {
         Ok(())
     }
 
-    /// Adds `bytes`, the attribute in a reply to `question`, as the image of a port or a switch. Does nothing if
-    /// images are not kept, if `question` is for neither PortInfo nor SwitchInfo, if `context` is not `About` a node,
-    /// or if there is an image of that port or switch already. If images are kept, there must be memory for one more
-    /// of each kind. Does not allocate.
+    /// Adds `bytes`, the attribute in a reply to `question`, as the image of the port or switch that `context` is
+    /// about, if images are kept and it has none yet. Does not allocate.
     pub(crate) fn put(&mut self, question: Question, context: &Context, bytes: &[u8; 64])
         requires { HasImageRoom self.old }
         ensures { self.new.kept
@@ -115,8 +113,7 @@ impl Images {
         }
     }
 
-    /// Returns the PortInfo of `port` of the node `guid`, or `None` if this PortInfo is not kept. Does a binary
-    /// search.
+    /// Returns the PortInfo of `port` of the node `guid`, or `None` if it is not kept. Does a binary search.
     pub(crate) fn of_port(&self, guid: Guid, port: PortNum) -> Option<SeenImage>
         ensures { result ≡ found_at image_key guid port self.now.kept.ports }
     {
@@ -131,8 +128,7 @@ impl Images {
     }
 }
 
-/// Inserts `image` in its order if `keeps`, unless there is an image with the same GUID and port already. `images`
-/// must be in ascending order of GUID and port. If `keeps`, there must be memory for one more image.
+/// Inserts `image` in its order if `keeps`, unless there is an image with the same GUID and port already.
 fn put_image(keeps: bool, images: &mut PageList<SeenImage>, image: SeenImage)
     requires order { AreInOrder image_key images.old.items }
     requires room { keeps ≡ true → 1 ≤ images.old.room }

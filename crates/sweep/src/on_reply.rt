@@ -84,8 +84,7 @@ impl Sweep {
         self.take_into(smp, store)
     }
 
-    /// Takes the reply `smp`, and adds its facts to `keeper`. If an error is returned, the sweep and `keeper` are
-    /// unchanged.
+    /// Takes the reply `smp`, and adds its facts to `keeper`.
     fn take_into<K: Keeper>(&mut self, smp: &Smp, keeper: &mut K) -> Result<Answer, SweepFault>
         ensures judged { JudgesButFor is_memory result (result_err (judged self.old smp.now)) }
         ensures answer { IfOk result (λ answer. judged self.old smp.now ≡ Ok answer) }
@@ -141,8 +140,7 @@ impl Sweep {
         })
     }
 
-    /// Returns the facts in `smp`, the reply to `request`, or the first fault of the reply. A reply with SMInfo has
-    /// no facts. The bytes of `smp` must be a packet without fault.
+    /// Returns the facts in `smp`, the reply to `request`, or the first fault of the reply.
     fn sightings_by(
         &self,
         request: &Request,
@@ -165,7 +163,7 @@ impl Sweep {
     }
 }
 
-/// Returns the answer in a reply to `question`. `report` must have the bytes of `smp`.
+/// Returns the answer in a reply to `question`.
 fn answer_by(question: Question, report: Report, smp: &Smp) -> Answer
     requires { report.bytes ≡ smp.now }
     ensures { result ≡ answer_by question report }

@@ -21,8 +21,7 @@ pub(crate) fn is_before(a: (Guid, PortNum), b: (Guid, PortNum)) -> bool
     a.0 < b.0 || a.0 == b.0 && a.1 < b.1
 }
 
-/// Returns the index of the item with `guid` and `port`, or the index at which that item would be inserted. `items`
-/// must be in ascending order of GUID and port. Does a binary search.
+/// Returns the index of the item with `guid` and `port`, or where it would be inserted. Does a binary search.
 fn index_for<T: OfPort>(items: &PageList<T>, guid: Guid, port: PortNum) -> usize
     requires { AreInOrder T.key items.now.items }
     ensures { IsIndexFor T.key (guid, port) items.now.items result }
@@ -54,8 +53,7 @@ fn is_at<T: OfPort>(items: &PageList<T>, index: usize, guid: Guid, port: PortNum
     }
 }
 
-/// Returns the item with `guid` and `port`, or `None` if there is no such item. `items` must be in ascending order of
-/// GUID and port. Does a binary search.
+/// Returns the item with `guid` and `port`, or `None` if there is none. Does a binary search.
 pub(crate) fn item_at<T: OfPort>(items: &PageList<T>, guid: Guid, port: PortNum) -> Option<T>
     requires { AreInOrder T.key items.now.items }
     ensures { result ≡ found_at T.key guid port items.now.items }
@@ -68,8 +66,7 @@ pub(crate) fn item_at<T: OfPort>(items: &PageList<T>, guid: Guid, port: PortNum)
     }
 }
 
-/// Inserts `item` in its order, unless there is an item with the same GUID and port already. `items` must be in
-/// ascending order of GUID and port, and have memory for one more item. Moves at most a page of items.
+/// Inserts `item` in its order, unless there is one with the same GUID and port already. Moves at most a page of items.
 pub(crate) fn put<T: OfPort>(items: &mut PageList<T>, item: T)
     requires order { AreInOrder T.key items.old.items }
     requires room { 0 < items.old.room }

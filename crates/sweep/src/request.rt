@@ -34,8 +34,7 @@ pub(crate) fn transaction_of(generation: Generation, number: u32) -> u64
     u64::from(generation.number()) * 0x1_0000_0000 + u64::from(number)
 }
 
-/// Returns how far `transaction` is above the least TransactionID of `generation`, or 0 if `transaction` is not above
-/// it.
+/// Returns how far `transaction` is above the least TransactionID of `generation`, or 0 if it is not.
 pub(crate) fn sequence_of(generation: Generation, transaction: u64) -> u64
     ensures { result ≡ transaction - generation * 2 ^ 32 }
 {
@@ -57,8 +56,7 @@ impl Request {
         )
     }
 
-    /// Returns whether `smp` has the TransactionID, attribute, modifier and path of the request in a sweep of
-    /// `generation`. Ignores the method and the status of `smp`.
+    /// Returns whether `smp` has the TransactionID, attribute, modifier and path of the request in `generation`.
     pub(crate) fn is_answered_by(&self, generation: Generation, smp: &Smp) -> bool
         ensures { result ≡ belongs generation smp.now self.now }
     {

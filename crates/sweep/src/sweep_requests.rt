@@ -96,8 +96,7 @@ impl SweepRequests {
         self.table.get(self.sent)
     }
 
-    /// Marks the next request to be sent as sent, so that it is outstanding. Fewer than 2^32 requests may be
-    /// outstanding. There must be a request to be sent.
+    /// Marks the next request to be sent as sent, so that it is outstanding.
     pub(crate) fn send(&mut self)
         requires queued { 0 < length self.old.queued }
         requires few { length self.old.outstanding < 2 ^ 32 }
@@ -109,8 +108,7 @@ impl SweepRequests {
         self.sent += 1;
     }
 
-    /// Returns the outstanding request at `index`, in ascending order of number, or `None` if at most `index`
-    /// requests are outstanding.
+    /// Returns the outstanding request at `index`, in ascending order of number, or `None` if there is none.
     pub(crate) fn get(&self, index: usize) -> Option<&Request>
         ensures { option_copied result ≡ slice_get self.now.outstanding index }
     {
@@ -121,8 +119,7 @@ impl SweepRequests {
         }
     }
 
-    /// Returns the number of requests, outstanding or to be sent, whose TransactionID in a sweep of `generation` is
-    /// below `transaction`. Does a binary search.
+    /// Returns how many requests of a sweep of `generation` are numbered below `transaction`. Does a binary search.
     fn count_below(&self, generation: Generation, transaction: u64) -> usize
         ensures index { IsIndex (λ r. nat_lt r.number (transaction - generation * 2 ^ 32))
             (self.now.outstanding ++ self.now.queued) result }
@@ -132,8 +129,7 @@ impl SweepRequests {
         self.table.count_below(sequence_of(generation, transaction))
     }
 
-    /// Returns the index of the outstanding request that has the TransactionID `transaction` in a sweep of
-    /// `generation`, or `None` if no such request is outstanding. Does a binary search.
+    /// Returns the index of the outstanding request with this TransactionID, or `None`. Does a binary search.
     pub(crate) fn index_of(&self, generation: Generation, transaction: u64) -> Option<usize>
         ensures { IsIndexFor (request_with generation transaction self.now.outstanding)
             self.now.outstanding result }
@@ -147,8 +143,7 @@ impl SweepRequests {
         }
     }
 
-    /// Returns the index of the outstanding request that `smp` answers in a sweep of `generation`, or `None` if no
-    /// such request is outstanding. Does a binary search.
+    /// Returns the index of the outstanding request that `smp` answers, or `None`. Does a binary search.
     pub(crate) fn index_for(&self, generation: Generation, smp: &Smp) -> Option<usize>
         ensures { IsIndexFor (find (belongs generation smp.now) self.now.outstanding)
             self.now.outstanding result }
@@ -162,7 +157,7 @@ impl SweepRequests {
         }
     }
 
-    /// Removes and returns the outstanding request at `index`, in ascending order of number. There must be one.
+    /// Removes and returns the outstanding request at `index`, in ascending order of number.
     pub(crate) fn end(&mut self, index: usize) -> Request
         requires { index < length self.old.outstanding }
         ensures request { Some result ≡ slice_get self.old.outstanding index }
@@ -176,8 +171,7 @@ impl SweepRequests {
         self.table.end(index)
     }
 
-    /// Appends a request to the queue under the next number. There must be memory for the request, and the next
-    /// number must be below 2^32. Does not allocate.
+    /// Appends a request to the queue under the next number. Does not allocate.
     pub(crate) fn ask(&mut self, question: Question, path: Path<63>, context: Context)
         requires room { 0 < self.old.room }
         requires number { self.old.next < 2 ^ 32 }
@@ -193,8 +187,7 @@ impl SweepRequests {
         });
     }
 
-    /// Queues the questions for PortInfo of all ports of the switch `vertex`, port 0 first. The switch must have
-    /// fewer than 255 ports. There must be memory and numbers below 2^32 for these questions.
+    /// Queues the questions for PortInfo of all ports of the switch `vertex`, port 0 first.
     fn ask_ports(&mut self, vertex: &Vertex)
         requires room { vertex.now.ports + 1 ≤ self.old.room }
         requires number { self.old.next + (vertex.now.ports + 1) ≤ 2 ^ 32 }
@@ -213,8 +206,7 @@ impl SweepRequests {
         }
     }
 
-    /// Queues the questions about the new vertex `vertex`. There must be at most 256 of them, with memory and numbers
-    /// below 2^32 for all.
+    /// Queues the questions about the new vertex `vertex`.
     fn ask_vertex(&mut self, vertex: &Vertex)
         requires room { length (vertex_questions vertex.now) ≤ self.old.room }
         requires number { self.old.next + length (vertex_questions vertex.now) ≤ 2 ^ 32 }
@@ -230,9 +222,7 @@ impl SweepRequests {
         }
     }
 
-    /// Queues the question for SMInfo of the manager at a port, if `found` says that the manager is to be asked. The
-    /// question goes along `path`, the path to the port. There must be memory and a number below 2^32 for the
-    /// question.
+    /// Queues the question for SMInfo of the manager at the port that `path` leads to, if `found` says to ask it.
     fn ask_manager(&mut self, path: &Path<63>, found: &PortFinding)
         requires room { length (manager_questions path.now found.now) ≤ self.old.room }
         requires number { self.old.next + length (manager_questions path.now found.now) ≤ 2 ^ 32 }
@@ -247,9 +237,7 @@ impl SweepRequests {
         }
     }
 
-    /// Queues the question for NodeInfo of the node at the far end of the wire at `port` of the node `guid`. The
-    /// question goes along `path` with `port` appended. `path` must be shorter than 63 hops. There must be memory and
-    /// a number below 2^32 for the question.
+    /// Queues the question for NodeInfo of the node behind `port` of `guid`, along `path` with `port` appended.
     fn ask_across(&mut self, path: Path<63>, guid: Guid, port: PortNum)
         requires path { length path < 63 }
         requires room { 0 < self.old.room }
@@ -261,9 +249,7 @@ impl SweepRequests {
         self.ask(Question::Node, path, Context::Via(guid, port));
     }
 
-    /// Queues the questions that follow from the finding `found` about a port that `path` leads to. If the sweep goes
-    /// on through the port, `path` must be shorter than 63 hops. There must be memory and numbers below 2^32 for
-    /// these questions.
+    /// Queues the questions that follow from the finding `found` about a port that `path` leads to.
     fn ask_of_port(&mut self, path: Path<63>, found: &PortFinding)
         requires reach { IsPathWithinReach path found.now.onward }
         requires room { length (port_found_questions path found.now) ≤ self.old.room }
@@ -278,8 +264,7 @@ impl SweepRequests {
     }
 
     /// Removes the outstanding request at `index`, in ascending order of number, and queues the questions that follow
-    /// from `finding`. There must be such a request. There must be at most 256 questions, and none may need a path of
-    /// more than 63 hops. There must be memory and numbers below 2^32 for all of them. Does not allocate.
+    /// from `finding`. Does not allocate.
     pub(crate) fn take(&mut self, index: usize, finding: &Finding)
         requires { CanTake self.old index finding.now }
         ensures { HasTaken index finding.now self.old self.new }

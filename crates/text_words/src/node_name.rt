@@ -78,7 +78,7 @@ fn is_name_byte(byte: u8) -> bool
     matches!(byte, 0x20..=0x7E) && byte != b'"'
 }
 
-/// Returns the bytes `name`, which must be a name, as text.
+/// Returns the name `name` as text.
 fn text(name: &[u8]) -> ArrayString<64>
     requires { IsTrue (is_name name.now) }
     ensures { result.bytes ≡ name.now }

@@ -19,7 +19,7 @@ pub fn number(word: &[u8], base: u32) -> Option<u64>
     Some(number)
 }
 
-/// Returns the value of the digit `byte`, or `None` if `byte` is not a digit in `base`. `base` must be from 2 to 36.
+/// Returns the value of the digit `byte`, or `None` if `byte` is not a digit in `base`.
 fn digit(byte: u8, base: u32) -> Option<u32>
     requires { 2 ≤ base × base ≤ 36 }
     ensures { result ≡ digit_of base byte }
@@ -27,7 +27,7 @@ fn digit(byte: u8, base: u32) -> Option<u32>
     char::from(byte).to_digit(base)
 }
 
-/// Returns `number * base + digit`, or `u64::MAX` if the sum is greater. `base` must not be 0.
+/// Returns `number * base + digit`, or `u64::MAX` if the sum is greater.
 fn with_digit(number: u64, base: u32, digit: u32) -> u64
     requires { 1 ≤ base }
     ensures { result ≡ min (2 ^ 64 - 1) (number * base + digit) }

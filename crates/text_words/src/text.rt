@@ -69,8 +69,7 @@ pub fn two_words(line: &[u8]) -> Option<(&[u8], &[u8])>
     Some((one, other))
 }
 
-/// Returns the index of the first byte of `line` that is neither a blank nor a tab, or `None` if `line` has no such
-/// byte.
+/// Returns the index of the first byte of `line` that is neither a blank nor a tab, or `None` if there is none.
 fn word_start(line: &[u8]) -> Option<usize>
     ensures { result ≡ position (λ b. not (is_blank b)) line.now }
 {
@@ -100,8 +99,7 @@ fn is_behind_word(is_quoted: bool, byte: u8) -> bool
     !is_quoted && (byte == b'#' || is_blank(byte))
 }
 
-/// Returns whether a word is within quotes after `byte`. `is_quoted` says whether the word is within quotes before
-/// `byte`.
+/// Returns whether a word is within quotes after `byte`, if `is_quoted` says whether it is before.
 fn is_quoted_after(is_quoted: bool, byte: u8) -> bool
     ensures { result ≡ is_quoted_after is_quoted byte }
 {

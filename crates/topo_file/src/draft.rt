@@ -45,8 +45,7 @@ impl Draft {
         }
     }
 
-    /// Adds the node or the link, if any, that `line` gives. `number` is the number of the line. Returns the line's
-    /// fault if it has one, or `Memory` if memory runs out.
+    /// Adds the node or the link that `line`, of number `number`, gives. Fails with its fault, or with `Memory`.
     pub(crate) fn with(self, number: usize, line: &[u8]) -> Result<Self, TopoFault>
         ensures { Reads result (with_line number self (line_of line.now)) }
     {
@@ -62,8 +61,7 @@ impl Draft {
         }
     }
 
-    /// Adds `link`, which is from the line `number`, as a link of the last node. Returns `Syntax` if there is no
-    /// node, or `Memory` if memory runs out.
+    /// Adds `link`, of the line `number`, to the last node. Fails with `Syntax` if there is none, or with `Memory`.
     fn with_link(self, number: usize, link: LinkLine) -> Result<Self, TopoFault>
         ensures { Reads result (with_line number self (Some (TopologyLine.Link link))) }
     {
@@ -81,9 +79,7 @@ impl Draft {
     }
 }
 
-/// Builds the node that `line` gives; `number` is the line's number. Returns `Ports` if the port count or the table's
-/// size is out of range. Otherwise returns `GuidRange` if the node is an adapter and the GUID of its last port does
-/// not fit in 64 bits.
+/// Builds the node that `line` gives. Fails with `Ports`, or with `GuidRange` if an adapter's GUIDs do not fit.
 pub(crate) fn node(number: usize, line: NodeLine) -> Result<Node, TopoFault>
     ensures { result ≡ node_of number line }
 {

@@ -14,9 +14,8 @@ use text_words::{NodeName, split_line};
 /// The names of the nodes so far. No slot is `None`.
 type Names = ArrayVec<Option<NodeName>, MAX_NODES>;
 
-/// Returns the first fault of a line of `text`, or `None` if no line has a fault. Leaves out the faults of a link
-/// that depend on all nodes: `Peer`, `Port` and `Linked`. For each node, takes time linear in the number of nodes
-/// above it.
+/// Returns the first fault of a line of `text`, but for those of a link that depend on all nodes, if there is one. For
+/// each node, takes time linear in the number of nodes above it.
 pub(crate) fn first_line_fault(text: &[u8]) -> Option<TopoFault>
     ensures { result ≡ first_line_fault text.now }
 {
@@ -33,8 +32,7 @@ pub(crate) fn first_line_fault(text: &[u8]) -> Option<TopoFault>
     None
 }
 
-/// Checks `line`, whose number is `number`, given `names`, the names of the nodes above this line. Returns the line's
-/// fault if it has one. Otherwise, if `line` is a node, appends its name to `names`.
+/// Checks `line`, of the number `number`, given the `names` of the nodes above it, to which it adds that of its node.
 fn judge_line(names: &mut Names, number: usize, line: &[u8]) -> Result<(), TopoFault>
     ensures { Leaves (with_name number names.old.items (line_of line.now)) result names.new.items }
 {
@@ -51,8 +49,7 @@ fn judge_line(names: &mut Names, number: usize, line: &[u8]) -> Result<(), TopoF
     }
 }
 
-/// Checks the name of `node`, which is from the line `line`, and appends it to `names`, the names of the nodes above
-/// this line. Returns `Name` if the name is taken. Otherwise returns `TooManyNodes` if there are 1,024 names already.
+/// Checks the name of `node`, of the line `line`, and appends it to `names`. Fails with `Name` or `TooManyNodes`.
 fn judge_node(names: &mut Names, line: usize, node: Node) -> Result<(), TopoFault>
     ensures { Leaves (with_new_name line names.old.items node.name) result names.new.items }
 {

@@ -61,16 +61,14 @@ impl Links {
         &self.links
     }
 
-    /// Returns the port at the other end of the link in `port`, or `None` if there is no link in `port`. Takes time
-    /// logarithmic in the number of ports with links.
+    /// Returns the port at the other end of the link in `port`, if any. Takes time logarithmic in the ports with links.
     fn other_end(&self, port: NodePort) -> Option<NodePort>
         ensures { result ≡ other_end self.now port }
     {
         self.across.get(&key(port)).copied()
     }
 
-    /// Adds `link`, which is from the line `line`, unless `self` has this link already. Returns `Linked` if a port of
-    /// `link` has another link, or `Memory` if memory runs out.
+    /// Adds `link`, of the line `line`, unless it is there. Fails with `Linked` if a port is taken, or with `Memory`.
     fn with(self, line: usize, link: Cable) -> Result<Self, TopoFault>
         ensures { Reads result (with_link line self link) }
     {
@@ -107,8 +105,7 @@ fn key(port: NodePort) -> (NodeId, PortNum)
     (port.node, port.port)
 }
 
-/// Builds the link of the line `at`. Returns `Peer` if no node has the peer's name. Otherwise returns `Port` if a
-/// port of the link is `None`, or is above its node's port count.
+/// Builds the link of the line `at`. Fails with `Peer` if no node has that name, or with `Port` if a port is wrong.
 fn link(nodes: &Nodes, at: &LinkAt) -> Result<Cable, TopoFault>
     ensures { Reads result (link_of nodes.now at.now) }
 {

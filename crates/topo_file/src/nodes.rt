@@ -67,16 +67,14 @@ impl Nodes {
         &self.nodes
     }
 
-    /// Returns the id of the node with the name `name`, or `None` if no node has this name. Takes time logarithmic in
-    /// the number of nodes.
+    /// Returns the id of the node with the name `name`, if any. Takes time logarithmic in the number of nodes.
     pub(crate) fn id(&self, name: &NodeName) -> Option<NodeId>
         ensures { result ≡ id_of self.now name.now }
     {
         self.ids.get(name).copied()
     }
 
-    /// Returns the port `port` of the node with the id `node`. Returns `None` if no node has the id `node`, or if
-    /// `port` is `None` or above the node's port count. Takes constant time.
+    /// Returns the port `port` of the node with the id `node`, or `None` if there is no such port. Takes constant time.
     pub(crate) fn port(&self, node: NodeId, port: Option<u8>) -> Option<NodePort>
         ensures { result ≡ port_at self.now node port }
     {
@@ -90,8 +88,7 @@ impl Nodes {
         })
     }
 
-    /// Appends `node`, which is from the line `line`. Returns `Name` if the node's name is taken, and otherwise
-    /// `TooManyNodes` if there are 1,024 nodes already. Returns `Memory` if memory runs out.
+    /// Appends `node`, of the line `line`. Fails with `Name` if its name is taken, `TooManyNodes`, or `Memory`.
     pub(crate) fn with(self, line: usize, node: Node) -> Result<Self, TopoFault>
         ensures { Reads result (with_node line self node) }
     {

@@ -122,8 +122,7 @@ pub fn parse(alloc: Global, text: &str) -> Result<Topology, TopoFault>
     }
 }
 
-/// Parses the lines of `text` into nodes and links. Returns the first fault of a line, or `Memory` if memory runs
-/// out.
+/// Parses the lines of `text` into nodes and links. Fails with the first fault of a line, or with `Memory`.
 fn read_lines(alloc: Global, text: &[u8]) -> Result<Draft, TopoFault>
     ensures { Reads result (nodes_of_lines (lines text.now)) }
 {
@@ -138,8 +137,7 @@ fn read_lines(alloc: Global, text: &[u8]) -> Result<Draft, TopoFault>
     Ok(draft)
 }
 
-/// Builds the topology of `draft`. Returns the first fault of a link, or `Memory` if memory runs out. The nodes of
-/// `draft` must be nodes that a topology may have. Each port of a link must be `None` or at least 1.
+/// Builds the topology of `draft`. Fails with the first fault of a link, or with `Memory`.
 fn finish(alloc: Global, draft: Draft) -> Result<Topology, TopoFault>
     requires { IsDraft draft }
     ensures { Reads result (topology_in draft) }

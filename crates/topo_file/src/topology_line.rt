@@ -65,8 +65,7 @@ fn kind(word: &[u8]) -> Option<NodeType>
     }
 }
 
-/// Parses the line of a node of the type `kind`, without its first word. Returns `None` if the grammar has no such
-/// line.
+/// Parses the line of a node of the type `kind`, without its first word, if the grammar has it.
 fn node_line(kind: NodeType, line: &[u8]) -> Option<NodeLine>
     ensures { result ≡ node_line kind (words line.now) }
 {
@@ -86,9 +85,8 @@ fn node_line(kind: NodeType, line: &[u8]) -> Option<NodeLine>
     })
 }
 
-/// Parses `line`, the rest of a node's line, as the size of the node's forwarding table. If the line has no size, the
-/// size is 1024 for a switch, and 0 for an adapter. Returns `None` if the grammar has no such line. The inner value
-/// is `None` if the number is out of range.
+/// Parses `line`, the rest of a node's line, as the size of the forwarding table, by default 1024 for a switch and 0
+/// for an adapter. The inner value is `None` if the number is out of range.
 fn cap(kind: NodeType, line: &[u8]) -> Option<Option<u16>>
     ensures { result ≡ cap_of kind (words line.now) }
 {
@@ -101,8 +99,7 @@ fn cap(kind: NodeType, line: &[u8]) -> Option<Option<u16>>
     }
 }
 
-/// Parses the size of a switch's forwarding table: the word `cap` in `word`, and the number in `line`. Returns `None`
-/// if the grammar has no such line. The inner value is `None` if the number is out of range.
+/// Parses the size of a switch's table: `cap` in `word`, and a number in `line`, which is `None` if out of range.
 fn given_cap(word: &[u8], line: &[u8]) -> Option<Option<u16>>
     ensures { result ≡ cap_of NodeType.Switch (word.now ∷ words line.now) }
 {
@@ -117,8 +114,7 @@ fn given_cap(word: &[u8], line: &[u8]) -> Option<Option<u16>>
     }
 }
 
-/// Parses a link from `port`, the first word of its line, and `line`, the rest. Returns `None` if the grammar has no
-/// such line.
+/// Parses a link from `port`, the first word of its line, and `line`, the rest, if the grammar has it.
 fn link_line(port: &[u8], line: &[u8]) -> Option<LinkLine>
     ensures { result ≡ link_line (port.now ∷ words line.now) }
 {

@@ -41,10 +41,8 @@ pub fn least_loaded_keys(
     least_loaded_among(alloc, edges, adapters, &keys)
 }
 
-/// Returns `keys` if the trial loads of the order that grows by them are even. Otherwise returns the keys of the order
-/// with the least trial load. The orders tried are that of `keys` and the orders by depth from up to eight starts,
-/// forwards and backwards. There must be a key for each vertex. The other preconditions are those of
-/// `least_loaded_keys`.
+/// Returns `keys` if the trial loads of their order are even, and otherwise the keys of the order with the least trial
+/// load among that of `keys` and those by depth from up to eight starts, forwards and backwards.
 fn least_loaded_among(
     alloc: Global,
     edges: &Adjacency,
@@ -89,8 +87,7 @@ fn least_loaded_among(
 }
 
 /// Tries the order by depth in `direction` from each of `starts`. Returns whichever of `first` and these trials has the
-/// least load. If loads are equal, returns the earliest. The load of `first` must be its trial load, and `starts` must
-/// be vertices. The other preconditions are those of `least_loaded_among`.
+/// least load, the earliest of equals.
 fn try_by_depth(
     alloc: Global,
     edges: &Adjacency,
@@ -119,8 +116,7 @@ fn try_by_depth(
     Ok(best)
 }
 
-/// Returns the trial of `keys`: the keys, with the trial load of the order that grows by them. The preconditions are
-/// those of `least_loaded_keys`.
+/// Returns the trial of `keys`: the keys, with the trial load of the order that grows by them.
 fn trial_of(
     alloc: Global,
     edges: &Adjacency,
@@ -145,9 +141,7 @@ fn lesser(best: Trial, other: Trial) -> Trial
     if other.load < best.load { other } else { best }
 }
 
-/// Returns the keys of vertices that give the order by depth from `root`. In this order, `keys` and `direction`
-/// decide between equals. There must be a key for each vertex, `root` must be a vertex, and all edges must lead to
-/// vertices.
+/// Returns the keys that give the order by depth from `root`, where `keys` and `direction` decide between equals.
 fn keys_by_depth(
     alloc: Global,
     edges: &Adjacency,
@@ -164,8 +158,7 @@ fn keys_by_depth(
     keys_in(alloc, &vertices, edges.len())
 }
 
-/// Returns the key of each of `count` vertices: its position in `vertices`, or the length of `vertices` if it does not
-/// have the vertex.
+/// Returns the position of each of `count` vertices in `vertices`, or the length of `vertices`, as its key.
 fn keys_in(alloc: Global, vertices: &[usize], count: usize) -> Result<Vec<VertexKey>, AllocError>
     ensures { IfOk result (λ keys. keys.items ≡ keys_in vertices.now count) }
 {

@@ -6,8 +6,7 @@ ghost use Rattle.trial_loads.specs.NearTargets.{AreFurther, AreThere, has_target
 use port_graph::{Adjacency, Edge};
 use std::alloc::{AllocError, Global};
 
-/// Returns, for each of `count` vertices, the indices at which `targets` has the vertex. `targets` must have at most 64
-/// vertices, each less than `count`.
+/// Returns, for each of `count` vertices, the indices at which `targets` has the vertex.
 pub(crate) fn at_targets(
     alloc: Global,
     count: usize,
@@ -24,8 +23,7 @@ pub(crate) fn at_targets(
     Ok(near)
 }
 
-/// Returns, for each vertex, the targets that `near` has for the vertex or for a vertex to which one of its edges
-/// leads. `near` must have a set for each vertex, and all edges must lead to vertices.
+/// Returns, for each vertex, the targets that `near` has for it or for a vertex to which one of its edges leads.
 pub(crate) fn one_further(
     alloc: Global,
     edges: &Adjacency,
@@ -42,8 +40,7 @@ pub(crate) fn one_further(
     Ok(next)
 }
 
-/// Returns the targets that `near` has for any of the vertices to which `edges` lead. `near` must have a set for each
-/// of these vertices.
+/// Returns the targets that `near` has for any of the vertices to which `edges` lead.
 fn near_any(edges: &[Edge], near: &[u64]) -> u64
     requires { All (λ edge. edge.to < length near.now) edges.now }
     ensures { (k : ℕ) → has_target result k ≡ is_near_any near.now edges.now k }
@@ -55,7 +52,7 @@ fn near_any(edges: &[Edge], near: &[u64]) -> u64
     set
 }
 
-/// Returns `set` with target `k` added. `k` must be less than 64.
+/// Returns `set` with target `k` added.
 fn with_target(set: u64, k: usize) -> u64
     requires { k < 64 }
     ensures { (j : ℕ) → has_target result j ≡ ((j == k) || has_target set j) }
@@ -63,7 +60,7 @@ fn with_target(set: u64, k: usize) -> u64
     set | 1 << k
 }
 
-/// Returns whether `set` has target `k`, which must be less than 64.
+/// Returns whether `set` has target `k`.
 pub(crate) fn has_target(set: u64, k: usize) -> bool
     requires { k < 64 }
     ensures { result ≡ has_target set k }

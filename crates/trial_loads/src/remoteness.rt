@@ -12,11 +12,8 @@ use spread_labels::{TARGETS, VertexKey, keys};
 use std::alloc::{AllocError, Global};
 
 /// Returns the keys of vertices by how remote they are, and then by the distance from the least remote vertex of their
-/// component. A vertex is as remote as the sum, over all vertices that walks lead to, of the squared distance times one
-/// more than the number of adapters there. Sums are capped at 2^64 - 1. `adapters` must have the number of adapters at
-/// each vertex. For each edge there must be an edge back. Finds the distances of all vertices to 64 vertices at a time,
-/// in rounds. Each round takes time linear in the number of vertices and edges. There is at most one round more than
-/// the greatest distance.
+/// component. Finds the distances of all vertices to 64 vertices at a time, in rounds. Each round takes time linear in
+/// the number of vertices and edges. There is at most one round more than the greatest distance.
 pub(crate) fn keys_by_remoteness(
     alloc: Global,
     edges: &Adjacency,
@@ -31,8 +28,7 @@ pub(crate) fn keys_by_remoteness(
     keys(alloc, edges, &remote)
 }
 
-/// Returns how remote each vertex is. `adapters` must have the number of adapters at each vertex. Adds up the shares of
-/// 64 vertices at a time.
+/// Returns how remote each vertex is. Adds up the shares of 64 vertices at a time.
 fn all_remoteness(
     alloc: Global,
     edges: &Adjacency,
@@ -76,9 +72,7 @@ fn all_vertices(alloc: Global, count: usize) -> Result<Vec<usize>, AllocError>
     Ok(vertices)
 }
 
-/// Adds to the sum of each vertex what each of `targets` adds to how remote the vertex is. Sums are capped at 2^64 - 1.
-/// `targets` must have at most 64 vertices. `adapters` and `sums` must have a number for each vertex, and all edges
-/// must lead to vertices. Returns an error if memory runs out.
+/// Adds to the sum of each vertex what each of `targets` adds to how remote the vertex is, up to 2^64 - 1.
 fn add_shares(
     alloc: Global,
     edges: &Adjacency,
@@ -106,8 +100,7 @@ fn add_shares(
     Ok(())
 }
 
-/// Returns what each of `targets` adds to how remote a vertex at the given distance from it is. `adapters` must have a
-/// number for each of `targets`.
+/// Returns what each of `targets` adds to how remote a vertex at the given distance from it is.
 fn shares_at(
     alloc: Global,
     adapters: &[u16],
@@ -124,8 +117,7 @@ fn shares_at(
     Ok(shares)
 }
 
-/// Adds to the sum of each vertex the shares of the targets that `next` has for the vertex, but not `near`. Sums are
-/// capped at 2^64 - 1. `near` and `next` must have a set for each sum, and there must be at most 64 shares.
+/// Adds to the sum of each vertex the shares of the targets that `next` has for the vertex, but not `near`.
 fn add_new_shares(near: &[u64], next: &[u64], shares: &[usize], sums: &mut [usize])
     requires near { length near.now ≡ length sums.old }
     requires next { length next.now ≡ length sums.old }
@@ -138,7 +130,7 @@ fn add_new_shares(near: &[u64], next: &[u64], shares: &[usize], sums: &mut [usiz
     }
 }
 
-/// Returns `sum` with the shares of the targets in `set` added, capped at 2^64 - 1. There must be at most 64 shares.
+/// Returns `sum` with the shares of the targets in `set` added, capped at 2^64 - 1.
 fn with_shares(sum: usize, shares: &[usize], set: u64) -> usize
     requires { length shares.now ≤ 64 }
     ensures { result ≡ capped (sum + shares_in shares.now set) }

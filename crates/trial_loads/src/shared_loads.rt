@@ -16,10 +16,7 @@ use std::alloc::{AllocError, Global};
 /// The number of packets from each adapter to each adapter, in a trial.
 const PACKETS: usize = 65_536;
 
-/// Adds to the load of each channel the packets that the channel carries from all adapters to the adapters of each of
-/// `targets`. There must be at most 64 targets. All edges of `graph` must lead to vertices. `adapters` must have the
-/// number of adapters at each vertex, each of `targets` must be a vertex, and `loads` must have 256 loads for each
-/// vertex. Loads are capped at 2^64 - 1.
+/// Adds to the load of each channel the packets that it carries from all adapters to the adapters of each of `targets`.
 pub(crate) fn add_packets_between(
     alloc: Global,
     graph: &Adjacency,
@@ -44,10 +41,8 @@ pub(crate) fn add_packets_between(
     Ok(())
 }
 
-/// Adds to the load of each channel the packets that the channel carries to target `k`. At first `had` must have the
-/// number of packets that each position starts with. Packets that reach a position on the way are added to its number
-/// in `had`. `k` must be less than 64, and `loads` must have 256 loads for each position. `sets` must be for the
-/// edges of `graph`, which must lead to positions. `ups` must be what `upward` gives for `graph` and `sets`.
+/// Adds to the load of each channel the packets that it carries to target `k`, by the candidates `sets` and their `ups`
+/// (`upward`). `had` has the packets that each position starts with, and gets those that reach it on the way added.
 fn add_packets_to(
     graph: &Adjacency,
     sets: &CandidateSets,
@@ -69,8 +64,7 @@ fn add_packets_to(
     share_down(graph, sets, ups, k, had, loads);
 }
 
-/// Sets in `had` the number of packets that each position starts with towards a target with `to` adapters: `PACKETS`
-/// from each adapter of the position to each adapter of the target. `adapters` and `had` must be equally long.
+/// Sets `had` to the packets of each position to a target with `to` adapters: `PACKETS` for each pair of adapters.
 fn start(adapters: &[u16], to: u16, had: &mut [usize])
     requires { length adapters.now ≡ length had.old }
     ensures { had.new ≡ first_had to adapters.now }
@@ -80,8 +74,7 @@ fn start(adapters: &[u16], to: u16, had: &mut [usize])
     }
 }
 
-/// For each position with a candidate that leads up towards target `k`, shares out its packets. Goes from the last
-/// position to the first. The preconditions are those of `add_packets_to`.
+/// Shares out the packets of each position with a candidate up towards target `k`, from the last to the first.
 fn share_up(
     graph: &Adjacency,
     sets: &CandidateSets,
@@ -109,8 +102,7 @@ fn share_up(
     }
 }
 
-/// For each position without a candidate that leads up towards target `k`, shares out its packets. Goes from the first
-/// position to the last. The preconditions are those of `add_packets_to`.
+/// Shares out the packets of each position without a candidate up towards target `k`, from the first to the last.
 fn share_down(
     graph: &Adjacency,
     sets: &CandidateSets,
@@ -139,8 +131,7 @@ fn share_down(
 }
 
 /// Shares out the packets of `position` evenly among its candidates towards target `k`: those of `edges` whose set in
-/// `sets` has the target. The remainder of the division is dropped. If there is no candidate, nothing is shared. `k`
-/// must be less than 64. There must be a set for each edge, and 256 loads for each position.
+/// `sets` has it. The remainder of the division is dropped.
 fn share(
     edges: &[Edge],
     sets: &[TargetSet],
@@ -174,7 +165,7 @@ fn share(
     }
 }
 
-/// Returns how many of `sets` have `target`. `target` must be less than 64.
+/// Returns how many of `sets` have `target`.
 fn count_having(sets: &[TargetSet], target: usize) -> usize
     requires { target < 64 }
     ensures { result ≡ count_by (λ set. has set target) sets.now }
@@ -188,8 +179,7 @@ fn count_having(sets: &[TargetSet], target: usize) -> usize
     count
 }
 
-/// Returns how many packets each channel carries if each adapter sends 65,536 packets to each adapter. `adapters`
-/// must have the number of adapters at each vertex of `graph`, and all edges must lead to vertices. Counts the
+/// Returns how many packets each channel carries if each adapter sends 65,536 packets to each adapter. Counts the
 /// packets to 64 targets at a time.
 pub(crate) fn loads_by(
     alloc: Global,

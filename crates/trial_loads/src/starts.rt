@@ -14,9 +14,7 @@ use std::alloc::{AllocError, Global};
 /// The greatest number of vertices from which orders by depth are tried.
 const TRIED: usize = 8;
 
-/// Returns the vertices from which orders by depth are tried: the first vertex by `keys`, and then seven times the
-/// vertex that is farthest from all those before it, the first by `keys` of several; all vertices if there are fewer.
-/// No walk is farther than any. There must be a key for each vertex, and all edges must lead to vertices. Does a
+/// Returns up to eight vertices from which orders by depth are tried, each the farthest from those before it. Does a
 /// breadth-first search from each start.
 pub(crate) fn starts(
     alloc: Global,
@@ -66,8 +64,7 @@ fn nearer(one: Option<usize>, other: Option<usize>) -> Option<usize>
     }
 }
 
-/// Returns the vertex that is farthest by the distances `near`, the first by `keys` of several, or `None` if there is
-/// no vertex. There must be a distance for each key.
+/// Returns the vertex that is farthest by the distances `near`, the first by `keys` of several, or `None`.
 fn farthest(keys: &[VertexKey], near: &[Option<usize>]) -> Option<usize>
     requires { length near.now ≡ length keys.now }
     ensures farthest { result
@@ -81,8 +78,7 @@ fn farthest(keys: &[VertexKey], near: &[Option<usize>]) -> Option<usize>
     found
 }
 
-/// Returns `vertex` if `found` is `None` or if `vertex` starts before `found` (`starts_before`). Otherwise returns
-/// `found`. There must be a distance for each key, and both must be vertices.
+/// Returns `vertex` if `found` is `None` or `vertex` starts before `found` (`starts_before`), and otherwise `found`.
 fn farther(keys: &[VertexKey], near: &[Option<usize>], found: Option<usize>, vertex: usize) -> usize
     requires all { length near.now ≡ length keys.now }
     requires vertex { vertex < length keys.now }
@@ -95,8 +91,7 @@ fn farther(keys: &[VertexKey], near: &[Option<usize>], found: Option<usize>, ver
     }
 }
 
-/// Returns whether `one` starts before `other`: it is farther by the distances `near`, or both are equally far and it
-/// comes first by `keys`. There must be a distance for each key, and both must be vertices.
+/// Returns whether `one` is farther than `other` by the distances `near`, or as far and first by `keys`.
 fn starts_before(keys: &[VertexKey], near: &[Option<usize>], one: usize, other: usize) -> bool
     requires all { length near.now ≡ length keys.now }
     requires one { one < length keys.now }

@@ -9,8 +9,7 @@ use port_graph::Adjacency;
 use spread_labels::{VertexKey, by_positions, counts_at, greatest_of, grown_order, positions};
 use std::alloc::{AllocError, Global};
 
-/// Returns the trial load of the order that grows by `keys`: the load of its busiest channel. Takes as long as
-/// `trial_loads`, and has the same preconditions.
+/// Returns the load of the busiest channel of the order that grows by `keys`. Takes as long as `trial_loads`.
 pub(crate) fn trial_load(
     alloc: Global,
     edges: &Adjacency,
@@ -27,12 +26,9 @@ pub(crate) fn trial_load(
     Ok(greatest_of(&loads))
 }
 
-/// Returns the number of packets that each channel carries in the order that grows by `keys`. Each adapter sends
-/// 65,536 packets to each adapter. Each vertex on the way shares out its packets evenly among its candidates. Loads
-/// are capped at 2^64 - 1. There must be a key for each vertex. For each edge there must be an edge back. `adapters`
-/// must have the number of adapters at each vertex. Grows the order once, and finds the candidates towards 64
-/// vertices with adapters at a time. For each of these vertices, takes time linear in the number of vertices and
-/// edges to share packets.
+/// Returns the number of packets that each channel carries in the order that grows by `keys`. Grows the order once, and
+/// finds the candidates towards 64 vertices with adapters at a time. For each of these vertices, takes time linear in
+/// the number of vertices and edges to share packets.
 pub(crate) fn trial_loads(
     alloc: Global,
     edges: &Adjacency,

@@ -9,8 +9,7 @@ use port_graph::{Adjacency, Edge};
 use spread_labels::{CandidateSets, TargetSet};
 use std::alloc::{AllocError, Global};
 
-/// Returns, for each position, the targets towards which any of its candidates leads up. `sets` must be for the edges
-/// of `graph`.
+/// Returns, for each position, the targets towards which any of its candidates leads up.
 pub(crate) fn upward(
     alloc: Global,
     graph: &Adjacency,
@@ -26,8 +25,7 @@ pub(crate) fn upward(
     Ok(ups)
 }
 
-/// Returns the targets towards which any of `edges` is a candidate that leads up from `position`. `sets` must have,
-/// for each edge, the targets towards which the edge is a candidate.
+/// Returns the targets towards which any of `edges`, by its set in `sets`, is a candidate up from `position`.
 fn upward_from(edges: &[Edge], sets: &[TargetSet], position: usize) -> TargetSet
     requires { length sets.now ≡ length edges.now }
     ensures { EachTarget (λ k. has result k ≡ leads_up position (picked k sets.now edges.now)) }

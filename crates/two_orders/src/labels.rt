@@ -48,8 +48,7 @@ pub fn label_all(labels: &mut Vec<Option<Sides>>, edges: &Adjacency, orders: &Or
     label_each(labels, edges, orders, to_sides(true, true), orders.rising());
 }
 
-/// Returns the sides of an edge. The edge leads up by the first order if `first_up`, and up by the second order if
-/// `second_up`. If a flag is false, the edge leads down by that order.
+/// Returns the sides of an edge: whether it leads up by the first order, and whether by the second.
 fn to_sides(first_up: bool, second_up: bool) -> Sides
     ensures { result ≡ record { first_up = first_up; second_up = second_up } }
 {
@@ -59,8 +58,7 @@ fn to_sides(first_up: bool, second_up: bool) -> Sides
     }
 }
 
-/// Gives each of `vertices` in turn the label `sides`, if the vertex has no label and one of its edges leads on by
-/// `sides` (`leads_on`).
+/// Gives each of `vertices` in turn the label `sides`, if it has none and one of its edges leads on by `sides`.
 fn label_each(
     labels: &mut Vec<Option<Sides>>,
     edges: &Adjacency,
@@ -148,8 +146,7 @@ fn leads(orders: &Orders, sides: Sides, from: usize, to: usize) -> bool
         && is_side(orders.second(), sides.second_up, from, to)
 }
 
-/// If `up`, returns whether an edge from `from` to `to` leads to an earlier position. Otherwise returns whether it
-/// leads to a later position.
+/// Returns whether an edge from `from` to `to` leads to an earlier position (if `up`) or to a later one (if not).
 fn is_side(positions: &[usize], up: bool, from: usize, to: usize) -> bool
     ensures { result ≡ is_side positions.now up from to }
 {
@@ -160,8 +157,7 @@ fn is_side(positions: &[usize], up: bool, from: usize, to: usize) -> bool
     }
 }
 
-/// Returns whether a walk may go on from a vertex with the label `label` if its last edge led as `before` says. Returns
-/// false if `label` is `None`.
+/// Returns whether a walk whose last edge led as `before` says may go on from a vertex with the label `label`.
 fn goes_on(before: Sides, label: Option<Sides>) -> bool
     ensures { result ≡ goes_on before label }
 {
@@ -171,8 +167,7 @@ fn goes_on(before: Sides, label: Option<Sides>) -> bool
     }
 }
 
-/// Returns whether a walk whose last edge led as `before` says may go on by an edge that leads as `after` says. The
-/// next edge may lead up by an order only if the last edge led up by that order.
+/// Returns whether a walk whose last edge led as `before` says may go on by an edge that leads as `after` says.
 fn may_follow(before: Sides, after: Sides) -> bool
     ensures { result ≡ may_follow before after }
 {

@@ -16,8 +16,7 @@ pub fn tree(alloc: Global, edges: &Adjacency, positions: &[usize]) -> Result<Adj
     tree_by(alloc, edges, &earliest)
 }
 
-/// Returns the edges of each vertex that are in the tree. `earliest` must have, for each vertex, the earliest among the
-/// vertex and its neighbors.
+/// Returns the tree's edges of each vertex. `earliest` has the earliest among each vertex and its neighbors.
 fn tree_by(alloc: Global, edges: &Adjacency, earliest: &[usize]) -> Result<Adjacency, AllocError>
     ensures { IfOk result (λ found. found ≡ tree_by edges.now earliest.now) }
 {

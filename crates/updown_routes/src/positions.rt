@@ -20,8 +20,7 @@ fn indices(alloc: Global, ranked: &[(usize, usize)]) -> Result<Vec<usize>, Alloc
     ranked.iter().map(|(_, index)| *index).collect(alloc)
 }
 
-/// Returns, for each index of `ranks` in ascending order, the pair of its rank and the index. A missing rank counts
-/// as 0.
+/// Returns the pair of rank and index for each index of `ranks`, in ascending order. A missing rank counts as 0.
 fn ranked(alloc: Global, ranks: &[Option<usize>]) -> Result<Vec<(usize, usize)>, AllocError>
     ensures { IfOk result (λ pairs. pairs.items ≡ ranked ranks.now) }
 {
@@ -32,7 +31,7 @@ fn ranked(alloc: Global, ranks: &[Option<usize>]) -> Result<Vec<(usize, usize)>,
         .collect(alloc)
 }
 
-/// Returns the position of each index in `order`. `order` must contain each index below its length once.
+/// Returns the position of each index in `order`.
 pub(crate) fn positions(alloc: Global, order: &[usize]) -> Result<Vec<usize>, AllocError>
     requires { NamesEachOnce (length order.now) order.now }
     ensures { IfOk result (λ positions. ArePositions order.now positions.items) }

@@ -6,8 +6,7 @@ ghost use Rattle.updown_routes.specs.Ranks.{rank_of};
 use std::alloc::{AllocError, Global};
 use subnet_view::SwitchGraph;
 
-/// Returns the rank of each switch, in ascending order of GUID: its distance from the root of its component. The root
-/// is the first switch of the component. Does a breadth-first search for each component.
+/// Returns the rank of each switch, in ascending order of GUID. Does a breadth-first search for each component.
 pub(crate) fn ranks(alloc: Global, graph: &SwitchGraph) -> Result<Vec<Option<usize>>, AllocError>
     ensures { IfOk result (λ ranks. ranks.items ≡ map (rank_of graph.now) (guids_of graph.now)) }
 {
@@ -21,8 +20,7 @@ pub(crate) fn ranks(alloc: Global, graph: &SwitchGraph) -> Result<Vec<Option<usi
     Ok(ranks)
 }
 
-/// Sets each missing rank of `ranks` to the distance at its index in `distances`, if there is one. `ranks` and
-/// `distances` must be equally long.
+/// Sets each missing rank of `ranks` to the distance at its index in `distances`, if there is one.
 fn fill(ranks: &mut [Option<usize>], distances: &[Option<usize>])
     requires { length ranks.old ≡ length distances.now }
     ensures { FillsIn ranks.old distances.now ranks.new }

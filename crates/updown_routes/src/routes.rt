@@ -68,9 +68,7 @@ impl<'g> Routes<'g> {
     }
 }
 
-/// Returns a row for each of `positions` as a target. The row has the next port of each of `positions` towards the
-/// target, or `None` if there is no next port. Each of `positions` must be less than the number of vertices of
-/// `slopes`. The edges of `slopes` must be slopes (`AreSlopes`).
+/// Returns a row for each of `positions` as a target: the next port of each of `positions` towards it, if there is one.
 fn towards(
     alloc: Global,
     slopes: &UpDownEdges,

@@ -18,8 +18,7 @@ pub(crate) struct UpDownEdges {
 }
 
 impl UpDownEdges {
-    /// Finds the wires up and down of each switch. `order` must have the indices of switches, in ascending order of
-    /// rank and then of GUID. `positions` must have the position of each index in `order`.
+    /// Finds the wires up and down of each switch, by the indices `order` of the switches and their `positions` in it.
     pub(crate) fn of(
         alloc: Global,
         graph: &Graph,
@@ -41,8 +40,7 @@ impl UpDownEdges {
     }
 }
 
-/// Returns `edges`, with the index that each edge leads to replaced by the position of that index. `positions` must
-/// have a position for each of these indices.
+/// Returns `edges`, with the index that each edge leads to replaced by the position of that index.
 fn to_positions(alloc: Global, edges: &[Edge], positions: &[usize]) -> Result<Vec<Edge>, AllocError>
     requires { All (λ edge. edge.to < length positions.now) edges.now }
     ensures { IfOk result (λ found. found.items ≡ map (at_position positions.now) edges.now) }
