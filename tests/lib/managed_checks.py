@@ -249,7 +249,7 @@ BENT = {
 
 
 def check_light_sweeps(program: Program) -> None:
-    """Checks whom a master asks in a light sweep, and what it says of answers: that nothing has changed only if a switch
+    """Checks whom a master asks in a light sweep, and what it says of answers: that nothing changed only if a switch
     answers without a fault as it did in the last sweep, where it did not say that a port had changed its state."""
     fabric = sample_fabrics.two_levels(2, 3, 4)
     switches = [name for name in fabric.nodes if fabric.is_switch(name)]
