@@ -3,7 +3,9 @@ pub mod AnsweredRequests
 pub mod Bound
 pub mod Ends
 pub mod PathLaws
+pub mod NodeReply
 pub mod PathReply
+pub mod PortReply
 pub mod Rates
 pub mod Reply
 pub mod Told

@@ -19,6 +19,7 @@ pub struct PortInfoRecord {
 
 impl PortInfoRecord {
     /// Encodes the record.
+    #[tactic(auto, using(crate::proofs::Records::as_64_same))]
     pub fn encode(&self) -> [u8; PORT_INFO_RECORD_BYTES]
         ensures { result ≡ port_info_record_bytes self.now }
     {

@@ -1,0 +1,42 @@
+-- How long records of nodes and ports are, and that they hold what was given.
+use Rattle.std.proofs.Common.{◌≡◌, ℕ, ◌+◌, ◌++◌, ◌<◌, ◌≤◌, ◌^◌, List, refl, sym, ap, ◌∙◌, arith, inl, inr, length, replicate, take, subst}
+use Rattle.std.proofs.lemmas.List.{length-append, length-take-le}
+use Rattle.std.proofs.Math.Seq.{take-append_seam}
+use Rattle.smp_bytes.specs.Field.{Field, number_in, with_bytes, with_number}
+use Rattle.smp_bytes.proofs.FieldLaws.{length-with_bytes, length-with_number, length-with_numbers, number_in-with_bytes, number_in-with_number}
+use Rattle.smp_bytes.proofs.OffsetLaws.{bytes_in-with_bytes}
+use Rattle.attr_codec.specs.NodeInfo.{entries_of, node_info_bytes}
+use Rattle.sa_bytes.specs.NodeRecord.{node_info_data, node_lid, node_record_bytes}
+use Rattle.sa_bytes.specs.PortInfoRecord.{as_64, port_info_data, port_info_record_bytes, port_lid, port_number}
+use Rattle.sa_bytes.specs.declared.node_record.NodeRecord.{NodeRecord}
+use Rattle.sa_bytes.specs.declared.port_info_record.PortInfoRecord.{PortInfoRecord}
+
+-- NodeInfo has 64 bytes
+info_length : (r : NodeRecord) → length (node_info_bytes r.info) ≡ 64
+info_length r = length-with_numbers 64 (entries_of r.info) (replicate 64 0) refl refl
+
+-- a record of a node has 112
+pub node_length : (r : NodeRecord) → length (node_record_bytes r) ≡ 112
+node_length r =
+    let begun : length (with_number node_lid r.lid (replicate 112 0)) ≡ 112 = length-with_number node_lid r.lid (replicate 112 0) (omega arith) in
+    length-with_bytes 4 (node_info_bytes r.info) (with_number node_lid r.lid (replicate 112 0)) (omega (arith, info_length r, begun)) ∙ begun
+
+-- so many bytes have so many
+pub as_64_length : (info : List ℕ) → length (as_64 info) ≡ 64
+as_64_length info = length-take-le 64 (info ++ replicate 64 0) (omega (arith, length-append info (replicate 64 0)))
+
+-- 64 bytes are as they are
+pub as_64_same : (info : List ℕ) → length info ≡ 64 → as_64 info ≡ info
+as_64_same info e = ap (λ n. take n (info ++ replicate 64 0)) (sym e) ∙ take-append_seam info (replicate 64 0)
+
+port_begun : (r : PortInfoRecord) → length (with_number port_number r.port (with_number port_lid r.lid (replicate 72 0))) ≡ 72
+port_begun r =
+    let first : length (with_number port_lid r.lid (replicate 72 0)) ≡ 72 = length-with_number port_lid r.lid (replicate 72 0) (omega arith) in
+    length-with_number port_number r.port (with_number port_lid r.lid (replicate 72 0)) (omega (arith, first)) ∙ first
+
+-- a record of a port has 72
+pub port_length : (r : PortInfoRecord) → length (port_info_record_bytes r) ≡ 72
+port_length r =
+    length-with_bytes 4 (as_64 r.info) (with_number port_number r.port (with_number port_lid r.lid (replicate 72 0)))
+    (omega (arith, as_64_length r.info, port_begun r))
+    ∙ port_begun r
