@@ -8,5 +8,6 @@ pub mod PathReply
 pub mod PortReply
 pub mod Rates
 pub mod Reply
+pub mod RecordLaws
 pub mod Told
 pub mod Way

@@ -1,6 +1,7 @@
 -- The port that a request asks for. InfiniBand Architecture Specification, Volume 1: subnet administration,
 -- PortInfoRecord; subnet management, PortInfo.
 use Rattle.std.specs.Prelude.{ℕ, ◌==◌, ◌||◌, Bool, nat_lt, List, Option, Some, None, if◌then◌else◌}
+use Rattle.std.specs.Option.{option_map_or}
 use Rattle.smp_bytes.specs.Field.{number_in, with_bits, with_number}
 use Rattle.attr_codec.specs.PortInfo.{base_lid, gid_prefix, lmc, m_key, master_sm_lid}
 use Rattle.subnet_view.specs.declared.end_port.EndPort.{EndPort}
@@ -8,6 +9,7 @@ use Rattle.lid_assign.specs.Lids.{lid_of, lmc_of, owner_of}
 use Rattle.plan_steps.specs.Carried.{link_local_prefix, or_default}
 use Rattle.sweep.specs.Images.{image_at}
 use Rattle.sa_bytes.specs.declared.port_info_record.PortInfoRecord.{PortInfoRecord}
+use Rattle.sa_answers.specs.Ends.{end_by_guid}
 use Rattle.sa_answers.specs.PathReply.{gives}
 use Rattle.sa_answers.specs.Told.{Told}
 use Rattle.sa_answers.specs.declared.reply.SaRefusal.TheVariants.{NotSupported, NoRecords, TooManyRecords, InsufficientComponents}
@@ -28,6 +30,10 @@ most_of_mask = 3
 
 -- what is told of a port ---------------------------------------------------------------------------------
 
+-- the first LID of the manager's end port; 0 if it has none
+abbrev pub master_lid : Told → ℕ
+master_lid told = option_map_or (λ x. x.1) (end_by_guid told told.own) 0
+
 -- the PortInfo that a sweep read, with a LID, an LMC and the manager's LID as the plan writes them, with the link-local
 -- prefix if its GID prefix is 0, and without the M_Key, which is not told to everybody
 abbrev pub info_told : ℕ → ℕ → ℕ → List ℕ → List ℕ
@@ -41,7 +47,7 @@ info_told lid count master image =
 -- port has no LID, and 0 in the place of the manager's
 abbrev pub info_at : Told → EndPort → ℕ → ℕ → List ℕ → List ℕ
 info_at told e lid port image =
-    if port == e.port then info_told lid (lmc_of told.plan.given e) told.master image else info_told 0 0 0 image
+    if port == e.port then info_told lid (lmc_of told.plan.given e) (master_lid told) image else info_told 0 0 0 image
 
 -- the record of a port, given the first LID of `e` and the image of the port, if it is kept
 abbrev pub port_with : Told → EndPort → ℕ → Option ℕ → Option (List ℕ) → Reply

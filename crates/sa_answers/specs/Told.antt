@@ -6,13 +6,13 @@ use Rattle.lft_blocks.specs.Plan.{PlanValue}
 use Rattle.sweep.specs.declared.images.SeenImage.{SeenImage}
 use Rattle.sa_answers.specs.declared.told.Told as code
 
--- the facts, the plan that was written, the images of PortInfo that a sweep kept, and the LID of the manager
+-- the facts, the plan that was written, the images of PortInfo that a sweep kept, and the port GUID of the manager
 pub record Told : Type 0 where
   pub cells : Cells
   pub plan : PlanValue
   pub images : List SeenImage
-  pub master : ℕ
+  pub own : ℕ
 
 -- what the code tells of, as a value
 abbrev pub value_of : code.Told → Told
-value_of t = record { cells = cells_of t.store.now; plan = t.plan.now; images = t.sweep.now.images.ports; master = t.master }
+value_of t = record { cells = cells_of t.store.now; plan = t.plan.now; images = t.sweep.now.images.ports; own = t.own }

@@ -1,10 +1,11 @@
 //! The port that a request asks for.
 ghost use Rattle.std.specs.Prelude.{◌≡◌};
 ghost use Rattle.plan_steps.specs.Carried.{or_default};
-ghost use Rattle.sa_answers.specs.PortReply.{goes_by, info_at, info_told, port_reply, port_told, reply_at, reply_of_owner};
+ghost use Rattle.sa_answers.specs.PortReply.{goes_by, info_at, info_told, master_lid, port_reply, port_told, reply_at};
+ghost use Rattle.sa_answers.specs.PortReply.{reply_of_owner};
 ghost use Rattle.sa_answers.specs.Told.{value_of};
 
-use crate::ends::LINK_LOCAL_PREFIX;
+use crate::ends::{LINK_LOCAL_PREFIX, end_by_guid};
 use crate::path_reply::gives;
 use crate::reply::{Reply, SaRefusal};
 use crate::told::Told;
@@ -97,9 +98,19 @@ fn info_at(told: &Told<'_>, e: &EndPort, lid: Lid, port: PortNum, image: PortInf
     ensures { result ≡ info_at (value_of told.now) e.now lid port image }
 {
     if port == e.port {
-        info_told(lid, told.plan.lids().lmc_of(e), told.master, image)
+        info_told(lid, told.plan.lids().lmc_of(e), master_lid(told), image)
     } else {
         info_told(Lid::NONE, Lmc::ZERO, Lid::NONE, image)
+    }
+}
+
+/// Returns the first LID of the manager's end port, or 0 if it has none.
+fn master_lid(told: &Told<'_>) -> Lid
+    ensures { result ≡ master_lid (value_of told.now) }
+{
+    match end_by_guid(told, told.own) {
+        None => Lid::NONE,
+        Some((_, lid)) => lid,
     }
 }
 

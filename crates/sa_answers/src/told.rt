@@ -1,6 +1,6 @@
 use fact_store::Store;
 use lft_blocks::Plan;
-use smp_bytes::Lid;
+use smp_bytes::Guid;
 use sweep::Sweep;
 
 /// What subnet administration tells of: the facts, the plan that was written, the sweep that kept the PortInfo of ports,
@@ -10,6 +10,6 @@ pub struct Told<'t> {
     pub store: &'t Store,
     pub plan: &'t Plan,
     pub sweep: &'t Sweep,
-    /// The LID of the manager.
-    pub master: Lid,
+    /// The port GUID of the manager.
+    pub own: Guid,
 }
