@@ -1,15 +1,15 @@
 -- Which nodes and ports are told.
-use Rattle.std.proofs.Common.{◌≡◌, ◌≢◌, ℕ, zero, suc, ◌+◌, Bool, true, false, not, cond, ◌==◌, ◌&&◌, ◌||◌, ◌⊎◌, inl, inr, List, [], ◌∷◌, Option, None, Some, refl, sym, ap, ◌∙◌, subst, arith}
+use Rattle.std.proofs.Common.{◌≡◌, ℕ, ◌+◌, Bool, true, false, not, cond, ◌==◌, ◌||◌, inl, inr, List, [], ◌∷◌, Option, None, Some, refl, sym, ap, ◌∙◌, subst, arith}
 use Rattle.std.proofs.lemmas.Bool.{and_parts, eq-eqb, eqb-true, true≢false}
+use Rattle.std.proofs.lemmas.List.Sums.{sum_by-cons}
 use Rattle.std.proofs.lemmas.Option.{same_Some}
-use Rattle.std.specs.Prelude.{Contains, count_by, nat_lt, option_and_then}
+use Rattle.std.specs.Prelude.{count_by, nat_lt, option_and_then}
 use Rattle.std.specs.List.{find}
 use Rattle.std.specs.Option.{option_map_or}
 use Rattle.smp_bytes.specs.Field.{bytes_in, number_in}
 use Rattle.smp_bytes.specs.Packet.{attribute_id, method}
 use Rattle.smp_bytes.specs.declared.node_type.NodeType.{NodeType}
 use Rattle.attr_codec.specs.NodeInfo.{node_info_in}
-use Rattle.attr_codec.specs.declared.node_info.NodeInfo.{NodeInfo}
 use Rattle.reply_facts.specs.Known.{node_of, port_guid_of}
 use Rattle.subnet_view.specs.declared.end_port.EndPort.{EndPort}
 use Rattle.subnet_view.proofs.Apart.{found_there}
@@ -21,10 +21,10 @@ use Rattle.sa_bytes.specs.SaPacket.{attribute_data, component_mask, lid_data, pa
 use Rattle.sa_bytes.specs.declared.node_record.NodeRecord.{NodeRecord}
 use Rattle.sa_bytes.specs.declared.path_record.PathRecord.{PathRecord}
 use Rattle.sa_bytes.specs.declared.port_info_record.PortInfoRecord.{PortInfoRecord}
-use Rattle.sa_answers.specs.NodeReply.{description_bit, first_node, first_suited, info_of, is_owner, node_lid_bit, node_reply, node_told, node_with, nodes_suited, only_node, suits_info, suits_node}
+use Rattle.sa_answers.specs.NodeReply.{description_bit, info_of, is_owner, node_lid_bit, node_reply, node_told, node_with, only_node, suits_info}
 use Rattle.sa_answers.specs.PathReply.{gives, path_between, path_or_none, path_reply, reply_between, source_said, target_said}
 use Rattle.sa_answers.specs.PortReply.{end_port_lid_bit, goes_by, most_of_mask, port_num_bit, info_at, port_reply, port_told, port_with, reply_at, reply_of_owner}
-use Rattle.sa_answers.specs.RecordLaws.{AsksForPort, IsGetOf, IsOnlyNode, IsPortOfOwner, NodesAreTold, NodesToldAreThePlans, PortsAreTold, PortsToldAreThePlans, suits_request}
+use Rattle.sa_answers.specs.RecordLaws.{AsksForPort, IsPortOfOwner, NodesAreTold, NodesToldAreThePlans, PortsAreTold, PortsToldAreThePlans, suits_request}
 use Rattle.sa_answers.specs.Ends.{end_asked}
 use Rattle.sa_answers.specs.Reply.{record_reply, reply_to}
 use Rattle.sa_answers.specs.Told.{Told}
@@ -36,7 +36,7 @@ use Rattle.sa_answers.specs.declared.reply.SaRefusal.{SaRefusal}
 use Rattle.sa_answers.specs.declared.reply.SaRefusal.TheVariants.{NotSupported, NoRecords, TooManyRecords, InsufficientComponents}
 
 -- a reply is about a record, and not a refusal, ClassPortInfo or a path
-is_record : Reply → Bool
+abbrev is_record : Reply → Bool
 is_record (Refused refusal) = false
 is_record Info = false
 is_record (Path path) = false
@@ -61,6 +61,13 @@ no_record_between told mask asked Nobody Nobody = refl
 no_record_between told mask asked Nobody (Known target dlid) = refl
 no_record_between told mask asked (Known source slid) Nobody = refl
 
+-- the replies about paths and about ports
+abbrev paths_of : Told → List ℕ → Reply
+paths_of told request = path_reply told (number_in component_mask request) (path_record_in (bytes_in path_data request))
+
+abbrev port_of : Told → List ℕ → Reply
+port_of told request = port_reply told (number_in component_mask request) (number_in lid_data request) (number_in port_data request)
+
 -- a request whose reply is about a record is a Get of it
 record Asked (told : Told) (request : List ℕ) (r : Reply) : Type 0 where
   is_get : (number_in method request == sa_get) ≡ true
@@ -72,18 +79,14 @@ asked_is : (told : Told) (request : List ℕ) (r : Reply) → is_record r ≡ tr
 asked_is told request r some e =
     go (number_in method request == sa_get) (number_in attribute_id request == 0x0001) (number_in attribute_id request == 0x0035) refl refl refl e
   where
-    paths : Reply
-    paths = path_reply told (number_in component_mask request) (path_record_in (bytes_in path_data request))
-
-    no_path : is_record paths ≡ false
-    unfolding paths
+    no_path : is_record (paths_of told request) ≡ false
     no_path =
         let mask = number_in component_mask request in
         let asked = path_record_in (bytes_in path_data request) in
         no_record_between told mask asked (end_asked told (source_said mask asked)) (end_asked told (target_said mask asked))
 
     go : (a b c : Bool) → (number_in method request == sa_get) ≡ a → (number_in attribute_id request == 0x0001) ≡ b → (number_in attribute_id request == 0x0035) ≡ c
-        → cond a (cond b Info (cond c paths (record_reply told (number_in attribute_id request) request))) (Refused NotSupported) ≡ r → Asked told request r
+        → cond a (cond b Info (cond c (paths_of told request) (record_reply told (number_in attribute_id request) request))) (Refused NotSupported) ≡ r → Asked told request r
     go true false false a b c u = record { is_get = a; not_info = b; not_path = c; its = u }
     go true true c a b c' u = absurd (true≢false (sym some ∙ ap is_record (sym u)))
     go true false true a b c u = absurd (true≢false (sym some ∙ ap is_record (sym u) ∙ no_path))
@@ -228,16 +231,12 @@ node_asked : (told : Told) (request : List ℕ) (r : NodeRecord) → record_repl
 node_asked told request r e =
     go (number_in attribute_id request == 0x0011) (number_in attribute_id request == 0x0012) (gives (number_in component_mask request) description_bit) refl e
   where
-    of_port : Reply
-    of_port = port_reply told (number_in component_mask request) (number_in lid_data request) (number_in port_data request)
-
-    no_node : of_port ≡ Node r → ⊥
-    unfolding of_port
+    no_node : port_of told request ≡ Node r → ⊥
     no_node u = no_node_of_port told (number_in component_mask request) (number_in lid_data request) (number_in port_data request) r u
 
     go : (a b d : Bool) → (number_in attribute_id request == 0x0011) ≡ a
         → cond a (cond d (Refused NotSupported) (only_node (count_by (suits_request told request) told.plan.given.ports)
-        (option_and_then (node_told told) (find (suits_request told request) told.plan.given.ports)))) (cond b of_port (Refused NotSupported)) ≡ Node r
+        (option_and_then (node_told told) (find (suits_request told request) told.plan.given.ports)))) (cond b (port_of told request) (Refused NotSupported)) ≡ Node r
         → ((number_in attribute_id request == 0x0011) ≡ true)
         × Found told (count_by (suits_request told request) told.plan.given.ports) (find (suits_request told request) told.plan.given.ports) r
     go true b false a u = (a, found_is told (count_by (suits_request told request) told.plan.given.ports) (find (suits_request told request) told.plan.given.ports) r u)
@@ -262,9 +261,6 @@ port_asked told request r e =
     (count_by (suits_request told request) told.plan.given.ports)
     (option_and_then (node_told told) (find (suits_request told request) told.plan.given.ports)) refl e
   where
-    of_port : Reply
-    of_port = port_reply told (number_in component_mask request) (number_in lid_data request) (number_in port_data request)
-
     no_port : (count : ℕ) (o : Option NodeRecord) → only_node count o ≡ Port r → ⊥
     no_port count None u = absurd (cc)
     no_port count (Some s) u = by (count == 1) u
@@ -274,10 +270,9 @@ port_asked told request r e =
         by false w = absurd (cc)
 
     go : (a b d : Bool) (count : ℕ) (o : Option NodeRecord) → (number_in attribute_id request == 0x0012) ≡ b
-        → cond a (cond d (Refused NotSupported) (only_node count o)) (cond b of_port (Refused NotSupported)) ≡ Port r
+        → cond a (cond d (Refused NotSupported) (only_node count o)) (cond b (port_of told request) (Refused NotSupported)) ≡ Port r
         → ((number_in attribute_id request == 0x0012) ≡ true)
         × (port_reply told (number_in component_mask request) (number_in lid_data request) (number_in port_data request) ≡ Port r)
-    unfolding of_port
     go true b false count o is u = absurd (no_port count o u)
     go true b true count o is u = absurd (cc)
     go false true d count o is u = (is, u)
@@ -321,17 +316,19 @@ nodes_of_plan told request r e =
       }
     )
 
+-- a count with one more before
+count_more : (p : EndPort × ℕ → Bool) (y : EndPort × ℕ) (xs : List (EndPort × ℕ)) → count_by p (y ∷ xs) ≡ cond (p y) 1 0 + count_by p xs
+count_more p y xs = sum_by-cons (λ (x : EndPort × ℕ). cond (p x) 1 0) y xs
+
 -- a count of 1 finds one
 counted : (p : EndPort × ℕ → Bool) (xs : List (EndPort × ℕ)) → count_by p xs ≡ 1 → (x : EndPort × ℕ) × (find p xs ≡ Some x) × (p x ≡ true)
-counted p [] e = absurd (zero-one e)
+counted p [] e = let no : ⊥ = omega (arith, e) in absurd no
+counted p (y ∷ xs) e = go (counted p xs) (p y) refl (sym (count_more p y xs) ∙ e)
   where
-    zero-one : 0 ≡ 1 → ⊥
-    zero-one u = omega (arith, u)
-counted p (y ∷ xs) e = go (p y) refl e
-  where
-    go : (b : Bool) → p y ≡ b → cond b (suc (count_by p xs)) (count_by p xs) ≡ 1 → (x : EndPort × ℕ) × (find p (y ∷ xs) ≡ Some x) × (p x ≡ true)
-    go true h u = (y, ap (λ b. cond b (Some y) (find p xs)) h, h)
-    go false h u = let its = counted p xs u in (its.0, ap (λ b. cond b (Some y) (find p xs)) h ∙ its.1.0, its.1.1)
+    go : (count_by p xs ≡ 1 → (x : EndPort × ℕ) × (find p xs ≡ Some x) × (p x ≡ true)) → (b : Bool) → p y ≡ b → cond b 1 0 + count_by p xs ≡ 1
+        → (x : EndPort × ℕ) × (find p (y ∷ xs) ≡ Some x) × (p x ≡ true)
+    go later true h u = (y, ap (λ b. cond b (Some y) (find p xs)) h, h)
+    go later false h u = let less : count_by p xs ≡ 1 = omega (arith, u) in let its = later less in (its.0, ap (λ b. cond b (Some y) (find p xs)) h ∙ its.1, its.2)
 
 -- who suits has a record
 has_record : (told : Told) (request : List ℕ) (x : EndPort × ℕ) → suits_request told request x ≡ true → (r : NodeRecord) × (node_told told x ≡ Some r)
@@ -350,10 +347,10 @@ pub nodes_told : NodesAreTold
 nodes_told told request asks by_name one =
     let n = number_in attribute_id request in
     let found = counted (suits_request told request) told.plan.given.ports one in
-    let has = has_record told request found.0 found.1.1 in
+    let has = has_record told request found.0 found.2 in
     let only : only_node (count_by (suits_request told request) told.plan.given.ports)
     (option_and_then (node_told told) (find (suits_request told request) told.plan.given.ports)) ≡ Node has.0 =
-    (λ i. only_node (one i) (option_and_then (node_told told) (found.1.0 i))) ∙ ap (only_node 1) has.1 in
+    (λ i. only_node (one i) (option_and_then (node_told told) (found.1 i))) ∙ ap (only_node 1) has.1 in
     let told_node : record_reply told n request ≡ Node has.0 =
     ap (λ b. cond b (node_reply told (number_in component_mask request) (number_in lid_data request) (node_info_in (bytes_in attribute_data request)))
     (cond (n == 0x0012) (port_reply told (number_in component_mask request) (number_in lid_data request) (number_in port_data request)) (Refused NotSupported)))

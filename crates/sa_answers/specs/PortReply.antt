@@ -8,7 +8,6 @@ use Rattle.subnet_view.specs.declared.end_port.EndPort.{EndPort}
 use Rattle.lid_assign.specs.Lids.{lid_of, lmc_of, owner_of}
 use Rattle.plan_steps.specs.Carried.{link_local_prefix, or_default}
 use Rattle.sweep.specs.Images.{image_at}
-use Rattle.sa_bytes.specs.declared.port_info_record.PortInfoRecord.{PortInfoRecord}
 use Rattle.sa_answers.specs.Ends.{end_by_guid}
 use Rattle.sa_answers.specs.PathReply.{gives}
 use Rattle.sa_answers.specs.Told.{Told}
