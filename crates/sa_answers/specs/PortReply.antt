@@ -43,7 +43,7 @@ info_told lid count master image =
     (with_number gid_prefix (or_default link_local_prefix (number_in gid_prefix image)) (with_number m_key 0 image))))
 
 -- the PortInfo of a port, of whose node `e` is an end port with the first LID `lid`. A port of a switch that is no end
--- port has no LID, and 0 in the place of the manager's
+-- port has no LID, and MasterSMLID 0
 abbrev pub info_at : Told → EndPort → ℕ → ℕ → List ℕ → List ℕ
 info_at told e lid port image =
     if port == e.port then info_told lid (lmc_of told.plan.given e) (master_lid told) image else info_told 0 0 0 image
