@@ -298,8 +298,7 @@ nodes_of_plan told request r e =
     let asked = asked_is told request (Node r) refl e in
     let (of_node, found) = node_asked told request r asked.its in
     let made = node_made told found.x r found.told_is in
-    let there = found_there (suits_request told request) told.plan.given.ports found.x found.is in
-    (
+    let there = found_there (suits_request told request) told.plan.given.ports found.x found.is in (
       (yes (number_in method request) sa_get asked.is_get, yes (number_in attribute_id request) node_record of_node),
       record {
         end = found.x.0;
@@ -313,7 +312,7 @@ nodes_of_plan told request r e =
         info_is = made.info_is;
         suits = there.1;
         no_others = found.one;
-      }
+      },
     )
 
 -- a count with one more before
@@ -363,10 +362,9 @@ nodes_told told request asks by_name one =
 pub ports_of_plan : PortsToldAreThePlans
 ports_of_plan told request r e =
     let asked = asked_is told request (Port r) refl e in
-    let (of_port, told_port) = port_asked told request r asked.its in
-    (
+    let (of_port, told_port) = port_asked told request r asked.its in (
       (yes (number_in method request) sa_get asked.is_get, yes (number_in attribute_id request) port_info_record of_port),
-      port_owned told request (number_in component_mask request) (number_in lid_data request) (number_in port_data request) r refl told_port
+      port_owned told request (number_in component_mask request) (number_in lid_data request) (number_in port_data request) r refl told_port,
     )
 
 pub ports_told : PortsAreTold

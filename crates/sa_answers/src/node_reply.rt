@@ -94,12 +94,7 @@ fn first_node(told: &Told<'_>, mask: u64, lid: Lid, asked: &NodeInfo) -> Option<
 }
 
 /// Returns the first of them, with its first LID.
-fn first_suited(
-    told: &Told<'_>,
-    mask: u64,
-    lid: Lid,
-    asked: &NodeInfo,
-) -> Option<(EndPort, Lid)>
+fn first_suited(told: &Told<'_>, mask: u64, lid: Lid, asked: &NodeInfo) -> Option<(EndPort, Lid)>
     ensures { result ≡ first_suited (value_of told.now) mask lid asked.now }
 {
     told.plan

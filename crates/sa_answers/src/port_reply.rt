@@ -30,7 +30,12 @@ pub(crate) fn port_reply(told: &Told<'_>, mask: u64, lid: Lid, port: PortNum) ->
     if MOST_OF_MASK < mask {
         Reply::Refused(SaRefusal::NotSupported)
     } else if gives(mask, END_PORT_LID) {
-        reply_of_owner(told, gives(mask, PORT_NUM), port, told.plan.lids().owner(lid))
+        reply_of_owner(
+            told,
+            gives(mask, PORT_NUM),
+            port,
+            told.plan.lids().owner(lid),
+        )
     } else {
         Reply::Refused(SaRefusal::InsufficientComponents)
     }
@@ -38,12 +43,7 @@ pub(crate) fn port_reply(told: &Told<'_>, mask: u64, lid: Lid, port: PortNum) ->
 
 /// Returns the reply to a request for a port of the owner of a LID, if there is one. `is_named` says whether the request
 /// names the port `port`.
-fn reply_of_owner(
-    told: &Told<'_>,
-    is_named: bool,
-    port: PortNum,
-    owner: Option<EndPort>,
-) -> Reply
+fn reply_of_owner(told: &Told<'_>, is_named: bool, port: PortNum, owner: Option<EndPort>) -> Reply
     ensures { result ≡ reply_of_owner (value_of told.now) is_named port owner }
 {
     match owner {
@@ -121,7 +121,11 @@ fn info_told(lid: Lid, count: Lmc, master: Lid, image: PortInfo) -> PortInfo
     let prefix = image.gid_prefix();
     let mut info = image;
     info.set_m_key(0);
-    info.set_gid_prefix(if prefix == 0 { LINK_LOCAL_PREFIX } else { prefix });
+    info.set_gid_prefix(if prefix == 0 {
+        LINK_LOCAL_PREFIX
+    } else {
+        prefix
+    });
     info.set_base_lid(lid);
     info.set_master_sm_lid(master);
     info.set_lmc(count);
