@@ -8,7 +8,7 @@
 #include "seat.h"
 
 enum { CLASS_VERSION = 2, SA_KEY = 36, OFFSET = 44, RMPP_FLAGS = 26, NOT_SUPPORTED = 0x000c };
-enum { CLASS_PORT_INFO = 0x01, PATH_RECORD = 0x35 };
+enum { CLASS_PORT_INFO = 0x01, NODE_RECORD = 0x11, PORT_INFO_RECORD = 0x12, PATH_RECORD = 0x35 };
 #define Q_KEY 0x80010000	/* of queue pair 1, to which answers go */
 
 static int agent = -1;
@@ -62,7 +62,8 @@ static int may_be_answered(const uint8_t *packet)
 {
 	unsigned attribute = get(packet + 16, 2);
 
-	return packet[3] == GET && (attribute == CLASS_PORT_INFO || attribute == PATH_RECORD);
+	return packet[3] == GET && (attribute == CLASS_PORT_INFO || attribute == NODE_RECORD || attribute == PORT_INFO_RECORD
+				    || attribute == PATH_RECORD);
 }
 
 /* Says once, or with --verbose each time, that a host is refused. */

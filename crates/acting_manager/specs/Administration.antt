@@ -25,7 +25,8 @@ standing_sweep a = if stands a && is_whole a.manager then swept_of a.manager.swe
 -- what is told by the facts of a manager, its last sweep if that is done, and the plan of its last writing, if there is
 -- one
 abbrev pub told_by : Manager → Option Sweep → Option PlanValue → Option Told
-told_by m (Some s) (Some plan) = Some (record { cells = cells_of m.store; plan = plan; images = s.images.ports })
+told_by m (Some s) (Some plan) =
+    Some (record { cells = cells_of m.store; plan = plan; images = s.images.ports; own = m.standing.guid })
 told_by m s plan = None
 
 -- what is told: nothing if the manager is not master, if the plan of its last writing is not written, if another manager

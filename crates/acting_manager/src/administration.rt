@@ -73,6 +73,7 @@ impl ActingManager {
             store: self.manager.store(),
             plan,
             sweep,
+            own: self.manager.info().guid,
         };
         Some(answer_of(&told, request))
     }

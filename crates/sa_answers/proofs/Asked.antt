@@ -1,7 +1,7 @@
 -- A path that is told is that between the two ends that were asked for, and each end has the LID that is told.
 use Rattle.std.proofs.Common.{◌≡◌, ℕ, Bool, true, false, cond, ◌==◌, ◌&&◌, List, Option, None, Some, refl, sym, ap, ◌∙◌, subst}
 use Rattle.std.proofs.lemmas.Option.{same_Some}
-use Rattle.std.specs.Prelude.{Contains, option_map}
+use Rattle.std.specs.Prelude.{Contains, nat_lt, option_map}
 use Rattle.smp_bytes.specs.Field.{bytes_in, number_in}
 use Rattle.smp_bytes.specs.Packet.{attribute_id, method}
 use Rattle.smp_bytes.proofs.LidRanges.{has_its_lid}
@@ -9,25 +9,30 @@ use Rattle.fact_store.specs.View.{Facts, cells_of}
 use Rattle.reply_facts.specs.Known.{port_guid_of}
 use Rattle.subnet_view.specs.declared.end_port.EndPort.{EndPort}
 use Rattle.subnet_view.proofs.Apart.{found_there}
-use Rattle.lid_assign.specs.Lids.{IsNoRoom, lids, lmc_of, owner_of}
+use Rattle.lid_assign.specs.Lids.{IsNoRoom, lid_of, lids, lmc_of, owner_of}
 use Rattle.lid_assign.proofs.LidLaws.{lids_law, ports_apart}
 use Rattle.lid_assign.proofs.Owners.{lid-from_given, owners_are_inverse}
 use Rattle.plan_steps.specs.Carried.{link_local_prefix}
 use Rattle.sa_bytes.specs.PathRecord.{path_record_in}
-use Rattle.sa_bytes.specs.SaPacket.{component_mask, path_data}
+use Rattle.sa_bytes.specs.SaPacket.{attribute_data, component_mask, lid_data, path_data, port_data}
+use Rattle.sa_bytes.specs.declared.node_record.NodeRecord.{NodeRecord}
+use Rattle.attr_codec.specs.NodeInfo.{node_info_in}
+use Rattle.sweep.specs.Images.{image_at}
 use Rattle.sa_bytes.specs.declared.path_record.PathRecord.{PathRecord}
 use Rattle.sa_answers.specs.Bound.{lesser}
 use Rattle.sa_answers.specs.Ends.{both_ends, end_asked, end_by_gid, end_by_guid, end_by_lid, end_of, has_guid}
-use Rattle.sa_answers.specs.PathReply.{life_of, path_between, path_of, path_or_none, path_reply, path_with, reply_between, source_said, suits_path, target_said}
-use Rattle.sa_answers.specs.Reply.{reply_to}
+use Rattle.sa_answers.specs.PathReply.{gives, life_of, path_between, path_of, path_or_none, path_reply, path_with, reply_between, source_said, suits_path, target_said}
+use Rattle.sa_answers.specs.NodeReply.{description_bit, first_node, nodes_suited, only_node}
+use Rattle.sa_answers.specs.PortReply.{end_port_lid_bit, goes_by, most_of_mask, port_num_bit, port_told, port_with, reply_of_owner}
+use Rattle.sa_answers.specs.Reply.{record_reply, reply_to}
 use Rattle.sa_answers.specs.Told.{Told}
 use Rattle.sa_answers.specs.Way.{bound_of_way}
 use Rattle.sa_answers.specs.declared.bound.Bound.{Bound}
 use Rattle.sa_answers.specs.declared.ends.EndAsked.{EndAsked}
 use Rattle.sa_answers.specs.declared.ends.EndAsked.TheVariants.{Nobody, Unknown, Known}
 use Rattle.sa_answers.specs.declared.ends.EndSaid.{EndSaid}
-use Rattle.sa_answers.specs.declared.reply.Reply.TheVariants.{Refused, Info, Path}
-use Rattle.sa_answers.specs.declared.reply.SaRefusal.TheVariants.{NotSupported}
+use Rattle.sa_answers.specs.declared.reply.Reply.TheVariants.{Refused, Info, Path, Node}
+use Rattle.sa_answers.specs.declared.reply.SaRefusal.TheVariants.{NotSupported, NoRecords, TooManyRecords, InsufficientComponents}
 
 -- what a path was made of
 pub record MadeOf (told : Told) (mask : ℕ) (asked : PathRecord) (source : EndPort) (slid : ℕ) (target : EndPort) (dlid : ℕ) (path : PathRecord) : Type 0 where
@@ -108,6 +113,56 @@ between told mask asked path e = go (end_asked told (source_said mask asked)) (e
     go (Known s slid) Unknown s_is d_is u = absurd (cc)
     go (Known s slid) Nobody s_is d_is u = absurd (cc)
 
+-- a reply about a node tells no path
+no_node_path : (count : ℕ) (o : Option NodeRecord) (path : PathRecord) → only_node count o ≡ Path path → ⊥
+no_node_path count None path e = absurd (cc)
+no_node_path count (Some r) path e = go (count == 1) e
+  where
+    go : (b : Bool) → cond b (Node r) (Refused TooManyRecords) ≡ Path path → ⊥
+    go true u = absurd (cc)
+    go false u = absurd (cc)
+
+-- a reply about a port tells no path
+no_port_path : (told : Told) (e : EndPort) (port : ℕ) (path : PathRecord) → port_told told e port ≡ Path path → ⊥
+no_port_path told e port path u = go (lid_of told.plan.given e) (image_at told.images e.node port) u
+  where
+    go : (l : Option ℕ) (i : Option (List ℕ)) → port_with told e port l i ≡ Path path → ⊥
+    go None i u = absurd (cc)
+    go (Some l) None u = absurd (cc)
+    go (Some l) (Some i) u = absurd (cc)
+
+no_path_at : (told : Told) (named : Bool) (port : ℕ) (o : Option EndPort) (path : PathRecord) → reply_of_owner told named port o ≡ Path path → ⊥
+no_path_at told named port None path u = absurd (cc)
+no_path_at told named port (Some e) path u = go named (goes_by e port) (e.port == 0) u
+  where
+    go : (n g z : Bool) → cond n (cond g (port_told told e port) (Refused NoRecords)) (cond z (Refused TooManyRecords) (port_told told e e.port)) ≡ Path path → ⊥
+    go true true z w = no_port_path told e port path w
+    go true false z w = absurd (cc)
+    go false g true w = absurd (cc)
+    go false g false w = no_port_path told e e.port path w
+
+-- nor does a reply about another record
+no_path : (told : Told) (attribute : ℕ) (request : List ℕ) (path : PathRecord) → record_reply told attribute request ≡ Path path → ⊥
+no_path told attribute request path e =
+    let mask = number_in component_mask request in
+    let lid = number_in lid_data request in
+    let port = number_in port_data request in
+    let info = node_info_in (bytes_in attribute_data request) in
+    let owner = owner_of told.plan.given lid in
+    go (attribute == 0x0011) (attribute == 0x0012) (gives mask description_bit) (nat_lt most_of_mask mask) (gives mask end_port_lid_bit)
+    (nodes_suited told mask lid info) (first_node told mask lid info) (gives mask port_num_bit) port owner e
+  where
+    go : (a b d m l : Bool) (count : ℕ) (first : Option NodeRecord) (named : Bool) (port : ℕ) (owner : Option EndPort)
+        → cond a (cond d (Refused NotSupported) (only_node count first))
+        (cond b (cond m (Refused NotSupported) (cond l (reply_of_owner told named port owner) (Refused InsufficientComponents))) (Refused NotSupported)) ≡ Path path
+        → ⊥
+    go true b true m l count first named port owner u = absurd (cc)
+    go true b false m l count first named port owner u = no_node_path count first path u
+    go false true d true l count first named port owner u = absurd (cc)
+    go false true d false true count first named port owner u = no_path_at told named port owner path u
+    go false true d false false count first named port owner u = absurd (cc)
+    go false false d m l count first named port owner u = absurd (cc)
+
 -- it is told for a request that asks for a path
 asked_for : (told : Told) (request : List ℕ) (path : PathRecord) → reply_to told request ≡ Path path
     → path_reply told (number_in component_mask request) (path_record_in (bytes_in path_data request)) ≡ Path path
@@ -115,11 +170,11 @@ asked_for told request path e =
     get (number_in method request == 0x01) (number_in attribute_id request == 0x0001) (number_in attribute_id request == 0x0035) e
   where
     get : (a b c : Bool) → cond a (cond b Info (cond c (path_reply told (number_in component_mask request) (path_record_in (bytes_in path_data request)))
-        (Refused NotSupported))) (Refused NotSupported) ≡ Path path
+        (record_reply told (number_in attribute_id request) request))) (Refused NotSupported) ≡ Path path
         → path_reply told (number_in component_mask request) (path_record_in (bytes_in path_data request)) ≡ Path path
     get true false true u = u
     get true true c u = absurd (cc)
-    get true false false u = absurd (cc)
+    get true false false u = absurd (no_path told (number_in attribute_id request) request path u)
     get false b c u = absurd (cc)
 
 pub told_between : (told : Told) (request : List ℕ) (path : PathRecord) → reply_to told request ≡ Path path

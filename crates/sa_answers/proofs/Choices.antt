@@ -11,3 +11,8 @@ pub second : {A : Type 0} (a b : Bool) (x y z : A) → a ≡ false → b ≡ tru
 second true b x y z f t = absurd (cc)
 second false true x y z f t = refl
 second false false x y z f t = absurd (cc)
+
+-- the first of two
+pub first : {A : Type 0} (a : Bool) (x y : A) → a ≡ true → x ≡ cond a x y
+first true x y t = refl
+first false x y t = absurd (cc)

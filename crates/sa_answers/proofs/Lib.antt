@@ -5,6 +5,7 @@ pub mod Following
 pub mod HeldPaths
 pub mod HeldWays
 pub mod Least
+pub mod Records
 pub mod Replies
 pub mod SomePath
 pub mod ToldPaths

@@ -26,7 +26,7 @@ use Rattle.sa_answers.specs.declared.reply.Reply.TheVariants.{Path}
 
 -- the facts, their plan, and no PortInfo
 abbrev told : Told
-told = record { cells = cells; plan = plan_of up_and_down 1 cells; images = [] }
+told = record { cells = cells; plan = plan_of up_and_down 1 cells; images = []; own = 0 }
 
 abbrev one : EndPort
 one = record { node = 256; port = 1 }

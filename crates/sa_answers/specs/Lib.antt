@@ -3,8 +3,11 @@ pub mod AnsweredRequests
 pub mod Bound
 pub mod Ends
 pub mod PathLaws
+pub mod NodeReply
 pub mod PathReply
+pub mod PortReply
 pub mod Rates
 pub mod Reply
+pub mod RecordLaws
 pub mod Told
 pub mod Way

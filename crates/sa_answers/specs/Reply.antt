@@ -3,23 +3,39 @@
 use Rattle.std.specs.Prelude.{ℕ, ◌==◌, List, [], if◌then◌else◌}
 use Rattle.smp_bytes.specs.Field.{bytes_in, number_in}
 use Rattle.smp_bytes.specs.Packet.{attribute_id, method}
+use Rattle.attr_codec.specs.NodeInfo.{node_info_in}
 use Rattle.sa_bytes.specs.Answer.{sa_answer}
 use Rattle.sa_bytes.specs.ClassPortInfo.{class_port_info_bytes}
-use Rattle.sa_bytes.specs.Numbers.{class_port_info, insufficient_components, no_records, not_supported, path_record, sa_done, sa_get}
+use Rattle.sa_bytes.specs.Numbers.{class_port_info, insufficient_components, no_records, node_record, not_supported, path_record, port_info_record, sa_done, sa_get, too_many_records}
+use Rattle.sa_bytes.specs.NodeRecord.{node_record_bytes}
 use Rattle.sa_bytes.specs.PathRecord.{path_record_bytes, path_record_in}
-use Rattle.sa_bytes.specs.SaPacket.{component_mask, path_data}
+use Rattle.sa_bytes.specs.PortInfoRecord.{port_info_record_bytes}
+use Rattle.sa_bytes.specs.SaPacket.{attribute_data, component_mask, lid_data, path_data, port_data}
+use Rattle.sa_answers.specs.NodeReply.{node_reply}
 use Rattle.sa_answers.specs.PathReply.{path_reply}
+use Rattle.sa_answers.specs.PortReply.{port_reply}
 use Rattle.sa_answers.specs.Told.{Told}
 use Rattle.sa_answers.specs.declared.reply.SaRefusal.{SaRefusal}
-use Rattle.sa_answers.specs.declared.reply.SaRefusal.TheVariants.{NotSupported, NoRecords, InsufficientComponents}
+use Rattle.sa_answers.specs.declared.reply.SaRefusal.TheVariants.{NotSupported, NoRecords, TooManyRecords, InsufficientComponents}
 use Rattle.sa_answers.specs.declared.reply.Reply.{Reply}
-use Rattle.sa_answers.specs.declared.reply.Reply.TheVariants.{Refused, Info, Path}
+use Rattle.sa_answers.specs.declared.reply.Reply.TheVariants.{Refused, Info, Path, Node, Port}
 
 -- the status that says why a request is refused
 abbrev pub refusal_status : SaRefusal → ℕ
 refusal_status NotSupported = not_supported
 refusal_status NoRecords = no_records
+refusal_status TooManyRecords = too_many_records
 refusal_status InsufficientComponents = insufficient_components
+
+-- the reply to a request for one record of the attribute `attribute`, which is not a path
+abbrev pub record_reply : Told → ℕ → List ℕ → Reply
+record_reply told attribute request =
+    if attribute == node_record
+    then node_reply told (number_in component_mask request) (number_in lid_data request)
+    (node_info_in (bytes_in attribute_data request))
+    else (if attribute == port_info_record
+    then port_reply told (number_in component_mask request) (number_in lid_data request) (number_in port_data request)
+    else Refused NotSupported)
 
 -- the reply to a request for one record of the attribute `attribute`
 abbrev pub reply_to_get : Told → ℕ → List ℕ → Reply
@@ -27,9 +43,9 @@ reply_to_get told attribute request =
     if attribute == class_port_info then Info
     else (if attribute == path_record
     then path_reply told (number_in component_mask request) (path_record_in (bytes_in path_data request))
-    else Refused NotSupported)
+    else record_reply told attribute request)
 
--- the reply to a request: Get of ClassPortInfo and of PathRecord are supported
+-- the reply to a request: Get of ClassPortInfo, PathRecord, NodeRecord and PortInfoRecord is supported
 abbrev pub reply_to : Told → List ℕ → Reply
 reply_to told request =
     if number_in method request == sa_get then reply_to_get told (number_in attribute_id request) request
@@ -40,18 +56,24 @@ abbrev pub status_of : Reply → ℕ
 status_of (Refused refusal) = refusal_status refusal
 status_of Info = sa_done
 status_of (Path path) = sa_done
+status_of (Node r) = sa_done
+status_of (Port r) = sa_done
 
--- AttributeOffset of a reply: a path has 64 bytes, 8 units of 8; ClassPortInfo is no record
+-- AttributeOffset of a reply, in units of 8 bytes: a path has 64 bytes, a node 112, a port 72; ClassPortInfo is no record
 abbrev pub offset_of : Reply → ℕ
 offset_of (Refused refusal) = 0
 offset_of Info = 0
 offset_of (Path path) = 8
+offset_of (Node r) = 14
+offset_of (Port r) = 9
 
 -- the bytes of a reply; none if the request is refused
 abbrev pub bytes_of : Reply → List ℕ
 bytes_of (Refused refusal) = []
 bytes_of Info = class_port_info_bytes
 bytes_of (Path path) = path_record_bytes path
+bytes_of (Node r) = node_record_bytes r
+bytes_of (Port r) = port_info_record_bytes r
 
 -- the packet that answers a request
 abbrev pub answer_to : Told → List ℕ → List ℕ

@@ -4,16 +4,20 @@ ghost use Rattle.smp_bytes.specs.Field.{bytes_in, number_in};
 ghost use Rattle.smp_bytes.specs.Packet.{attribute_id};
 ghost use Rattle.sa_bytes.specs.Answer.{sa_answer};
 ghost use Rattle.sa_bytes.specs.PathRecord.{path_record_in};
-ghost use Rattle.sa_answers.specs.Reply.{answer_to, bytes_of, offset_of, reply_to, reply_to_get, status_of};
+ghost use Rattle.sa_answers.specs.Reply.{answer_to, bytes_of, offset_of, record_reply, reply_to, reply_to_get, status_of};
 ghost use Rattle.sa_answers.specs.Told.{value_of};
 
+use crate::node_reply::node_reply;
 use crate::path_reply::path_reply;
+use crate::port_reply::port_reply;
 use crate::reply::{Reply, SaRefusal};
 use crate::told::Told;
+use attr_codec::{Attribute, NodeInfo};
 use sa_bytes::{PathRecord, SaAttributeId, SaMethod, SaRequest, SaStatus, sa_class_port_info};
 
-/// Returns the answer to `request` by what is told. Get of ClassPortInfo and of PathRecord are supported. A path is told
-/// if packets arrive on it there and back, and if it is as the request asks. Does not allocate.
+/// Returns the answer to `request` by what is told. Get of ClassPortInfo, PathRecord,
+/// NodeRecord and PortInfoRecord is supported. A path is told if packets arrive on it there and back, and if it is as the
+/// request asks; a node or a port, if no other is as the request asks. Does not allocate.
 pub fn answer_of(told: &Told<'_>, request: &SaRequest) -> [u8; 256]
     ensures { result ≡ answer_to (value_of told.now) request.now }
 {
@@ -28,6 +32,8 @@ fn answer_with(request: &SaRequest, reply: Reply) -> [u8; 256]
         Reply::Refused(refusal) => request.answer(refusal.status(), 0, &[]),
         Reply::Info => request.answer(SaStatus::DONE, 0, &sa_class_port_info()),
         Reply::Path(path) => request.answer(SaStatus::DONE, 8, &path.encode()),
+        Reply::Node(record) => request.answer(SaStatus::DONE, 14, &record.encode()),
+        Reply::Port(record) => request.answer(SaStatus::DONE, 9, &record.encode()),
     }
 }
 
@@ -54,6 +60,29 @@ fn reply_to_get(told: &Told<'_>, request: &SaRequest) -> Reply
             told,
             request.component_mask(),
             &PathRecord::decode(&request.path_data()),
+        )
+    } else {
+        record_reply(told, attribute, request)
+    }
+}
+
+/// Returns the reply to a request for a record of the attribute `attribute`, which is not a path.
+fn record_reply(told: &Told<'_>, attribute: SaAttributeId, request: &SaRequest) -> Reply
+    ensures { result ≡ record_reply (value_of told.now) attribute.0 request.now }
+{
+    if attribute == SaAttributeId::NODE_RECORD {
+        node_reply(
+            told,
+            request.component_mask(),
+            request.lid(),
+            &NodeInfo::decode(&request.attribute_data()),
+        )
+    } else if attribute == SaAttributeId::PORT_INFO_RECORD {
+        port_reply(
+            told,
+            request.component_mask(),
+            request.lid(),
+            request.port(),
         )
     } else {
         Reply::Refused(SaRefusal::NotSupported)

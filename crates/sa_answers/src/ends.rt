@@ -89,7 +89,7 @@ fn end_by_gid(told: &Told<'_>, prefix: u64, guid: Guid) -> Option<(EndPort, Lid)
 }
 
 /// Returns the end port with this port GUID, and its first LID. Looks at each end port in turn.
-fn end_by_guid(told: &Told<'_>, guid: Guid) -> Option<(EndPort, Lid)>
+pub(crate) fn end_by_guid(told: &Told<'_>, guid: Guid) -> Option<(EndPort, Lid)>
     ensures { result ≡ end_by_guid (value_of told.now) guid }
 {
     told.plan

@@ -2,6 +2,7 @@
 ghost use Rattle.sa_answers.specs.AnswerLaws.{AnswersAreTheRequests, DoneIfTold};
 ghost use Rattle.sa_answers.specs.AnsweredRequests.{PathsAreTold, SomePathIsTold};
 ghost use Rattle.sa_answers.specs.PathLaws.{PathsToldAreHeld};
+ghost use Rattle.sa_answers.specs.RecordLaws.{NodesAreTold, NodesToldAreThePlans, PortsAreTold, PortsToldAreThePlans};
 
 /// An answer has the request's TransactionID, attribute, modifier and component mask, and the method that answers the
 /// request's.
@@ -32,4 +33,26 @@ pub fn paths_are_told()
 /// the GID of an adapter and the second LID of another.
 pub fn some_path_is_told()
     ensures { SomePathIsTold }
+{}
+
+/// A node that is told is that of the only end port that is as the request asks: with its first LID by the plan, and by
+/// the facts its port GUID, and the type and the number of ports of its node.
+pub fn nodes_told_are_the_plans()
+    ensures { NodesToldAreThePlans }
+{}
+
+/// If exactly one end port is as a request for a node asks, a node is told.
+pub fn nodes_are_told()
+    ensures { NodesAreTold }
+{}
+
+/// A port that is told is one of the owner of the LID in the request. It has the PortInfo that the sweep read, with LID,
+/// LMC and MasterSMLID as the plan writes them, and without the M_Key.
+pub fn ports_told_are_the_plans()
+    ensures { PortsToldAreThePlans }
+{}
+
+/// If the sweep kept the PortInfo of a port, a request for it by the LID of its end port is answered with it.
+pub fn ports_are_told()
+    ensures { PortsAreTold }
 {}

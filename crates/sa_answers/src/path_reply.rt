@@ -283,7 +283,7 @@ fn gives_both(mask: u64, bit: u32) -> bool
 }
 
 /// Returns whether the request gives the component with the bit `bit`.
-fn gives(mask: u64, bit: u32) -> bool
+pub(crate) fn gives(mask: u64, bit: u32) -> bool
     requires { bit < 64 }
     ensures { result ≡ gives mask bit }
 {

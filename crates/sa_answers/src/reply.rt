@@ -1,7 +1,7 @@
 ghost use Rattle.std.specs.Prelude.{◌≡◌};
 ghost use Rattle.sa_answers.specs.Reply.{refusal_status};
 
-use sa_bytes::{PathRecord, SaStatus};
+use sa_bytes::{NodeRecord, PathRecord, PortInfoRecord, SaStatus};
 
 /// Why a request is refused.
 #[derive(Clone, Copy, Debug, PartialEq, Eq)]
@@ -10,7 +10,9 @@ pub enum SaRefusal {
     NotSupported,
     /// No record is as the request asks.
     NoRecords,
-    /// The request names only one end of the path, or none.
+    /// More than one record is as a request for one asks.
+    TooManyRecords,
+    /// The request names only one end of the path, or none, or no end port whose ports it asks for.
     InsufficientComponents,
 }
 
@@ -22,6 +24,7 @@ impl SaRefusal {
         match self {
             SaRefusal::NotSupported => SaStatus::METHOD_AND_ATTRIBUTE_NOT_SUPPORTED,
             SaRefusal::NoRecords => SaStatus::NO_RECORDS,
+            SaRefusal::TooManyRecords => SaStatus::TOO_MANY_RECORDS,
             SaRefusal::InsufficientComponents => SaStatus::INSUFFICIENT_COMPONENTS,
         }
     }
@@ -34,4 +37,6 @@ pub enum Reply {
     /// What subnet administration tells of itself.
     Info,
     Path(PathRecord),
+    Node(NodeRecord),
+    Port(PortInfoRecord),
 }

@@ -26,6 +26,14 @@ sa_get_resp = 0x81
 abbrev pub class_port_info : ℕ
 class_port_info = 0x0001
 
+-- the attribute NodeRecord
+abbrev pub node_record : ℕ
+node_record = 0x0011
+
+-- the attribute PortInfoRecord
+abbrev pub port_info_record : ℕ
+port_info_record = 0x0012
+
 -- the attribute PathRecord
 abbrev pub path_record : ℕ
 path_record = 0x0035
@@ -41,6 +49,10 @@ not_supported = 0x000C
 -- the status of a request to which no record answers
 abbrev pub no_records : ℕ
 no_records = 0x0300
+
+-- the status of a request for one record to which more than one answers
+abbrev pub too_many_records : ℕ
+too_many_records = 0x0400
 
 -- the status of a request that lacks components
 abbrev pub insufficient_components : ℕ

@@ -1,12 +1,17 @@
 -- What answers and records contain. InfiniBand Architecture Specification, Volume 1: subnet administration, SA
--- management datagrams; PathRecord.
+-- management datagrams; PathRecord; NodeRecord; PortInfoRecord.
 use Rattle.std.specs.Prelude.{◌≡◌, ℕ, ◌^◌, ◌<◌, ◌≤◌, List, All, drop, length, take, true}
-use Rattle.smp_bytes.specs.Field.{number_in}
+use Rattle.smp_bytes.specs.Field.{bytes_in, number_in}
 use Rattle.smp_bytes.specs.Packet.{base_version, mgmt_class, class_version, method, status_word, transaction_id, attribute_id, attribute_modifier, is_response}
 use Rattle.sa_bytes.specs.Numbers.{sa_class, sa_version}
 use Rattle.sa_bytes.specs.SaPacket.{attribute_offset, component_mask, record_data, rmpp, sm_key}
+use Rattle.attr_codec.specs.NodeInfo.{node_info_bytes}
 use Rattle.sa_bytes.specs.Answer.{answering, sa_answer}
+use Rattle.sa_bytes.specs.NodeRecord.{node_info_data, node_lid, node_record_bytes}
 use Rattle.sa_bytes.specs.PathRecord.{FitsPathRecord, path_record_bytes, path_record_in}
+use Rattle.sa_bytes.specs.PortInfoRecord.{port_info_data, port_info_record_bytes, port_lid, port_number}
+use Rattle.sa_bytes.specs.declared.node_record.NodeRecord.{NodeRecord}
+use Rattle.sa_bytes.specs.declared.port_info_record.PortInfoRecord.{PortInfoRecord}
 use Rattle.sa_bytes.specs.declared.path_record.PathRecord.{PathRecord}
 
 -- `answer` is a packet of subnet administration that answers `request`: it has the request's TransactionID, attribute,
@@ -40,3 +45,17 @@ SaAnswerReadsBack =
 -- a path whose numbers fit in their fields is read back from the bytes that spell it
 abbrev pub PathReadsBack : Type 0
 PathReadsBack = (path : PathRecord) → FitsPathRecord path → path_record_in (path_record_bytes path) ≡ path
+
+-- the record of a node has its LID, if that fits, and NodeInfo
+abbrev pub NodeReadsBack : Type 0
+NodeReadsBack =
+    (r : NodeRecord) → r.lid < 2 ^ 16
+    → (number_in node_lid (node_record_bytes r) ≡ r.lid)
+    × (bytes_in node_info_data (node_record_bytes r) ≡ node_info_bytes r.info)
+
+-- the record of a port has its LID and the port's number, if they fit, and PortInfo, if this has 64 bytes
+abbrev pub PortReadsBack : Type 0
+PortReadsBack =
+    (r : PortInfoRecord) → r.lid < 2 ^ 16 → r.port < 2 ^ 8 → length r.info ≡ 64
+    → (number_in port_lid (port_info_record_bytes r) ≡ r.lid) × (number_in port_number (port_info_record_bytes r) ≡ r.port)
+    × (bytes_in port_info_data (port_info_record_bytes r) ≡ r.info)

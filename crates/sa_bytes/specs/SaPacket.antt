@@ -29,6 +29,18 @@ record_data = record { at = 56; len = 200 }
 abbrev pub path_data : Field
 path_data = record { at = 56; len = 64 }
 
+-- LID, the first component of NodeRecord and of PortInfoRecord, in a packet
+abbrev pub lid_data : Field
+lid_data = record { at = 56; len = 2 }
+
+-- PortNum, the second component of PortInfoRecord, in a packet
+abbrev pub port_data : Field
+port_data = record { at = 58; len = 1 }
+
+-- NodeInfo in a NodeRecord, and PortInfo in a PortInfoRecord, as an attribute of 64 bytes in a packet
+abbrev pub attribute_data : Field
+attribute_data = record { at = 60; len = 64 }
+
 -- whether 256 bytes are a request of subnet administration: they have its class and its version, and the R bit is not
 -- set
 abbrev pub is_sa_request : List ℕ → Bool

@@ -25,3 +25,9 @@ pub const ATTRIBUTE_OFFSET: usize = 44;
 pub const COMPONENT_MASK: usize = 48;
 
 pub const RECORD: usize = 56;
+
+/// The number of the port, in a request for PortInfoRecord.
+pub const PORT: usize = 58;
+
+/// NodeInfo or PortInfo, behind the LID of a record.
+pub const ATTRIBUTE: usize = 60;

@@ -1,5 +1,5 @@
 //! The laws of packets and records of subnet administration.
-ghost use Rattle.sa_bytes.specs.ReadBack.{PathReadsBack, SaAnswerReadsBack};
+ghost use Rattle.sa_bytes.specs.ReadBack.{NodeReadsBack, PathReadsBack, PortReadsBack, SaAnswerReadsBack};
 
 /// An answer has the request's TransactionID, attribute, modifier and component mask, and the method that answers the
 /// request's. It has the status, the AttributeOffset and the record that were given, if they fit.
@@ -10,4 +10,14 @@ pub fn sa_answer_reads_back()
 /// If each number of a path fits in its field, the path is read back from the bytes that spell it.
 pub fn path_reads_back()
     ensures { PathReadsBack }
+{}
+
+/// The record of a node has the LID and the NodeInfo that were given.
+pub fn node_reads_back()
+    ensures { NodeReadsBack }
+{}
+
+/// The record of a port has the LID, the number of the port and the PortInfo that were given.
+pub fn port_reads_back()
+    ensures { PortReadsBack }
 {}

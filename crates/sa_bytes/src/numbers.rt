@@ -19,6 +19,10 @@ pub struct SaAttributeId(pub u16);
 impl SaAttributeId {
     pub const CLASS_PORT_INFO: SaAttributeId = SaAttributeId(0x0001);
 
+    pub const NODE_RECORD: SaAttributeId = SaAttributeId(0x0011);
+
+    pub const PORT_INFO_RECORD: SaAttributeId = SaAttributeId(0x0012);
+
     pub const PATH_RECORD: SaAttributeId = SaAttributeId(0x0035);
 }
 
@@ -33,6 +37,9 @@ impl SaStatus {
 
     /// No record is as the request asks.
     pub const NO_RECORDS: SaStatus = SaStatus(0x0300);
+
+    /// More than one record is as a request for one asks.
+    pub const TOO_MANY_RECORDS: SaStatus = SaStatus(0x0400);
 
     /// The component mask lacks components that the request needs.
     pub const INSUFFICIENT_COMPONENTS: SaStatus = SaStatus(0x0600);

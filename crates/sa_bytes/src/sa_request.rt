@@ -2,13 +2,14 @@ ghost use Rattle.std.specs.Prelude.{◌≡◌, ◌≤◌, ◌<◌, ◌^◌, leng
 ghost use Rattle.smp_bytes.specs.Field.{bytes_in, number_in};
 ghost use Rattle.smp_bytes.specs.Packet.{method, transaction_id, attribute_id, attribute_modifier};
 ghost use Rattle.sa_bytes.specs.Answer.{answering, sa_answer};
-ghost use Rattle.sa_bytes.specs.SaPacket.{component_mask, is_sa_request, path_data};
+ghost use Rattle.sa_bytes.specs.SaPacket.{attribute_data, component_mask, is_sa_request, lid_data, path_data, port_data};
 
 use crate::field;
 use crate::numbers::{SaAttributeId, SaMethod, SaStatus};
 use smp_bytes::wire::{
     bits_at, put_bytes, put_u8, put_u16, put_u32, put_u64, u8_at, u16_at, u32_at, u64_at,
 };
+use smp_bytes::{Lid, PortNum};
 use std::marker::Model;
 
 /// A request of subnet administration: 256 bytes of its class and version whose R bit is not set. Contracts see the
@@ -101,6 +102,29 @@ impl SaRequest {
     {
         let mut data = [0; 64];
         data.copy_from_slice(&self.bytes[field::RECORD..field::RECORD + 64]);
+        data
+    }
+
+    /// Returns the LID of the record of a request for NodeRecord or PortInfoRecord.
+    pub fn lid(&self) -> Lid
+        ensures { result ≡ number_in lid_data self.now }
+    {
+        Lid::new(u16_at(&self.bytes, field::RECORD))
+    }
+
+    /// Returns the number of the port of the record of a request for PortInfoRecord.
+    pub fn port(&self) -> PortNum
+        ensures { result ≡ number_in port_data self.now }
+    {
+        PortNum::new(u8_at(&self.bytes, field::PORT))
+    }
+
+    /// Returns NodeInfo in the record of a request for NodeRecord, or PortInfo in that of one for PortInfoRecord.
+    pub fn attribute_data(&self) -> [u8; 64]
+        ensures { result ≡ bytes_in attribute_data self.now }
+    {
+        let mut data = [0; 64];
+        data.copy_from_slice(&self.bytes[field::ATTRIBUTE..field::ATTRIBUTE + 64]);
         data
     }
 

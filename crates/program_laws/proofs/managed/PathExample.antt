@@ -34,12 +34,18 @@ abbrev last_sweep : Sweep
 last_sweep = sweep_in written.acting.manager.sweep
 
 abbrev told : Told
-told = record { cells = cells_of written.acting.manager.store; plan = plan; images = last_sweep.images.ports }
+told =
+    record {
+      cells = cells_of written.acting.manager.store;
+      plan = plan;
+      images = last_sweep.images.ports;
+      own = written.acting.manager.standing.guid;
+    }
 
 -- what is told, if all that this takes is so
 told_so : (a : Acting) (s : Sweep) (p : PlanValue) → is_in Master a.manager.standing ≡ true → a.policy.written.stands ≡ true
     → is_written a.manager ≡ true → swept_of a.manager.sweep ≡ Some s → a.kept ≡ Some p
-    → told_of a ≡ Some (record { cells = cells_of a.manager.store; plan = p; images = s.images.ports })
+    → told_of a ≡ Some (record { cells = cells_of a.manager.store; plan = p; images = s.images.ports; own = a.manager.standing.guid })
 told_so a s p master stands is_done swept kept i =
     cond (master i && (stands i && is_done i)) (told_by a.manager (swept i) (kept i)) None
 

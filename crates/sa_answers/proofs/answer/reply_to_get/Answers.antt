@@ -6,9 +6,9 @@ use Rattle.smp_bytes.specs.Packet.{attribute_id}
 use Rattle.sa_bytes.specs.PathRecord.{path_record_in}
 use Rattle.sa_bytes.specs.SaPacket.{component_mask, path_data}
 use Rattle.sa_answers.specs.PathReply.{path_reply}
+use Rattle.sa_answers.specs.Reply.{record_reply}
 use Rattle.sa_answers.specs.Told.{value_of}
-use Rattle.sa_answers.specs.declared.reply.SaRefusal.TheVariants.{NotSupported}
-use Rattle.sa_answers.specs.declared.reply.Reply.TheVariants.{Refused, Info}
+use Rattle.sa_answers.specs.declared.reply.Reply.TheVariants.{Info}
 use Rattle.sa_answers.proofs.Choices.{second}
 use Rattle.sa_answers.proofs.answer.reply_to_get.Goals as goal
 
@@ -22,4 +22,4 @@ returns-then-eq-2 c =
     let this : (n == 0x35) ≡ true = search rules in
     let asked = c.decode.ensures.value ∙ ap path_record_in c.path_data.ensures in
     let made : c.path_reply.result ≡ reply = c.path_reply.ensures ∙ (λ i. path_reply told (c.component_mask.ensures i) (asked i)) in
-    made ∙ second (n == 0x1) (n == 0x35) Info reply (Refused NotSupported) other this
+    made ∙ second (n == 0x1) (n == 0x35) Info reply (record_reply told n request) other this
