@@ -203,7 +203,8 @@ fn by_updown(
     let ranked = Graph::of(alloc, graph)?;
     let count = block_count(lids.top());
     let attachments = attachments(alloc, wires, graph.switches(), lids, count)?;
-    updown_tables(alloc, &ranked, &attachments, count)
+    let tables = updown_tables(alloc, &ranked, &attachments, count)?;
+    Ok(tables)
 }
 
 /// Returns the table of each switch of `graph`, with `count` blocks, for routes that go up and then down. The GUIDs

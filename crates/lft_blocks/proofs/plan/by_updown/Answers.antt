@@ -1,7 +1,6 @@
 -- The tables of the graph are those of the view.
 use Rattle.std.proofs.Common.{◌≡◌, List, ℕ, ap, sym, ◌∙◌, subst}
 use Rattle.std.specs.Prelude.{Option}
-use Rattle.std.proofs.lemmas.Result.{IfOk-weaker}
 use Rattle.std.specs.List.Sorted.{IsStrictlyIncreasing}
 use Rattle.fact_store.specs.View.{cells_of}
 use Rattle.subnet_view.specs.SwitchEdges.{SwitchEdges}
@@ -34,7 +33,5 @@ returns c =
     let are = subst (λ (x : List ℕ × List (Option Attachment)). AreIndexed x.0 attachments x.1) (λ i. (own i, sym c.deref.ensures.value i))
     c.in_ok-attachments.ensures.indexed in
     let counted = c.block_count-count.ensures.count ∙ ap block_count c.top.ensures in
-    IfOk-weaker c.updown_tables.result _ _
-    (λ tables e. e
-    ∙ (λ i. tables_of (same_attachments (guids_of ranked) attachments c.deref.result.now are i) (updown (is i)).next (counted i) (guids i)))
-    c.updown_tables.ensures
+    c.in_ok-tables.ensures
+    ∙ (λ i. tables_of (same_attachments (guids_of ranked) attachments c.deref.result.now are i) (updown (is i)).next (counted i) (guids i))
