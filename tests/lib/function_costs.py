@@ -33,7 +33,8 @@ COUNTED = {
         "balanced_choices::choice_order::near_first", "balanced_choices::choice_rounds::Balance::choose_all",
     ),
     "audit by switches": (
-        "held_tables::subnet::Subnet::of", "packet_walks::lid_cursor::LidCursor::go_to",
+        "subnet_view::subnet::Subnet::of", "subnet_view::subnet::Subnet::graph",
+        "held_tables::wired_subnet::WiredSubnet::of", "packet_walks::lid_cursor::LidCursor::go_to",
         "packet_walks::lid_cursor::LidCursor::edges", "packet_walks::network::Network::deliveries",
         "audit_channels::network_waits::channel_waits", "audit_channels::waits::Waits::add",
         "audit_channels::order::order_channels", "audit_counts::site::sites", "audit_ways::way_tally::WayTally::add",
@@ -41,6 +42,7 @@ COUNTED = {
     "audit by lane by switches": ("lane_channels::waits_by_lane::walk_at_level", "audit_channels::waits::Waits::add"),
     "order of tables by switches": ("held_order::told::told_order",),
     "next by switches, from the other rule": (
+        "subnet_view::subnet::Subnet::of", "subnet_view::subnet::Subnet::graph",
         "packet_walks::lid_cursor::LidCursor::switch_steps", "packet_walks::lid_cursor::LidCursor::entries",
         "next_tables::held_arrivals::hops", "next_tables::rightness::are_right", "next_tables::step::next_tables",
         "audit_channels::waits::Waits::add", "audit_channels::order::order_channels",

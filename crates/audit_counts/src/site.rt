@@ -13,12 +13,10 @@ ghost use Rattle.subnet_view.specs.Wires.{leads_to};
 ghost use Rattle.audit_counts.specs.Site.{site_of, switch_of};
 
 use audit_ways::is_adapter;
-use fact_store::Refused;
-use held_tables::Subnet;
 use packet_walks::is_same_end;
 use smp_bytes::{Guid, PortNum};
 use std::alloc::{AllocError, Global};
-use subnet_view::{EndPort, SwitchGraph, Wires, is_usable};
+use subnet_view::{EndPort, Subnet, SwitchGraph, Wires, is_usable};
 
 /// Where an end port lies.
 #[derive(Clone, Copy, Debug, PartialEq, Eq)]
@@ -156,13 +154,13 @@ pub fn are_adapters(port: &EndPort, other: &EndPort) -> bool
 }
 
 /// Returns the sites of the end ports of `subnet`, in the order of `Subnet::end_ports`.
-pub fn sites(alloc: Global, subnet: &Subnet) -> Result<Vec<Site>, Refused>
+pub fn sites(alloc: Global, subnet: &Subnet) -> Result<Vec<Site>, AllocError>
     ensures { IfOk result (λ sites. sites.items
         ≡ map (site_of (cells_of subnet.now)) (end_ports (cells_of subnet.now))) }
 {
-    let graph = SwitchGraph::of(alloc, subnet.wires())?;
+    let graph = subnet.graph(alloc)?;
     let roots = graph.roots(alloc)?;
-    Ok(sites_of(alloc, subnet.wires(), &graph, &roots, subnet.end_ports())?)
+    sites_of(alloc, subnet.wires(), &graph, &roots, subnet.end_ports())
 }
 
 /// Returns the sites of `ports`, in the order of `ports`. `graph` must be the graph of `wires`, and `roots` must be the

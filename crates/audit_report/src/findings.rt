@@ -16,7 +16,7 @@ use audit_counts::{
     sites, survey,
 };
 use fact_store::Refused;
-use held_tables::{Held, Subnet};
+use held_tables::{Held, WiredSubnet};
 use packet_walks::Network;
 use std::alloc::{AllocError, Global};
 use std::marker::Model;
@@ -62,7 +62,7 @@ impl<'a> Model for Audit<'a> {
 }
 
 impl<'a> Audit<'a> {
-    /// Audits the tables `held` in `subnet`. Follows the packets for each held LID from every end port in the component
+    /// Audits the tables `held` in the subnet `wired`. Follows the packets for each held LID from every end port in the component
     /// of the LID's owner. Counts the wires and channels that packets between adapter ports take, and looks for a
     /// shortest credit loop. Keeps the first `most` lines of each kind.
     ///
@@ -72,18 +72,18 @@ impl<'a> Audit<'a> {
     pub fn of(
         alloc: Global,
         most: usize,
-        subnet: &'a Subnet<'a>,
+        wired: &'a WiredSubnet<'a>,
         held: &'a Held,
     ) -> Result<Self, Refused>
         ensures most { IfOk result (λ audit. audit.most ≡ most) }
-        ensures facts { IfOk result (λ audit. audit.facts ≡ subnet.now) }
+        ensures facts { IfOk result (λ audit. audit.facts ≡ wired.now) }
         ensures held { IfOk result (λ audit. audit.held ≡ held.now) }
         ensures cycle { IfOk result (λ audit.
-            IsCycleIfAny (WaitsFor (cells_of subnet.now) held.now) audit.cycle) }
+            IsCycleIfAny (WaitsFor (cells_of wired.now) held.now) audit.cycle) }
         ensures shortest { IfOk result (λ audit.
-            NoneShorter (WaitsFor (cells_of subnet.now) held.now) audit.cycle) }
+            NoneShorter (WaitsFor (cells_of wired.now) held.now) audit.cycle) }
     {
-        let network = Network::of(alloc, subnet, held)?;
+        let network = Network::of(alloc, wired, held)?;
         let findings = findings_of(alloc, most, &network)?;
         Ok(Audit {
             most,

@@ -24,11 +24,12 @@ use crate::verdict_text::write_verdict;
 use audit_report::{Appendix, Audit, most_lines, write_findings, write_loop};
 use byte_io::{Sink, Source, WriteFault};
 use fact_store::Refused;
-use held_tables::Subnet;
+use held_tables::WiredSubnet;
 use lane_channels::{LaneNetwork, LaneOrder, lane_order};
 use lanes_file::Lanes;
 use sm_cli::{AuditAsked, Fault, TextAndTables, read_text_and_tables};
 use std::alloc::Global;
+use subnet_view::Subnet;
 
 /// Reads the lanes from the first input if `asked.lanes` is true, then the tables from the next input, and then the
 /// files from the other inputs, one after the other. There must be an input for each text. Writes what these tables do
@@ -77,7 +78,8 @@ fn answer<W: Sink>(
 {
     let most = most_lines(asked.all);
     let subnet = Subnet::of(alloc, &told.read.store)?;
-    let audit = Audit::of(alloc, most, &subnet, &told.read.held)?;
+    let wired = WiredSubnet::of(alloc, &subnet)?;
+    let audit = Audit::of(alloc, most, &wired, &told.read.held)?;
     let found = found_by_lane(alloc, most, &audit, &told.text)?;
     let appendix = Appendix::of(alloc, asked, audit.network())?;
     tell(alloc, sink, asked, &audit, &found, &appendix)

@@ -2,6 +2,7 @@
 ghost use Rattle.std.specs.Prelude.{◌≡◌, IfOk, length};
 ghost use Rattle.std.specs.Option.{option_map};
 ghost use Rattle.fact_store.specs.View.{cells_of};
+ghost use Rattle.subnet_view.specs.Graph.{graph_of};
 ghost use Rattle.subnet_view.specs.Reading.{switches};
 ghost use Rattle.held_order.specs.Between.{IsGoal, goal_of};
 
@@ -27,21 +28,23 @@ pub struct StepGoal {
 /// second is the next order on the way to the plan's. Returns `None` if the held tables imply no order. If they imply
 /// several orders, takes the one nearest to the order that grows by `preferred`. `held` and `plan` must have the same
 /// facts. `positions` must have the position of each usable switch in the plan's order, in ascending order of GUID,
-/// and `preferred` must have the position of each usable switch in the preferred order.
+/// and `preferred` must have the position of each usable switch in the preferred order. `graph` must be the graph of the
+/// usable switches.
 pub fn between(
     alloc: Global,
+    graph: &SwitchGraph,
     held: &Network,
     plan: &Network,
     positions: &[usize],
     preferred: &[usize],
 ) -> Result<Option<StepGoal>, Refused>
+    requires graph { graph.now ≡ graph_of (cells_of held.now.facts) }
     requires facts { plan.now.facts ≡ held.now.facts }
     requires positions { length positions.now ≡ length (switches (cells_of held.now.facts)) }
     requires preferred { length preferred.now ≡ length (switches (cells_of held.now.facts)) }
     ensures { IfOk result (λ found. IsGoal (cells_of held.now.facts) held.now.held plan.now.held positions.now preferred.now
         (option_map goal_of found)) }
 {
-    let graph = SwitchGraph::of(alloc, held.subnet().wires())?;
     let edges = graph.adjacency();
     let Some(orders) = orders(alloc, edges, held, positions, preferred)? else {
         return Ok(None);

@@ -6,4 +6,4 @@ pub mod Blocks
 pub mod Held
 pub mod HeldItem
 pub mod Switches
-pub mod Subnet
+pub mod WiredSubnet

@@ -12,7 +12,7 @@ mod held_item;
 mod lines;
 mod owners;
 mod senders;
-mod subnet;
+mod wired_subnet;
 mod wired_switch;
 
 pub use audited_switch::{AuditedSwitch, index_of, top_at};
@@ -27,5 +27,5 @@ pub use owners::{
     Owner, has_several_owners, is_same_end, is_sole_owner, lid_owners, owners_of, sole_owner,
 };
 pub use senders::Sender;
-pub use subnet::Subnet;
+pub use wired_subnet::WiredSubnet;
 pub use wired_switch::WiredSwitch;

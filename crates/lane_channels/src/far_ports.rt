@@ -5,10 +5,10 @@ ghost use Rattle.fact_store.specs.View.{cells_of};
 ghost use Rattle.subnet_view.specs.Reading.{switches};
 ghost use Rattle.lane_channels.specs.FarPorts.{far_port, far_port_by};
 
-use held_tables::Subnet;
 use packet_walks::Network;
 use smp_bytes::{Guid, PortNum};
 use std::alloc::{AllocError, Global};
+use subnet_view::Subnet;
 
 /// Returns, for each port of each usable switch, the port at the far end of the wire there, or 0 if there is no wire.
 /// The item for port p of the switch at index i is at 256 * i + p. There must be fewer than 2^56 usable switches.

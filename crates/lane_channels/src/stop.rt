@@ -12,10 +12,11 @@ ghost use Rattle.lane_channels.specs.FarPorts.{far_port};
 ghost use Rattle.held_tables.specs.Switches.{first_switch, switch_over};
 
 use crate::far_ports::far_port;
-use held_tables::{Far, Sender, Subnet};
+use held_tables::{Far, Sender};
 use packet_walks::Network;
 use smp_bytes::PortNum;
 use std::alloc::{AllocError, Global};
+use subnet_view::Subnet;
 
 /// Returns, for each sender, the stop at which its packets first reach a usable switch, or `None` if they reach none.
 /// There must be fewer than 2^56 usable switches.

@@ -5,8 +5,7 @@ ghost use Rattle.fact_store.specs.View.{cells_of};
 ghost use Rattle.smp_bytes.specs.Judges.{JudgesButFor};
 ghost use Rattle.lid_assign.specs.LidFault.{is_memory, lid_fault, no_room};
 ghost use Rattle.lid_assign.specs.Lids.{top_of};
-ghost use Rattle.subnet_view.specs.Graph.{guids_of};
-ghost use Rattle.subnet_view.specs.Reading.{switches};
+ghost use Rattle.subnet_view.specs.Graph.{graph_of, guids_of};
 ghost use Rattle.updown_routes.specs.Updown.{updown};
 ghost use Rattle.lft_blocks.specs.Entries.{block_count};
 ghost use Rattle.lft_blocks.specs.Rule.{routing_by, rule_of, spread_in, up_and_down, value_of};
@@ -24,12 +23,12 @@ use crate::table::Table;
 use crate::updown_table::tables;
 use attr_codec::Lmc;
 use fact_store::{Refused, Store};
-use lid_assign::{LidFault as PlanFault, LidMap, assign};
+use lid_assign::{LidFault as PlanFault, LidMap, assign, assign_in};
 use smp_bytes::{Guid, Lid};
 use spread_routes::SwitchOrder;
 use std::alloc::Global;
 use std::marker::Model;
-use subnet_view::{SwitchGraph, Wires};
+use subnet_view::{Subnet, SwitchGraph, Wires};
 use updown_routes::{Graph, Routes};
 
 /// The plan of a view: the LID of each end port, and the blocks of each usable switch.
@@ -68,7 +67,39 @@ impl Plan {
     {
         let lids = assign(alloc, store, lmc)?;
         let wires = Wires::of(alloc, store)?;
-        let (switches, tables) = tables_of(alloc, &wires, &lids, lmc, rule)?;
+        let graph = SwitchGraph::of(alloc, &wires)?;
+        let tables = tables_of(alloc, &wires, &graph, &lids, lmc, rule)?;
+        let switches = graph.into_switches();
+        Ok(Plan {
+            lids,
+            switches,
+            tables,
+        })
+    }
+
+    /// Plans `subnet` under `rule`, with 2^`lmc` LIDs for each adapter port, as `of` plans a view. `graph` must be the
+    /// graph of the subnet's usable switches.
+    ///
+    /// # Errors
+    ///
+    /// Returns `NoRoom` if there is no room for the LIDs, and otherwise `Memory` if memory runs out.
+    pub fn in_subnet(
+        alloc: Global,
+        subnet: &Subnet,
+        graph: &SwitchGraph,
+        lmc: Lmc,
+        rule: &Rule,
+    ) -> Result<Self, PlanFault>
+        requires { graph.now ≡ graph_of (cells_of subnet.now) }
+        ensures judged { JudgesButFor is_memory result (lid_fault (no_room lmc (cells_of subnet.now))) }
+        ensures plan { IfOk result (λ plan.
+            plan ≡ plan_of (value_of rule.now) lmc (cells_of subnet.now)) }
+        ensures arrives { IfOk result (λ plan. EveryPacketArrivesBy
+            (rule_of rule.now (cells_of subnet.now)) (cells_of subnet.now) plan) }
+    {
+        let lids = assign_in(alloc, subnet, lmc)?;
+        let tables = tables_of(alloc, subnet.wires(), graph, &lids, lmc, rule)?;
+        let switches = Vec::from_slice(alloc, subnet.switches())?;
         Ok(Plan {
             lids,
             switches,
@@ -116,60 +147,64 @@ impl Plan {
     }
 }
 
-/// Returns the usable switches, in ascending order of GUID, and the table of each under `rule`.
+/// Returns the table of each usable switch under `rule`, in ascending order of GUID. `graph` must be the graph of
+/// `wires`.
 fn tables_of(
     alloc: Global,
     wires: &Wires,
+    graph: &SwitchGraph,
     lids: &LidMap,
     lmc: Lmc,
     rule: &Rule,
-) -> Result<(Vec<Guid>, Vec<Table>), Refused>
-    ensures switches { IfOk result (λ found. found.0.items ≡ switches (cells_of wires.now)) }
-    ensures tables { IfOk result (λ found. found.1.items
+) -> Result<Vec<Table>, Refused>
+    requires { graph.now ≡ graph_of (cells_of wires.now) }
+    ensures { IfOk result (λ tables. tables.items
         ≡ tables_by (lid_routing (value_of rule.now) lmc (cells_of wires.now) lids.now)
         (cells_of wires.now) lids.now) }
 {
     match rule {
-        Rule::UpDown => by_updown(alloc, wires, lids),
-        Rule::Spread { order } => by_spread(alloc, wires, lids, lmc, order),
+        Rule::UpDown => by_updown(alloc, wires, graph, lids),
+        Rule::Spread { order } => by_spread(alloc, wires, graph, lids, lmc, order),
     }
 }
 
-/// Returns the usable switches, in ascending order of GUID, and their tables under the rule that spreads by `order`.
+/// Returns the table of each usable switch under the rule that spreads by `order`, in ascending order of GUID. `graph`
+/// must be the graph of `wires`.
 fn by_spread(
     alloc: Global,
     wires: &Wires,
+    graph: &SwitchGraph,
     lids: &LidMap,
     lmc: Lmc,
     order: &SwitchOrder,
-) -> Result<(Vec<Guid>, Vec<Table>), Refused>
-    ensures switches { IfOk result (λ found. found.0.items ≡ switches (cells_of wires.now)) }
-    ensures tables { IfOk result (λ found. found.1.items
+) -> Result<Vec<Table>, Refused>
+    requires { graph.now ≡ graph_of (cells_of wires.now) }
+    ensures { IfOk result (λ tables. tables.items
         ≡ tables_by (lid_routing (spread_in (order_value_of order.now)) lmc (cells_of wires.now) lids.now)
         (cells_of wires.now) lids.now) }
 {
-    let graph = SwitchGraph::of(alloc, wires)?;
     let count = block_count(lids.top());
     let attachments = attachments(alloc, wires, graph.switches(), lids, count)?;
-    let tables = spread_tables(alloc, wires, &graph, &attachments, lmc, order, count)?;
-    Ok((graph.into_switches(), tables))
+    Ok(spread_tables(alloc, wires, graph, &attachments, lmc, order, count)?)
 }
 
-/// Returns the usable switches, in ascending order of GUID, and the table of each under up/down routing.
+/// Returns the table of each usable switch under up/down routing, in ascending order of GUID. `graph` must be the graph
+/// of `wires`.
 fn by_updown(
     alloc: Global,
     wires: &Wires,
+    graph: &SwitchGraph,
     lids: &LidMap,
-) -> Result<(Vec<Guid>, Vec<Table>), Refused>
-    ensures switches { IfOk result (λ found. found.0.items ≡ switches (cells_of wires.now)) }
-    ensures tables { IfOk result (λ found. found.1.items
+) -> Result<Vec<Table>, Refused>
+    requires { graph.now ≡ graph_of (cells_of wires.now) }
+    ensures { IfOk result (λ tables. tables.items
         ≡ tables_by (routing_by up_and_down (cells_of wires.now)) (cells_of wires.now) lids.now) }
 {
-    let graph = Graph::of(alloc, wires)?;
+    let ranked = Graph::of(alloc, graph)?;
     let count = block_count(lids.top());
     let attachments = attachments(alloc, wires, graph.switches(), lids, count)?;
-    let tables = updown_tables(alloc, &graph, &attachments, count)?;
-    Ok((graph.into_switches(), tables))
+    let tables = updown_tables(alloc, &ranked, &attachments, count)?;
+    Ok(tables)
 }
 
 /// Returns the table of each switch of `graph`, with `count` blocks, for routes that go up and then down.

@@ -1,6 +1,7 @@
 ghost use Rattle.std.specs.Prelude.{◌≡◌, IfOk, unwrap_or};
 ghost use Rattle.lid_assign.specs.declared.lid_fault.LidFault.TheVariants.{Memory};
 ghost use Rattle.fact_store.specs.View.{cells_of};
+ghost use Rattle.subnet_view.specs.EndPort.{end_ports};
 ghost use Rattle.lid_assign.specs.Lids.{lids, handed_out};
 ghost use Rattle.lid_assign.specs.LidFault.{is_memory, lid_fault, no_room};
 ghost use Rattle.lid_assign.specs.LidMarks.{IsFound};
@@ -14,8 +15,8 @@ use crate::room::{no_room, room, room_and_end_ports};
 use attr_codec::Lmc;
 use fact_store::Store;
 use smp_bytes::Lid;
-use std::alloc::Global;
-use subnet_view::{EndPort, end_ports};
+use std::alloc::{AllocError, Global};
+use subnet_view::{EndPort, Subnet, end_ports};
 
 /// Assigns a LID to each end port of the view. A switch has a range of one number, its LID. An adapter's port has a
 /// range of 2^`lmc` numbers, which begins at its LID. A range fits if it begins at a multiple of its width other than
@@ -32,15 +33,42 @@ pub fn assign(alloc: Global, store: &Store, lmc: Lmc) -> Result<LidMap, LidFault
     ensures judged { JudgesButFor is_memory result (lid_fault (no_room lmc (cells_of store.now))) }
     ensures lids { IfOk result (λ map. map ≡ lids lmc (cells_of store.now)) }
 {
-    match handed_out(alloc, store, lmc) {
+    match end_ports(alloc, store) {
+        Ok(ports) => assign_to(alloc, store, lmc, &ports),
+        Err(_) => Err(out_of_memory(store, lmc)),
+    }
+}
+
+/// Assigns a LID to each end port of `subnet`, as `assign` does. Does not look for the end ports.
+///
+/// # Errors
+///
+/// Returns `NoRoom` if some end port finds no LID. Returns `Memory` if each end port would find a LID but memory runs
+/// out.
+pub fn assign_in(alloc: Global, subnet: &Subnet, lmc: Lmc) -> Result<LidMap, LidFault>
+    ensures judged { JudgesButFor is_memory result (lid_fault (no_room lmc (cells_of subnet.now))) }
+    ensures lids { IfOk result (λ map. map ≡ lids lmc (cells_of subnet.now)) }
+{
+    assign_to(alloc, subnet.store(), lmc, subnet.end_ports())
+}
+
+/// Assigns a LID to each of `ports`, as `assign` does. `ports` must be the end ports of `store`, in the order of
+/// `end_ports`.
+fn assign_to(alloc: Global, store: &Store, lmc: Lmc, ports: &[EndPort]) -> Result<LidMap, LidFault>
+    requires { ports.now ≡ end_ports (cells_of store.now) }
+    ensures judged { JudgesButFor is_memory result (lid_fault (no_room lmc (cells_of store.now))) }
+    ensures lids { IfOk result (λ map. map ≡ lids lmc (cells_of store.now)) }
+{
+    match handed_out(alloc, store, lmc, ports) {
         Ok(Some(given)) => Ok(LidMap::new(alloc, lmc, given)?),
         Ok(None) => Err(LidFault::NoRoom(room_and_end_ports(store))),
         Err(_) => Err(out_of_memory(store, lmc)),
     }
 }
 
-/// Returns the fault if memory runs out before the LIDs are known: `NoRoom` if some end port finds none, else `Memory`.
-fn out_of_memory(store: &Store, lmc: Lmc) -> LidFault
+/// Returns the fault to report if memory runs out before the LIDs are known. The fault is `NoRoom` if some end port
+/// finds no LID, and otherwise `Memory`.
+pub fn out_of_memory(store: &Store, lmc: Lmc) -> LidFault
     ensures { result ≡ unwrap_or (lid_fault (no_room lmc (cells_of store.now))) Memory }
 {
     match no_room(store, lmc) {
@@ -49,19 +77,20 @@ fn out_of_memory(store: &Store, lmc: Lmc) -> LidFault
     }
 }
 
-/// Returns the end ports in the order of `end_ports`, each with its LID, or `None` if some end port finds no LID.
-/// Returns an error if memory runs out.
+/// Returns the end ports, each with its LID, or `None` if some end port finds no LID. `ports` must be the end ports of
+/// `store`, in the order of `end_ports`. Returns an error if memory runs out.
 fn handed_out(
     alloc: Global,
     store: &Store,
     lmc: Lmc,
-) -> Result<Option<Vec<(EndPort, Lid)>>, LidFault>
+    ports: &[EndPort],
+) -> Result<Option<Vec<(EndPort, Lid)>>, AllocError>
+    requires { ports.now ≡ end_ports (cells_of store.now) }
     ensures { IfOk result (IsFound (λ given. given.items) (handed_out lmc (cells_of store.now))) }
 {
-    let ports = end_ports(alloc, store)?;
     let room = usize::from(room(store));
     let mut claimed = vec![in alloc; false; room]?;
     let mut taken = vec![in alloc; false; room]?;
-    let keepers = keep_claims(alloc, store, lmc, &ports, &mut claimed, &mut taken)?;
-    Ok(hand_out(alloc, lmc, &keepers, &mut taken)?)
+    let keepers = keep_claims(alloc, store, lmc, ports, &mut claimed, &mut taken)?;
+    hand_out(alloc, lmc, &keepers, &mut taken)
 }

@@ -12,7 +12,7 @@ mod lid_marks;
 mod room;
 mod without_memory;
 
-pub use assignment::assign;
+pub use assignment::{assign, assign_in, out_of_memory};
 pub use lid_fault::{LidFault, NoRoom};
 pub use lid_map::LidMap;
 pub use room::no_room;

@@ -3,6 +3,7 @@ ghost use Rattle.std.specs.Prelude.{◌≡◌, ◌⊎◌, ◌+◌, ◌++◌, ◌
 ghost use Rattle.std.specs.Prelude.{length};
 ghost use Rattle.std.specs.Io.KnownBytes.{Appends};
 ghost use Rattle.fact_store.specs.View.{cells_of};
+ghost use Rattle.subnet_view.specs.Graph.{graph_of};
 ghost use Rattle.subnet_view.specs.Reading.{switches};
 ghost use Rattle.lft_blocks.specs.Rule.{RuleValue, value_of};
 ghost use Rattle.plan_order.specs.PlanOrder.{positions_by};
@@ -20,15 +21,16 @@ use crate::same_tables::are_same_tables;
 use crate::step_choice::{StepChoice, step_choice};
 use crate::step_order_text::write_step_order;
 use byte_io::{Sink, Source, WriteFault};
-use held_tables::{Held, Subnet};
+use held_tables::{Held, WiredSubnet};
 use lft_blocks::{Plan, Rule};
 use next_tables::{StepFault, next_tables};
 use packet_walks::Network;
-use plan_order::plan_in_order;
+use plan_order::{plan_in_order, subnet_to_plan};
 use plan_tables::held_plan;
 use sm_cli::{Fault, StepAsked, StepReader, TextAndTables, TextFault, read_inputs, texts_if};
 use smp_bytes::Guid;
 use std::alloc::{AllocError, Global};
+use subnet_view::SwitchGraph;
 use tables_file::write_next;
 
 /// A step from held tables: the tables to write next, and the order that the step goes by.
@@ -110,10 +112,11 @@ fn step<W: Sink, E: Sink>(
     ensures nothing_told { OnErr result (told.new ≡ told.old) }
 {
     let read = &found.read;
-    let (plan, positions) = plan_in_order(alloc, &read.store, asked.lmc, rule)?;
-    let subnet = Subnet::of(alloc, &read.store)?;
-    let from = Network::of(alloc, &subnet, &read.held)?;
-    let made = match made_step(alloc, &positions, &found.text, &from, &plan) {
+    let (subnet, graph) = subnet_to_plan(alloc, &read.store, asked.lmc)?;
+    let (plan, positions) = plan_in_order(alloc, &subnet, &graph, asked.lmc, rule)?;
+    let wired = WiredSubnet::of(alloc, &subnet)?;
+    let from = Network::of(alloc, &wired, &read.held)?;
+    let made = match made_step(alloc, &graph, &positions, &found.text, &from, &plan) {
         Ok(made) => made,
         Err(fault) => return Err(fault_of_step(texts_before(asked), &fault)),
     };
@@ -129,7 +132,7 @@ fn loop_in_step(alloc: Global, from: &Network, next: &Held) -> Result<StepLoop, 
     ensures { IfOk result (λ found. IsLoopInStep (cells_of from.now.facts) from.now.held next.now
         found.channels.items found.lids.items) }
 {
-    let after = Network::of(alloc, from.subnet(), next)?;
+    let after = Network::of(alloc, from.wired(), next)?;
     StepLoop::of(alloc, from, &after)
 }
 
@@ -150,18 +153,20 @@ fn write_loop_and_order<E: Sink>(
 }
 
 /// Makes the step from the tables of the network `from` towards `plan`. `positions` must have the position of each
-/// usable switch, in ascending order of GUID, in an order; it is meant to be the one that the plan goes by. If the step
-/// goes by an order that the tables imply, it takes the one nearest to the order `last`, as long as that changes
-/// something. Otherwise, and if `last` is `None`, it takes the one nearest to that of `positions`. Returns the fault
-/// `Moves` if a LID moves, or `Memory` if memory is refused.
+/// usable switch, in ascending order of GUID, in an order; it is meant to be the one that the plan goes by. `graph` must
+/// be the graph of the usable switches. If the step goes by an order that the tables imply, it takes the one nearest to
+/// the order `last`, as long as that changes something. Otherwise, and if `last` is `None`, it takes the one nearest to
+/// that of `positions`. Returns the fault `Moves` if a LID moves, or `Memory` if memory is refused.
 fn made_step(
     alloc: Global,
+    graph: &SwitchGraph,
     positions: &[usize],
     last: &Option<Vec<Guid>>,
     from: &Network,
     plan: &Plan,
 ) -> Result<MadeStep, StepFault>
-    requires { length positions.now ≡ length (switches (cells_of from.now.facts)) }
+    requires graph { graph.now ≡ graph_of (cells_of from.now.facts) }
+    requires positions { length positions.now ≡ length (switches (cells_of from.now.facts)) }
     ensures made { (rule : RuleValue) → positions.now ≡ positions_by rule (cells_of from.now.facts)
         → IfOk result (λ made. IsMade rule (items_of last.now) from.now.facts from.now.held
         (held_plan plan.now) made.next (items_of made.order)) }
@@ -171,26 +176,28 @@ fn made_step(
         → IfErr result (StopsBy (first_moved from.now.held (held_plan plan.now))) }
 {
     let planned = held_plan(alloc, plan)?;
-    let to = Network::of(alloc, from.subnet(), &planned)?;
-    let made = step_near(alloc, positions, last, from, &to)?;
+    let to = Network::of(alloc, from.wired(), &planned)?;
+    let made = step_near(alloc, graph, positions, last, from, &to)?;
     if last.is_some() && made.order.is_some() && are_same_tables(&made.next, from.held()) {
-        return step_near(alloc, positions, &None, from, &to);
+        return step_near(alloc, graph, positions, &None, from, &to);
     }
     Ok(made)
 }
 
 /// Makes the step from the tables of the network `from` towards the tables of the network `plan`. Both networks must
 /// have the same facts. `positions` must have the position of each usable switch, in ascending order of GUID, in an
-/// order; it is meant to be the one that the plan goes by. If the step goes by an order that the tables of `from`
-/// imply, it takes the one nearest to the order `last`, or to that of `positions` if `last` is `None`. Returns the
-/// fault `Moves` if a LID moves, or `Memory` if memory is refused.
+/// order; it is meant to be the one that the plan goes by. `graph` must be the graph of the usable switches. If the step
+/// goes by an order that the tables of `from` imply, it takes the one nearest to the order `last`, or to that of
+/// `positions` if `last` is `None`. Returns the fault `Moves` if a LID moves, or `Memory` if memory is refused.
 fn step_near(
     alloc: Global,
+    graph: &SwitchGraph,
     positions: &[usize],
     last: &Option<Vec<Guid>>,
     from: &Network,
     plan: &Network,
 ) -> Result<MadeStep, StepFault>
+    requires graph { graph.now ≡ graph_of (cells_of from.now.facts) }
     requires plan { plan.now.facts ≡ from.now.facts }
     requires positions { length positions.now ≡ length (switches (cells_of from.now.facts)) }
     ensures made { (rule : RuleValue) → positions.now ≡ positions_by rule (cells_of from.now.facts)
@@ -201,7 +208,7 @@ fn step_near(
     ensures refused { (rule : RuleValue) → positions.now ≡ positions_by rule (cells_of from.now.facts)
         → IfErr result (StopsBy (first_moved from.now.held plan.now.held)) }
 {
-    let choice = step_choice(alloc, positions, last, from, plan)?;
+    let choice = step_choice(alloc, graph, positions, last, from, plan)?;
     let next = next_by_choice(alloc, &choice, from, plan)?;
     let StepChoice { order, .. } = choice;
     Ok(MadeStep { next, order })
@@ -225,7 +232,7 @@ fn next_by_choice(
 {
     match &choice.goal {
         Some(goal) => {
-            let to = Network::of(alloc, from.subnet(), goal)?;
+            let to = Network::of(alloc, from.wired(), goal)?;
             next_tables(alloc, &choice.by, from, &to)
         }
         None => next_tables(alloc, &choice.by, from, plan),

@@ -13,11 +13,12 @@ ghost use Rattle.next_run.specs.OrderRun.{HasPrintedOrder, IsOrderFault, IsOrder
 use byte_io::{Sink, Source};
 use fact_store::Store;
 use held_order::told_order;
-use held_tables::{Held, Subnet};
+use held_tables::{Held, WiredSubnet};
 use packet_walks::Network;
 use sm_cli::{Fault, read_tables_and_files, write_order};
 use smp_bytes::Guid;
 use std::alloc::{AllocError, Global};
+use subnet_view::Subnet;
 
 /// Reads the tables from the first input, and then the files from the other inputs, one after the other. There must
 /// be at least one input. Returns whether, in some order of the usable switches, these tables send no packet for any
@@ -57,7 +58,8 @@ fn answer<W: Sink>(alloc: Global, sink: &mut W, store: &Store, held: &Held) -> R
     ensures nothing_written { OnErr result ((result ≡ Err Fault.Write) ⊎ (sink.new ≡ sink.old)) }
 {
     let subnet = Subnet::of(alloc, store)?;
-    let network = Network::of(alloc, &subnet, held)?;
+    let wired = WiredSubnet::of(alloc, &subnet)?;
+    let network = Network::of(alloc, &wired, held)?;
     let order = order_of(alloc, &network)?;
     let switches = told_switches(alloc, &network, &order)?;
     write_order(sink, &switches)?;

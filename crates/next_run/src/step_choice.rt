@@ -4,6 +4,7 @@ ghost use Rattle.std.specs.Option.{option_map};
 ghost use Rattle.fact_store.specs.View.{cells_of};
 ghost use Rattle.lft_blocks.specs.Rule.{RuleValue};
 ghost use Rattle.plan_order.specs.PlanOrder.{positions_by};
+ghost use Rattle.subnet_view.specs.Graph.{graph_of};
 ghost use Rattle.subnet_view.specs.Reading.{switches};
 ghost use Rattle.held_order.specs.Between.{goal_of};
 ghost use Rattle.next_run.specs.LastOrder.{near_positions};
@@ -19,6 +20,7 @@ use packet_walks::Network;
 use plan_order::positions_named;
 use smp_bytes::Guid;
 use std::alloc::{AllocError, Global};
+use subnet_view::SwitchGraph;
 
 /// How a step chooses entries, and which tables it goes towards.
 #[derive(Drop)]
@@ -34,7 +36,7 @@ pub(crate) struct StepChoice {
 
 /// Returns how a step from the tables of `from` towards the tables of `plan` chooses entries. Both networks must have
 /// the same facts. `positions` must have the position of each usable switch, in ascending order of GUID, in an order;
-/// it is meant to be the one that the plan goes by.
+/// it is meant to be the one that the plan goes by. `graph` must be the graph of the usable switches.
 ///
 /// The step goes by the order of `positions` if the tables of `from` are right by it. Otherwise, if these tables imply
 /// an order, the step goes by that order, towards the goal in between. Of several implied orders, the step takes the
@@ -42,11 +44,13 @@ pub(crate) struct StepChoice {
 /// step goes by settled entries.
 pub(crate) fn step_choice(
     alloc: Global,
+    graph: &SwitchGraph,
     positions: &[usize],
     last: &Option<Vec<Guid>>,
     from: &Network,
     plan: &Network,
 ) -> Result<StepChoice, Refused>
+    requires graph { graph.now ≡ graph_of (cells_of from.now.facts) }
     requires plan { plan.now.facts ≡ from.now.facts }
     requires positions { length positions.now ≡ length (switches (cells_of from.now.facts)) }
     ensures { (rule : RuleValue) → positions.now ≡ positions_by rule (cells_of from.now.facts)
@@ -60,7 +64,7 @@ pub(crate) fn step_choice(
             order: None,
         });
     }
-    match goal_near(alloc, last, from, plan, positions)? {
+    match goal_near(alloc, graph, last, from, plan, positions)? {
         Some(StepGoal { positions, tables }) => {
             let switches = switches_by(alloc, from, &positions)?;
             Ok(StepChoice {
@@ -80,21 +84,23 @@ pub(crate) fn step_choice(
 /// Returns the goal in between of a step by an order that the tables of `from` imply. Of several implied orders, the
 /// step takes the one nearest to the order `last`, or to that of `positions` if `last` is `None`. Returns `None` if the
 /// tables imply no order. Both networks must have the same facts. `positions` must have a position for each usable
-/// switch.
+/// switch. `graph` must be the graph of the usable switches.
 fn goal_near(
     alloc: Global,
+    graph: &SwitchGraph,
     last: &Option<Vec<Guid>>,
     from: &Network,
     plan: &Network,
     positions: &[usize],
 ) -> Result<Option<StepGoal>, Refused>
+    requires graph { graph.now ≡ graph_of (cells_of from.now.facts) }
     requires plan { plan.now.facts ≡ from.now.facts }
     requires positions { length positions.now ≡ length (switches (cells_of from.now.facts)) }
     ensures { IfOk result (λ found. IsGoalFrom false (cells_of from.now.facts) from.now.held plan.now.held positions.now
         (near_positions positions.now (cells_of from.now.facts) (items_of last.now)) (option_map goal_of found)) }
 {
     let near = near_positions(alloc, positions, from, last)?;
-    between(alloc, from, plan, positions, &near)
+    between(alloc, graph, from, plan, positions, &near)
 }
 
 /// Returns the position of each usable switch, in ascending order of GUID, in the order `last`, or `positions` if

@@ -20,19 +20,19 @@ use crate::entry::entry_for;
 use crate::hops_by_tables::{edges, entries, steps, switch_steps};
 use crate::next_hop::SwitchStep;
 use held_tables::{
-    AuditedSwitch, Chains, Far, Held, HeldLid, Owner, Sender, Subnet, block_chains, block_rows,
-    has_several_owners, is_sole_owner, lid_owners, lines_of, owners_of,
+    AuditedSwitch, Chains, Far, Held, HeldLid, Owner, Sender, WiredSubnet, block_chains,
+    block_rows, has_several_owners, is_sole_owner, lid_owners, lines_of, owners_of,
 };
 use port_graph::Edge;
 use smp_bytes::{Guid, Lid};
 use std::alloc::{AllocError, Global};
 use std::marker::Model;
-use subnet_view::{EndPort, is_usable};
+use subnet_view::{EndPort, Subnet, is_usable};
 
 /// A subnet, with the forwarding tables that its switches hold.
 #[derive(Drop)]
 pub struct Network<'a> {
-    subnet: &'a Subnet<'a>,
+    wired: &'a WiredSubnet<'a>,
     held: &'a Held,
     /// The usable switches, in ascending order of GUID.
     nodes: Vec<AuditedSwitch>,
@@ -52,9 +52,9 @@ impl<'a> Model for Network<'a> {
 
     ghost coded = { seen_code };
 
-    ghost view = { λ a. record { facts = a.subnet.now; held = a.held.now } };
+    ghost view = { λ a. record { facts = a.wired.now; held = a.held.now } };
 
-    ghost invariant = { λ a. IsNetwork (cells_of a.subnet.now) a.held.now a.nodes.items a.chains a.lines.items
+    ghost invariant = { λ a. IsNetwork (cells_of a.wired.now) a.held.now a.nodes.items a.chains a.lines.items
         a.owners.items };
 }
 
@@ -67,16 +67,16 @@ pub(crate) struct Blocks {
 }
 
 impl<'a> Network<'a> {
-    /// Builds the network of `subnet` with the tables `held`.
-    pub fn of(alloc: Global, subnet: &'a Subnet<'a>, held: &'a Held) -> Result<Self, AllocError>
-        ensures facts { IfOk result (λ network. network.facts ≡ subnet.now) }
+    /// Builds the network of the subnet `wired` with the tables `held`.
+    pub fn of(alloc: Global, wired: &'a WiredSubnet<'a>, held: &'a Held) -> Result<Self, AllocError>
+        ensures facts { IfOk result (λ network. network.facts ≡ wired.now) }
         ensures held { IfOk result (λ network. network.held ≡ held.now) }
     {
-        let nodes = subnet.audited(alloc, held)?;
+        let nodes = wired.audited(alloc, held)?;
         let chains = block_chains(alloc, held)?;
         let (lines, owners) = lines_and_owners(alloc, held)?;
         Ok(Network {
-            subnet,
+            wired,
             held,
             nodes,
             chains,
@@ -117,9 +117,9 @@ impl<'a> Network<'a> {
         Ends::new(
             alloc,
             port,
-            self.subnet.sources(),
-            self.subnet.firsts(),
-            self.subnet.all_begin(),
+            self.wired.sources(),
+            self.wired.firsts(),
+            self.wired.all_begin(),
             owners,
             walks,
         )
@@ -189,7 +189,7 @@ impl<'a> Network<'a> {
         requires { AreDeliveries (cells_of self.now.facts) self.now.held deliveries.now }
         ensures { result ≡ true → LineArrives (cells_of self.now.facts) self.now.held line.now }
     {
-        self.subnet.all_begin() && deliveries.has(line.lid) && self.is_sole_owner(line)
+        self.wired.all_begin() && deliveries.has(line.lid) && self.is_sole_owner(line)
     }
 
     /// Returns the end ports that hold `lid`. Takes constant time if `lid` is below 49,152 and at most one end port
@@ -221,7 +221,14 @@ impl<'a> Network<'a> {
     pub fn subnet(&self) -> &'a Subnet<'a>
         ensures { result.now ≡ self.now.facts }
     {
-        self.subnet
+        self.wired.subnet()
+    }
+
+    /// Returns the subnet, without its tables, with the far ends of its wires.
+    pub fn wired(&self) -> &'a WiredSubnet<'a>
+        ensures { result.now ≡ self.now.facts }
+    {
+        self.wired
     }
 
     /// Returns the tables that the switches hold.
@@ -296,14 +303,14 @@ impl<'a> Network<'a> {
     pub fn far(&self, number: usize) -> Far
         ensures { result ≡ far_by (cells_of self.now.facts) number }
     {
-        self.subnet.far(number)
+        self.wired.far(number)
     }
 
     /// Returns the end ports as senders, in the order of `Subnet::end_ports`.
     pub fn sources(&self) -> &[Sender]
         ensures { result.now ≡ map (sender_of (cells_of self.now.facts)) (end_ports (cells_of self.now.facts)) }
     {
-        self.subnet.sources()
+        self.wired.sources()
     }
 
     /// Returns the held LIDs, each with an end port that holds it, in the order of the lines. Each such pair occurs
@@ -319,7 +326,7 @@ impl<'a> Network<'a> {
     pub fn entry(&self, node: Guid, lid: Lid) -> Option<u8>
         ensures { result ≡ entry_by (cells_of self.now.facts) self.now.held node lid }
     {
-        if !is_usable(self.subnet.store(), node) {
+        if !is_usable(self.subnet().store(), node) {
             return None;
         }
         Some(entry_for(self.held, node, lid))

@@ -6,6 +6,6 @@ mod positions;
 mod rank_positions;
 mod switches;
 
-pub use ordered_plan::plan_in_order;
+pub use ordered_plan::{plan_in_order, subnet_to_plan};
 pub use positions::{plan_positions, positions_named};
 pub use switches::plan_switches;

@@ -1,58 +1,92 @@
 //! A plan, and the positions of the switches in the order that it goes by.
-ghost use Rattle.std.specs.Prelude.{◌≡◌, IfOk, length, unwrap_or};
+ghost use Rattle.std.specs.Prelude.{◌≡◌, IfOk, OnErr, length};
 ghost use Rattle.fact_store.specs.View.{cells_of};
 ghost use Rattle.lid_assign.specs.LidFault.{is_memory, lid_fault, no_room};
-ghost use Rattle.lid_assign.specs.declared.lid_fault.LidFault.TheVariants.{Memory};
 ghost use Rattle.lft_blocks.specs.Plan.{plan_of};
 ghost use Rattle.lft_blocks.specs.Rule.{order_of, spread_in, up_and_down, value_of};
 ghost use Rattle.smp_bytes.specs.Judges.{JudgesButFor};
 ghost use Rattle.spread_routes.specs.SwitchOrder.{named_in, order_value_of};
+ghost use Rattle.subnet_view.specs.Graph.{graph_of};
 ghost use Rattle.subnet_view.specs.Reading.{switches};
 ghost use Rattle.plan_order.specs.PlanOrder.{positions_by};
 
 use crate::positions::{plan_positions, positions_named};
 use attr_codec::Lmc;
-use fact_store::{Refused, Store};
+use fact_store::Store;
 use lft_blocks::{Plan, PlanFault, Rule, switch_order};
-use lid_assign::no_room;
+use lid_assign::out_of_memory;
 use smp_bytes::Guid;
 use spread_routes::SwitchOrder;
 use std::alloc::{AllocError, Global};
+use subnet_view::{Subnet, SwitchGraph, Wires};
 
-/// Plans the view in `store` under `rule`, with 2^`lmc` LIDs for each adapter port, as `Plan::of` does. Also returns
-/// the position of each usable switch, in ascending order of GUID, in the order that `rule` plans by. The order is
-/// found once.
+/// Finds the subnet that the view in `store` describes, and the graph of its usable switches, for a plan with 2^`lmc`
+/// LIDs for each adapter port.
+///
+/// # Errors
+///
+/// If memory runs out, returns `NoRoom` if there is no room for the LIDs, and otherwise `Memory`.
+pub fn subnet_to_plan<'s>(
+    alloc: Global,
+    store: &'s Store,
+    lmc: Lmc,
+) -> Result<(Subnet<'s>, SwitchGraph), PlanFault>
+    ensures subnet { IfOk result (λ found. found.0 ≡ store.now) }
+    ensures graph { IfOk result (λ found. found.1 ≡ graph_of (cells_of found.0)) }
+    ensures refused { OnErr result
+        (JudgesButFor is_memory result (lid_fault (no_room lmc (cells_of store.now)))) }
+{
+    let Ok(subnet) = Subnet::of(alloc, store) else {
+        return Err(out_of_memory(store, lmc));
+    };
+    let Ok(graph) = subnet.graph(alloc) else {
+        return Err(out_of_memory(store, lmc));
+    };
+    Ok((subnet, graph))
+}
+
+/// Plans `subnet` under `rule`, with 2^`lmc` LIDs for each adapter port, as `Plan::in_subnet` does. Also returns the
+/// position of each usable switch, in ascending order of GUID, in the order that `rule` plans by. The order is found
+/// once. `graph` must be the graph of the subnet's usable switches.
 ///
 /// # Errors
 ///
 /// Returns `NoRoom` if there is no room for the LIDs, and otherwise `Memory` if memory runs out.
 pub fn plan_in_order(
     alloc: Global,
-    store: &Store,
+    subnet: &Subnet,
+    graph: &SwitchGraph,
     lmc: Lmc,
     rule: &Rule,
 ) -> Result<(Plan, Vec<usize>), PlanFault>
-    ensures judged { JudgesButFor is_memory result (lid_fault (no_room lmc (cells_of store.now))) }
-    ensures plan { IfOk result (λ found. found.0 ≡ plan_of (value_of rule.now) lmc (cells_of store.now)) }
+    requires { graph.now ≡ graph_of (cells_of subnet.now) }
+    ensures judged { JudgesButFor is_memory result (lid_fault (no_room lmc (cells_of subnet.now))) }
+    ensures plan { IfOk result (λ found. found.0 ≡ plan_of (value_of rule.now) lmc (cells_of subnet.now)) }
     ensures positions { IfOk result (λ found.
-        found.1.items ≡ positions_by (value_of rule.now) (cells_of store.now)) }
-    ensures all { IfOk result (λ found. length found.1.items ≡ length (switches (cells_of store.now))) }
+        found.1.items ≡ positions_by (value_of rule.now) (cells_of subnet.now)) }
+    ensures all { IfOk result (λ found. length found.1.items ≡ length (switches (cells_of subnet.now))) }
 {
     match rule {
-        Rule::UpDown => by_rank(alloc, store, lmc),
-        Rule::Spread { order } => by_spread(alloc, store, lmc, order),
+        Rule::UpDown => by_rank(alloc, subnet, graph, lmc),
+        Rule::Spread { order } => by_spread(alloc, subnet, graph, lmc, order),
     }
 }
 
 /// Returns the plan under up/down routing and the positions of its order, as `plan_in_order` does.
-fn by_rank(alloc: Global, store: &Store, lmc: Lmc) -> Result<(Plan, Vec<usize>), PlanFault>
-    ensures judged { JudgesButFor is_memory result (lid_fault (no_room lmc (cells_of store.now))) }
-    ensures plan { IfOk result (λ found. found.0 ≡ plan_of up_and_down lmc (cells_of store.now)) }
-    ensures positions { IfOk result (λ found. found.1.items ≡ positions_by up_and_down (cells_of store.now)) }
-    ensures all { IfOk result (λ found. length found.1.items ≡ length (switches (cells_of store.now))) }
+fn by_rank(
+    alloc: Global,
+    subnet: &Subnet,
+    graph: &SwitchGraph,
+    lmc: Lmc,
+) -> Result<(Plan, Vec<usize>), PlanFault>
+    requires { graph.now ≡ graph_of (cells_of subnet.now) }
+    ensures judged { JudgesButFor is_memory result (lid_fault (no_room lmc (cells_of subnet.now))) }
+    ensures plan { IfOk result (λ found. found.0 ≡ plan_of up_and_down lmc (cells_of subnet.now)) }
+    ensures positions { IfOk result (λ found. found.1.items ≡ positions_by up_and_down (cells_of subnet.now)) }
+    ensures all { IfOk result (λ found. length found.1.items ≡ length (switches (cells_of subnet.now))) }
 {
-    let plan = Plan::of(alloc, store, lmc, &Rule::UpDown)?;
-    let positions = plan_positions(alloc, store, &Rule::UpDown)?;
+    let plan = Plan::in_subnet(alloc, subnet, graph, lmc, &Rule::UpDown)?;
+    let positions = plan_positions(alloc, subnet.wires(), graph, &Rule::UpDown)?;
     Ok((plan, positions))
 }
 
@@ -60,37 +94,42 @@ fn by_rank(alloc: Global, store: &Store, lmc: Lmc) -> Result<(Plan, Vec<usize>),
 /// The plan is that by the order's switches as a list, so that the order is not found again.
 fn by_spread(
     alloc: Global,
-    store: &Store,
+    subnet: &Subnet,
+    graph: &SwitchGraph,
     lmc: Lmc,
     order: &SwitchOrder,
 ) -> Result<(Plan, Vec<usize>), PlanFault>
-    ensures judged { JudgesButFor is_memory result (lid_fault (no_room lmc (cells_of store.now))) }
+    requires { graph.now ≡ graph_of (cells_of subnet.now) }
+    ensures judged { JudgesButFor is_memory result (lid_fault (no_room lmc (cells_of subnet.now))) }
     ensures plan { IfOk result (λ found.
-        found.0 ≡ plan_of (spread_in (order_value_of order.now)) lmc (cells_of store.now)) }
+        found.0 ≡ plan_of (spread_in (order_value_of order.now)) lmc (cells_of subnet.now)) }
     ensures positions { IfOk result (λ found.
-        found.1.items ≡ positions_by (spread_in (order_value_of order.now)) (cells_of store.now)) }
-    ensures all { IfOk result (λ found. length found.1.items ≡ length (switches (cells_of store.now))) }
+        found.1.items ≡ positions_by (spread_in (order_value_of order.now)) (cells_of subnet.now)) }
+    ensures all { IfOk result (λ found. length found.1.items ≡ length (switches (cells_of subnet.now))) }
 {
-    let Ok((switches, order)) = named(alloc, store, order) else {
-        return Err(out_of_memory(store, lmc));
+    let Ok((switches, order)) = named(alloc, subnet.wires(), graph, order) else {
+        return Err(out_of_memory(subnet.store(), lmc));
     };
-    let plan = Plan::of(alloc, store, lmc, &Rule::Spread { order })?;
+    let plan = Plan::in_subnet(alloc, subnet, graph, lmc, &Rule::Spread { order })?;
     let positions = positions_named(alloc, &switches, plan.switches())?;
     Ok((plan, positions))
 }
 
-/// Returns the usable switches in the order of the rule that spreads by `order`, and an order that names them so.
+/// Returns the usable switches in the order of the rule that spreads by `order`, and an order that names them so. Loads
+/// are balanced in that order exactly if they are in `order`. `graph` must be the graph of `wires`.
 fn named(
     alloc: Global,
-    store: &Store,
+    wires: &Wires,
+    graph: &SwitchGraph,
     order: &SwitchOrder,
-) -> Result<(Vec<Guid>, SwitchOrder), Refused>
+) -> Result<(Vec<Guid>, SwitchOrder), AllocError>
+    requires { graph.now ≡ graph_of (cells_of wires.now) }
     ensures switches { IfOk result (λ found.
-        found.0.items ≡ order_of (order_value_of order.now) (cells_of store.now)) }
+        found.0.items ≡ order_of (order_value_of order.now) (cells_of wires.now)) }
     ensures named { IfOk result (λ found. order_value_of found.1
-        ≡ named_in (order_value_of order.now) (order_of (order_value_of order.now) (cells_of store.now))) }
+        ≡ named_in (order_value_of order.now) (order_of (order_value_of order.now) (cells_of wires.now))) }
 {
-    let switches = switch_order(alloc, store, order)?;
+    let switches = switch_order(alloc, wires, graph, order)?;
     let order = named_in(order, Vec::from_slice(alloc, &switches)?);
     Ok((switches, order))
 }
@@ -106,15 +145,5 @@ fn named_in(order: &SwitchOrder, switches: Vec<Guid>) -> SwitchOrder
         SwitchOrder::BalancedAs { .. } | SwitchOrder::LeastLoaded => SwitchOrder::BalancedAs {
             switches,
         },
-    }
-}
-
-/// Returns the fault if memory runs out before the LIDs are known: `NoRoom` if some end port finds none, else `Memory`.
-fn out_of_memory(store: &Store, lmc: Lmc) -> PlanFault
-    ensures { result ≡ unwrap_or (lid_fault (no_room lmc (cells_of store.now))) Memory }
-{
-    match no_room(store, lmc) {
-        Some(why) => PlanFault::NoRoom(why),
-        None => PlanFault::Memory,
     }
 }

@@ -1,16 +1,17 @@
 //! The switches in the order that a rule plans by.
 ghost use Rattle.std.specs.Prelude.{◌≡◌, IfOk, map};
 ghost use Rattle.fact_store.specs.View.{cells_of};
+ghost use Rattle.subnet_view.specs.Graph.{guids_of};
 ghost use Rattle.spread_labels.specs.Orders.{at_position};
-ghost use Rattle.lft_blocks.specs.Rule.{up_and_down, value_of};
-ghost use Rattle.plan_order.specs.PlanOrder.{by_positions, switches_by};
+ghost use Rattle.lft_blocks.specs.Rule.{value_of};
+ghost use Rattle.plan_order.specs.PlanOrder.{by_positions, rank_position, switches_by};
 
 use crate::rank_positions::rank_positions;
 use fact_store::{Refused, Store};
 use lft_blocks::{Rule, switch_order};
 use smp_bytes::Guid;
 use std::alloc::{AllocError, Global};
-use subnet_view::Wires;
+use subnet_view::{SwitchGraph, Wires};
 use two_orders::positions_in;
 use updown_routes::Graph;
 
@@ -20,21 +21,22 @@ pub fn plan_switches(alloc: Global, store: &Store, rule: &Rule) -> Result<Vec<Gu
     ensures { IfOk result (λ switches.
         switches.items ≡ switches_by (value_of rule.now) (cells_of store.now)) }
 {
+    let wires = Wires::of(alloc, store)?;
+    let graph = SwitchGraph::of(alloc, &wires)?;
     match rule {
-        Rule::UpDown => ranked_switches(alloc, store),
-        Rule::Spread { order } => switch_order(alloc, store, order),
+        Rule::UpDown => Ok(ranked_switches(alloc, &graph)?),
+        Rule::Spread { order } => Ok(switch_order(alloc, &wires, &graph, order)?),
     }
 }
 
-/// Returns the usable switches in the order by rank and then by GUID.
-fn ranked_switches(alloc: Global, store: &Store) -> Result<Vec<Guid>, Refused>
-    ensures { IfOk result (λ switches.
-        switches.items ≡ switches_by up_and_down (cells_of store.now)) }
+/// Returns the switches of `graph` in the order by rank and then by GUID.
+fn ranked_switches(alloc: Global, graph: &SwitchGraph) -> Result<Vec<Guid>, AllocError>
+    ensures { IfOk result (λ switches. switches.items
+        ≡ by_positions (guids_of graph.now) (map (rank_position graph.now) (guids_of graph.now))) }
 {
-    let wires = Wires::of(alloc, store)?;
-    let graph = Graph::of(alloc, &wires)?;
-    let positions = rank_positions(alloc, &graph)?;
-    Ok(by_positions(alloc, graph.switches(), &positions)?)
+    let ranked = Graph::of(alloc, graph)?;
+    let positions = rank_positions(alloc, &ranked)?;
+    by_positions(alloc, graph.switches(), &positions)
 }
 
 /// Returns `switches` in the order of their `positions`.

@@ -8,6 +8,7 @@ pub mod EndPortAfter
 pub mod Reading
 pub mod RootSearch
 pub mod Routing
+pub mod Subnet
 pub mod SwitchEdges
 pub mod SwitchGraph
 pub mod WireEnds

@@ -49,6 +49,19 @@ impl SwitchGraph {
         ensures { IfOk result (λ graph. graph ≡ graph_of (cells_of wires.now)) }
     {
         let guids = switches(alloc, wires.store())?;
+        Ok(SwitchGraph::of_switches(alloc, wires, guids)?)
+    }
+
+    /// Builds the graph of the switches `guids` and the wires between them, as `of` does. `guids` must be the usable
+    /// switches, in ascending order of GUID.
+    pub(crate) fn of_switches(
+        alloc: Global,
+        wires: &Wires,
+        guids: Vec<Guid>,
+    ) -> Result<Self, AllocError>
+        requires { guids.items ≡ switches (cells_of wires.now) }
+        ensures { IfOk result (λ graph. graph ≡ graph_of (cells_of wires.now)) }
+    {
         let edges = edges(alloc, wires, &guids)?;
         Ok(SwitchGraph { guids, edges })
     }

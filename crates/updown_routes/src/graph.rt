@@ -1,6 +1,5 @@
 ghost use Rattle.std.specs.Prelude.{◌≡◌, ◌<◌, IfOk, length, map, slice_get};
-ghost use Rattle.subnet_view.specs.View.{cells_of};
-ghost use Rattle.subnet_view.specs.Graph.{graph_of, guids_of};
+ghost use Rattle.subnet_view.specs.Graph.{guids_of};
 ghost use Rattle.subnet_view.specs.GraphLaws.{IsGraph};
 ghost use Rattle.subnet_view.specs.Components.{root_of};
 ghost use Rattle.subnet_view.specs.SwitchGraph.{AreEdgesAt, IsIndexIn, LeadBelow};
@@ -11,38 +10,35 @@ use port_graph::Edge;
 use smp_bytes::Guid;
 use std::alloc::{AllocError, Global};
 use std::marker::Model;
-use subnet_view::{Refused, SwitchGraph, Wires};
+use subnet_view::SwitchGraph;
 
 /// The usable switches of a subnet, the wires between them, and their ranks.
 #[derive(Drop)]
-pub struct Graph {
-    graph: SwitchGraph,
+pub struct Graph<'g> {
+    graph: &'g SwitchGraph,
     /// The rank of each switch, in ascending order of GUID. Each switch has one.
     ranks: Vec<Option<usize>>,
 }
 
-impl Model for Graph {
+impl<'g> Model for Graph<'g> {
     ghost use Rattle.std.specs.Prelude.{List};
     ghost use Rattle.subnet_view.specs.SwitchEdges.{SwitchEdges};
     ghost use Rattle.updown_routes.specs.Ranks.{IsRanked};
 
     ghost Value = { List SwitchEdges };
 
-    ghost view = { λ a. a.graph };
+    ghost view = { λ a. a.graph.now };
 
-    ghost invariant = { λ a. IsRanked a.graph a.ranks.items };
+    ghost invariant = { λ a. IsRanked a.graph.now a.ranks.items };
 }
 
-impl Graph {
-    /// Builds the graph of the usable switches that the view of `wires` has, and of the wires between them. For each
-    /// port of a switch, does at most two binary searches among the ports that can have a wire. For each wire, does a
-    /// binary search among the switches. For each component, does a breadth-first search. Returns an error if memory
-    /// runs out.
-    pub fn of(alloc: Global, wires: &Wires) -> Result<Self, Refused>
-        ensures { IfOk result (λ graph. graph ≡ graph_of (cells_of wires.now)) }
+impl<'g> Graph<'g> {
+    /// Finds the ranks of the switches of `graph`. For each component, does a breadth-first search. Returns an error if
+    /// memory runs out.
+    pub fn of(alloc: Global, graph: &'g SwitchGraph) -> Result<Self, AllocError>
+        ensures { IfOk result (λ ranked. ranked ≡ graph.now) }
     {
-        let graph = SwitchGraph::of(alloc, wires)?;
-        let ranks = ranks(alloc, &graph)?;
+        let ranks = ranks(alloc, graph)?;
         Ok(Graph { graph, ranks })
     }
 
@@ -59,13 +55,6 @@ impl Graph {
         ensures { result.now ≡ guids_of self.now }
     {
         self.graph.switches()
-    }
-
-    /// Returns the switches, in ascending order of GUID, and frees the rest of the graph.
-    pub fn into_switches(self) -> Vec<Guid>
-        ensures { result.items ≡ guids_of self }
-    {
-        self.graph.into_switches()
     }
 
     /// Returns the switch at `index`, with the switches in ascending order of GUID, or `None` if `index` is past the

@@ -1,5 +1,6 @@
-ghost use Rattle.std.specs.Prelude.{◌≡◌, IfOk, length, map};
+ghost use Rattle.std.specs.Prelude.{◌≡◌, IfOk, OnOk, length, map};
 ghost use Rattle.subnet_view.specs.Graph.{guids_of};
+ghost use Rattle.subnet_view.specs.GraphLaws.{IsGraph};
 ghost use Rattle.updown_routes.specs.Order.{FillsIn};
 ghost use Rattle.updown_routes.specs.Ranks.{rank_of};
 
@@ -8,7 +9,8 @@ use subnet_view::SwitchGraph;
 
 /// Returns the rank of each switch, in ascending order of GUID. Does a breadth-first search for each component.
 pub(crate) fn ranks(alloc: Global, graph: &SwitchGraph) -> Result<Vec<Option<usize>>, AllocError>
-    ensures { IfOk result (λ ranks. ranks.items ≡ map (rank_of graph.now) (guids_of graph.now)) }
+    ensures ranks { IfOk result (λ ranks. ranks.items ≡ map (rank_of graph.now) (guids_of graph.now)) }
+    ensures is_graph { OnOk result (IsGraph graph.now) }
 {
     let mut ranks = vec![in alloc; None; graph.len()]?;
     for root in 0..graph.len() {

@@ -16,7 +16,7 @@ use subnet_view::Refused;
 /// The next port of each switch of a graph towards each other switch.
 #[derive(Drop)]
 pub struct Routes<'g> {
-    graph: &'g Graph,
+    graph: &'g Graph<'g>,
     /// For each target, in ascending order of GUID, the next port of each switch, in ascending order of GUID. The port
     /// is `None` for the target itself, and for each switch of another component.
     towards: Vec<Vec<Option<PortNum>>>,
@@ -37,7 +37,7 @@ impl<'g> Model for Routes<'g> {
 impl<'g> Routes<'g> {
     /// Computes the routes of `graph`. For each target, takes at most time linear in the number of switches and wires.
     /// Returns an error if memory runs out.
-    pub fn of(alloc: Global, graph: &'g Graph) -> Result<Self, Refused>
+    pub fn of(alloc: Global, graph: &'g Graph<'g>) -> Result<Self, Refused>
         ensures { IfOk result (λ routes. routes ≡ graph.now) }
     {
         let order = order(alloc, graph.ranks())?;

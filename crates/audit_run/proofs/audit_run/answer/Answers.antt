@@ -30,7 +30,7 @@ returns-clause-audited g c =
     let held = told.read.held in
     let audit = c.in_ok-audit.audit in
     let found = c.in_ok-found.found in
-    let subnet_is = c.in_ok-subnet.ensures in
+    let subnet_is = c.in_ok-wired.ensures ∙ c.in_ok-subnet.ensures in
     let audit_is = c.in_ok-audit.ensures in
     let written = g.W.Sink.written in
     let same : ◌≡◌ {A = Audited} audit (record { most = most_lines asked.all; facts = facts; held = held; cycle = audit.cycle }) =

@@ -1,9 +1,8 @@
 -- By the wires of the switches.
 use Rattle.std.proofs.Common.{◌≡◌, ◌∙◌, List, Option, None, Some, ap, refl, subst, sym}
-use Rattle.fact_store.specs.View.{Facts, cells_of}
+use Rattle.fact_store.specs.View.{cells_of}
 use Rattle.port_graph.specs.declared.edge.Edge.{Edge}
 use Rattle.spread_labels.specs.LabelLaws.{IsSymmetric}
-use Rattle.subnet_view.specs.Graph.{graph_of}
 use Rattle.spread_routes.specs.Rule.{by_index}
 use Rattle.spread_routes.proofs.Indices.{there_and_back}
 use Rattle.spread_routes.proofs.Positions.{edges_are}
@@ -14,7 +13,7 @@ use Rattle.held_order.proofs.step_goal.between.Goals as goal
 
 pub orders-requires-clause-symmetric : goal.orders-requires-clause-symmetric
 orders-requires-clause-symmetric c =
-    let graph = c.in_ok-graph.graph in
+    let graph = c.args.graph.now in
     let good = c.adjacency-edges.ensures.is_graph in
     subst IsSymmetric (sym (edges_are graph good c.adjacency-edges.result.now c.adjacency-edges.ensures.edges)) (there_and_back graph good)
 
@@ -26,10 +25,10 @@ pub returns-in_default : goal.returns-in_default
 returns-in_default c =
     let cells = cells_of c.args.held.now.facts in
     let held = c.args.held.now.held in
-    let graph = c.in_ok-graph.graph in
+    let graph = c.args.graph.now in
     let edges : c.adjacency-edges.result.now ≡ edges_in cells =
     edges_are graph c.adjacency-edges.ensures.is_graph c.adjacency-edges.result.now c.adjacency-edges.ensures.edges
-    ∙ ap by_index (c.in_ok-graph.ensures ∙ ap (λ (f : Facts). graph_of (cells_of f)) (c.wires.ensures ∙ c.subnet.ensures)) in
+    ∙ ap by_index c.requires.graph in
     let are : AreOrders cells held (edges_in cells) c.args.positions.now c.args.preferred.now c.in_ok-orders.field-0 =
     subst (λ (x : List (List Edge)). AreOrders cells held x c.args.positions.now c.args.preferred.now c.in_ok-orders.field-0) edges c.in_ok-orders.ensures in
     subst (λ (o : Option TwoOrders). AreOrders cells held (edges_in cells) c.args.positions.now c.args.preferred.now o)
@@ -45,8 +44,8 @@ returns c =
     let own = c.adjacency-edges.result.now in
     let orders = c.in-Some.orders in
     let edges : own ≡ edges_in cells =
-    edges_are c.in_ok-graph.graph c.adjacency-edges.ensures.is_graph own c.adjacency-edges.ensures.edges
-    ∙ ap by_index (c.in_ok-graph.ensures ∙ ap (λ (f : Facts). graph_of (cells_of f)) (c.wires.ensures ∙ c.subnet.ensures)) in
+    edges_are c.args.graph.now c.adjacency-edges.ensures.is_graph own c.adjacency-edges.ensures.edges
+    ∙ ap by_index c.requires.graph in
     let are : AreOrders cells held (edges_in cells) by preferred (Some orders) =
     subst (λ (o : Option TwoOrders). AreOrders cells held (edges_in cells) by preferred o) c.in-Some.is
     (subst (λ (x : List (List Edge)). AreOrders cells held x by preferred c.in_ok-orders.field-0) edges c.in_ok-orders.ensures) in

@@ -6,8 +6,8 @@ use Rattle.spread_routes.proofs.AdapterCounts.{adapters_long}
 use Rattle.lft_blocks.proofs.order.switch_order.Goals as goal
 
 pub adapters_of-requires : goal.adapters_of-requires
-adapters_of-requires c = c.switches.ensures ∙ ap guids_of c.in_ok-graph.ensures ∙ graph_guids (cells_of c.in_ok-wires.wires)
+adapters_of-requires c = c.switches.ensures ∙ ap guids_of c.requires ∙ graph_guids (cells_of c.args.wires.now)
 
 pub switches_in_order-requires : goal.switches_in_order-requires
 switches_in_order-requires c =
-    ap length (c.deref.ensures.value ∙ c.in_ok-adapters.ensures) ∙ adapters_long (cells_of c.in_ok-wires.wires) ∙ sym (ap length c.in_ok-graph.ensures)
+    ap length (c.deref.ensures.value ∙ c.in_ok-adapters.ensures) ∙ adapters_long (cells_of c.args.wires.now) ∙ sym (ap length c.requires)

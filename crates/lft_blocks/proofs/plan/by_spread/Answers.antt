@@ -17,22 +17,19 @@ use Rattle.lft_blocks.proofs.RowSteps.{same_attachments}
 use Rattle.lft_blocks.proofs.plan.by_spread.Goals as goal
 
 pub attachments-requires-clause-switches : goal.attachments-requires-clause-switches
-attachments-requires-clause-switches c = c.switches.ensures ∙ ap guids_of c.in_ok-graph.ensures ∙ graph_guids (cells_of c.args.wires.now)
+attachments-requires-clause-switches c = c.switches.ensures ∙ ap guids_of c.requires ∙ graph_guids (cells_of c.args.wires.now)
 
-pub returns-clause-switches : goal.returns-clause-switches
-returns-clause-switches c = c.into_switches.ensures ∙ ap guids_of c.in_ok-graph.ensures ∙ graph_guids (cells_of c.args.wires.now)
-
-pub returns-clause-tables : goal.returns-clause-tables
-returns-clause-tables c =
+pub returns : goal.returns
+returns c =
     let cells = cells_of c.args.wires.now in
-    let graph = c.in_ok-graph.graph in
+    let graph = c.args.graph.now in
     let attachments = attachment_of_lid cells c.args.lids.now in
-    let guids : guids_of graph ≡ switches cells = ap guids_of c.in_ok-graph.ensures ∙ graph_guids cells in
+    let guids : guids_of graph ≡ switches cells = ap guids_of c.requires ∙ graph_guids cells in
     let are = subst (λ (x : List ℕ × List (Option Attachment)). AreIndexed x.0 attachments x.1) (λ i. (c.switches.ensures i, sym c.deref.ensures.value i))
     c.in_ok-attachments.ensures.indexed in
     let counted = c.block_count-count.ensures.count ∙ ap block_count c.top.ensures in
-    c.in_ok-tables.ensures
+    c.in_ok-spread_tables.ensures
     ∙ (λ i. tables_of (same_attachments (guids_of graph) attachments c.deref.result.now are i)
     (numbered
-    (number_of (numbering_of c.args.lmc cells) (guids_of (c.in_ok-graph.ensures i)) (same_attachments (guids_of graph) attachments c.deref.result.now are i))
-    (spread_by (c.in_ok-graph.ensures i) (adapters_of cells) (order_value_of c.args.order.now))).next (counted i) (guids i))
+    (number_of (numbering_of c.args.lmc cells) (guids_of (c.requires i)) (same_attachments (guids_of graph) attachments c.deref.result.now are i))
+    (spread_by (c.requires i) (adapters_of cells) (order_value_of c.args.order.now))).next (counted i) (guids i))

@@ -16,23 +16,22 @@ use Rattle.lft_blocks.proofs.RowSteps.{same_attachments}
 use Rattle.lft_blocks.proofs.plan.by_updown.Goals as goal
 
 pub attachments-requires-clause-switches : goal.attachments-requires-clause-switches
-attachments-requires-clause-switches c = c.switches.ensures ∙ ap guids_of c.in_ok-graph.ensures ∙ graph_guids (cells_of c.args.wires.now)
+attachments-requires-clause-switches c = c.switches.ensures ∙ ap guids_of c.requires ∙ graph_guids (cells_of c.args.wires.now)
 
 pub updown_tables-requires-clause-rising : goal.updown_tables-requires-clause-rising
 updown_tables-requires-clause-rising c =
-    subst (λ (g : List SwitchEdges). IsStrictlyIncreasing (guids_of g)) (sym c.in_ok-graph.ensures) (switches_rise c.args.wires.now)
+    subst (λ (g : List SwitchEdges). IsStrictlyIncreasing (guids_of g)) (sym (c.in_ok-ranked.ensures ∙ c.requires)) (switches_rise c.args.wires.now)
 
-pub returns-clause-switches : goal.returns-clause-switches
-returns-clause-switches c = c.into_switches.ensures ∙ ap guids_of c.in_ok-graph.ensures ∙ graph_guids (cells_of c.args.wires.now)
-
-pub returns-clause-tables : goal.returns-clause-tables
-returns-clause-tables c =
+pub returns : goal.returns
+returns c =
     let cells = cells_of c.args.wires.now in
-    let graph = c.in_ok-graph.graph in
+    let ranked = c.in_ok-ranked.ranked in
+    let is = c.in_ok-ranked.ensures ∙ c.requires in
     let attachments = attachment_of_lid cells c.args.lids.now in
-    let guids : guids_of graph ≡ switches cells = ap guids_of c.in_ok-graph.ensures ∙ graph_guids cells in
-    let are = subst (λ (x : List ℕ × List (Option Attachment)). AreIndexed x.0 attachments x.1) (λ i. (c.switches.ensures i, sym c.deref.ensures.value i))
+    let guids : guids_of ranked ≡ switches cells = ap guids_of is ∙ graph_guids cells in
+    let own = c.switches.ensures ∙ sym (ap guids_of c.in_ok-ranked.ensures) in
+    let are = subst (λ (x : List ℕ × List (Option Attachment)). AreIndexed x.0 attachments x.1) (λ i. (own i, sym c.deref.ensures.value i))
     c.in_ok-attachments.ensures.indexed in
     let counted = c.block_count-count.ensures.count ∙ ap block_count c.top.ensures in
     c.in_ok-tables.ensures
-    ∙ (λ i. tables_of (same_attachments (guids_of graph) attachments c.deref.result.now are i) (updown (c.in_ok-graph.ensures i)).next (counted i) (guids i))
+    ∙ (λ i. tables_of (same_attachments (guids_of ranked) attachments c.deref.result.now are i) (updown (is i)).next (counted i) (guids i))

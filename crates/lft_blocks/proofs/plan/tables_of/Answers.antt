@@ -8,16 +8,16 @@ use Rattle.lft_blocks.specs.LidNumbers.{lid_numbers, numbered}
 use Rattle.lft_blocks.specs.Plan.{lid_routing, tables_by}
 use Rattle.lft_blocks.proofs.plan.tables_of.Goals as goal
 
-pub returns-in-Spread-clause-tables : goal.returns-in-Spread-clause-tables
-returns-in-Spread-clause-tables c =
+pub returns-in-Spread : goal.returns-in-Spread
+returns-in-Spread c =
     let cells = cells_of c.args.wires.now in
     let lids = c.args.lids.now in
-    subst (λ (r : RuleValue). IfOk c.by_spread.result (λ found. found.1.items ≡ tables_by (lid_routing r c.args.lmc cells lids) cells lids))
-    (ap value_of (sym c.in-Spread.is)) c.by_spread.ensures.tables
+    subst (λ (r : RuleValue). IfOk c.by_spread.result (λ tables. tables.items ≡ tables_by (lid_routing r c.args.lmc cells lids) cells lids))
+    (ap value_of (sym c.in-Spread.is)) c.by_spread.ensures
 
-pub returns-in-UpDown-clause-tables : goal.returns-in-UpDown-clause-tables
-returns-in-UpDown-clause-tables c =
+pub returns-in-UpDown : goal.returns-in-UpDown
+returns-in-UpDown c =
     let cells = cells_of c.args.wires.now in
     let number = lid_numbers c.args.lmc cells c.args.lids.now in
-    subst (λ (r : Routing). IfOk c.by_updown.result (λ found. found.1.items ≡ tables_by (numbered number r) cells c.args.lids.now))
-    (ap (λ r. rule_of r cells) (sym c.in-UpDown.is)) c.by_updown.ensures.tables
+    subst (λ (r : Routing). IfOk c.by_updown.result (λ tables. tables.items ≡ tables_by (numbered number r) cells c.args.lids.now))
+    (ap (λ r. rule_of r cells) (sym c.in-UpDown.is)) c.by_updown.ensures

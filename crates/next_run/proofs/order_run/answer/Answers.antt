@@ -20,7 +20,7 @@ map_there f (Some x) = refl
 pub returns-clause-told : goal.returns-clause-told
 returns-clause-told g c =
     let found = c.in_ok-network.ensures in
-    let facts_are = found.facts ∙ c.in_ok-subnet.ensures in
+    let facts_are = found.facts ∙ c.in_ok-wired.ensures ∙ c.in_ok-subnet.ensures in
     let order : Option (List ℕ) = option_map (λ taken. taken.items) c.in_ok-order.order in
     let Told : Facts × HeldPlan → Type 0 = λ x. IsImpliedOrder (cells_of x.0) x.1 (range_with_len 0 (length (switches (cells_of x.0)))) order in
     let Written : List ℕ → Type 0 = λ text. Appends (g.W.Sink.written c.args.sink.now) (g.W.Sink.written c.write_order.new.sink) text in

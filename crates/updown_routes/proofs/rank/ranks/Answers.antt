@@ -48,6 +48,6 @@ loop-root-preserved c =
           (ranks_passed graph c.len.ensures.is_graph root ranks below c.loop-root.invariant there)
     ]
 
-pub returns : goal.returns
-returns c = all_ranks c.args.graph.now c.len.ensures.is_graph c.loop-root.root c.loop-root.ranks.items
+pub returns-clause-ranks : goal.returns-clause-ranks
+returns-clause-ranks c = all_ranks c.args.graph.now c.len.ensures.is_graph c.loop-root.root c.loop-root.ranks.items
     (omega (arith, c.loop-root-test.false, c.len-root-end.ensures.count, length_map (λ (x : SwitchEdges). x.guid) c.args.graph.now)) c.loop-root.invariant

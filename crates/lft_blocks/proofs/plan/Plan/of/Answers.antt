@@ -1,5 +1,7 @@
-use Rattle.std.proofs.Common.{sym, subst, ◌∙◌}
+use Rattle.std.proofs.Common.{ap, sym, subst, ◌∙◌}
 use Rattle.fact_store.specs.View.{cells_of}
+use Rattle.subnet_view.specs.Graph.{guids_of}
+use Rattle.subnet_view.proofs.GraphSwitches.{graph_guids}
 use Rattle.lid_assign.specs.Lids.{top_of}
 use Rattle.lft_blocks.specs.Rule.{rule_of, value_of}
 use Rattle.lft_blocks.specs.Entries.{attachment_of_lid, block_count}
@@ -17,16 +19,16 @@ invariant_of-result c =
     let cells = cells_of facts in
     let next = (lid_routing (value_of c.args.rule.now) c.args.lmc cells lids).next in
     let count = block_count (top_of lids) in
-    let guids = c.in_ok-switches.switches.items in
-    let theirs = c.in_ok-switches.ensures.switches in
-    are_tables (attachment_of_lid cells lids) next count guids c.in_ok-switches.tables.items (switches_rise facts guids theirs)
-    (c.in_ok-switches.ensures.tables ∙ (λ i. tables_of (attachment_of_lid cells lids) next count (sym theirs i)))
+    let guids = c.into_switches-switches.result.items in
+    let theirs = c.into_switches-switches.ensures ∙ ap guids_of c.in_ok-graph.ensures ∙ graph_guids cells in
+    are_tables (attachment_of_lid cells lids) next count guids c.in_ok-tables.tables.items (switches_rise facts guids theirs)
+    (c.in_ok-tables.ensures ∙ (λ i. tables_of (attachment_of_lid cells lids) next count (sym theirs i)))
 
 pub returns-clause-plan : goal.returns-clause-plan
 returns-clause-plan c =
     let rule = c.args.rule.now in
     let lids = c.in_ok-lids.ensures.lids in
-    let tables = c.in_ok-switches.ensures.tables
+    let tables = c.in_ok-tables.ensures
     ∙ (λ j. tables_by (lid_routing (value_of rule) c.args.lmc (cells_of (c.in_ok-wires.ensures j)) (lids j)) (cells_of (c.in_ok-wires.ensures j)) (lids j)) in
     λ i. record { given = lids i; tables = tables i }
 

@@ -17,7 +17,7 @@ use Rattle.packet_walks.proofs.network.Network.all_arrive.Goals.{then-all_begin,
 pub returns-then-has : goal.returns-then-has
 returns-then-has c = λ sole.
     let line = c.args.line.now in
-    let inside : Seen = record { facts = c.self.inside.subnet.now; held = c.self.inside.held.now } in
+    let inside : Seen = record { facts = c.self.inside.wired.now; held = c.self.inside.held.now } in
     let cells = cells_of inside.facts in
     let Come : Seen → Type 0 = λ s. ComeToOwner (cells_of s.facts) s.held line.lid in
     let Sole : Seen → Type 0 = λ s. is_sole line.port (owners_of s.held line.lid) ≡ true in

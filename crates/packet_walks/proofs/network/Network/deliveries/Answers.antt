@@ -14,7 +14,7 @@ use Rattle.packet_walks.proofs.network.Network.deliveries.Goals as goal
 
 pub returns : goal.returns
 returns c =
-    let inside : Seen = record { facts = c.self.inside.subnet.now; held = c.self.inside.held.now } in
+    let inside : Seen = record { facts = c.self.inside.wired.now; held = c.self.inside.held.now } in
     let cells = cells_of inside.facts in
     let number = c.args.blocks.now.number in
     let rows = c.args.blocks.now.rows.items in

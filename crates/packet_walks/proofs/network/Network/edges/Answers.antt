@@ -12,7 +12,7 @@ use Rattle.packet_walks.proofs.network.Network.edges.Goals as goal
 pub returns : goal.returns
 returns c =
     let a = c.args in
-    let inside : Seen = record { facts = c.self.inside.subnet.now; held = c.self.inside.held.now } in
+    let inside : Seen = record { facts = c.self.inside.wired.now; held = c.self.inside.held.now } in
     let cells = cells_of inside.facts in
     let Found : Seen → Type 0 = λ s. IfOk c.edges.result (λ found. found.items ≡ edges_of (cells_of s.facts) s.held a.lid) in
     let Gathered : Seen → Type 0 = λ s. AreBlocks s.held a.blocks.now.number a.blocks.now.rows.items in

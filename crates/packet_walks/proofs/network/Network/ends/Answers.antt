@@ -20,7 +20,7 @@ new-requires-clause-firsts c = c.firsts.ensures ∙ ap (map first_switch) (sym c
 
 pub new-requires-clause-begin : goal.new-requires-clause-begin
 new-requires-clause-begin c =
-    let cells = cells_of c.self.inside.subnet.now in
+    let cells = cells_of c.self.inside.wired.now in
     let nodes = c.self.inside.nodes.items in
     let steps = c.in_ok-steps.steps.items in
     let step : AuditedSwitch → NextHop = next_hop_of c.deref-4.result.now c.deref-5.result.now c.args.lid in
@@ -34,7 +34,7 @@ pub returns : goal.returns
 returns c =
     let rows = c.args.blocks.now.rows.items in
     let number = c.args.blocks.now.number in
-    let inside : Seen = record { facts = c.self.inside.subnet.now; held = c.self.inside.held.now } in
+    let inside : Seen = record { facts = c.self.inside.wired.now; held = c.self.inside.held.now } in
     let cells = cells_of inside.facts in
     let Found : Seen → Type 0 = λ s. IfOk c.new.result (λ ended. AreBrought (cells_of s.facts) s.held c.args.lid ended.ends × (ended.port ≡ c.args.port)) in
     let Gathered : Seen → Type 0 = λ s. AreBlocks s.held number rows in

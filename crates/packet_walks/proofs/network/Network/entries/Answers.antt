@@ -13,7 +13,7 @@ use Rattle.packet_walks.proofs.network.Network.entries.Goals as goal
 pub returns : goal.returns
 returns c =
     let a = c.args in
-    let inside : Seen = record { facts = c.self.inside.subnet.now; held = c.self.inside.held.now } in
+    let inside : Seen = record { facts = c.self.inside.wired.now; held = c.self.inside.held.now } in
     let cells = cells_of inside.facts in
     let Found : Seen → Type 0 = λ s. IfOk c.entries.result (λ found. found.items ≡ map (entry_for s.held a.lid) (switches (cells_of s.facts))) in
     let Gathered : Seen → Type 0 = λ s. AreBlocks s.held a.blocks.now.number a.blocks.now.rows.items in

@@ -15,4 +15,4 @@ returns c =
     subst Told c.self.view_is
     (c.greatest_top.ensures
     ∙ ap (λ (nodes : List AuditedSwitch). greatest (map (λ (n : AuditedSwitch). n.top) nodes)) c.deref.ensures.value
-    ∙ greatest_is (cells_of inside.subnet.now) inside.held.now inside.nodes.items c.self.invariant.nodes_are)
+    ∙ greatest_is (cells_of inside.wired.now) inside.held.now inside.nodes.items c.self.invariant.nodes_are)

@@ -9,7 +9,7 @@ use Rattle.held_tables.specs.declared.far_end.Far.{Far}
 use Rattle.held_tables.specs.declared.far_end.Far.TheVariants.{Nothing}
 use Rattle.held_tables.specs.declared.wired_switch.WiredSwitch.{WiredSwitch}
 use Rattle.held_tables.specs.Switches.{far_by, row_of, wired_of}
-use Rattle.held_tables.proofs.subnet.Subnet.far.Goals as goal
+use Rattle.held_tables.proofs.wired_subnet.WiredSubnet.far.Goals as goal
 
 -- where the wire in `port` of a switch leads, if there is a switch
 abbrev far_if : ℕ → Option WiredSwitch → Far
@@ -24,7 +24,7 @@ there cells (g ∷ guids) (suc index) port = there cells guids index port
 pub returns-in-Some : goal.returns-in-Some
 returns-in-Some c =
     let n = c.args.number in
-    let cells = cells_of c.self.inside.wires in
+    let cells = cells_of c.self.inside.subnet.now in
     let Found : Facts → Type 0 = λ s. c.far.result ≡ far_by (cells_of s) n in
     let at : slice_get (map (wired_of cells) (switches cells)) (n / 256) ≡ Some c.in-Some.switch.now =
     sym (ap (λ (ss : List WiredSwitch). slice_get ss (n / 256)) (c.deref.ensures.value ∙ c.self.invariant.wired_are))
@@ -36,7 +36,7 @@ returns-in-Some c =
 pub returns-in-None : goal.returns-in-None
 returns-in-None c =
     let n = c.args.number in
-    let cells = cells_of c.self.inside.wires in
+    let cells = cells_of c.self.inside.subnet.now in
     let Found : Facts → Type 0 = λ s. Nothing ≡ far_by (cells_of s) n in
     let at : slice_get (map (wired_of cells) (switches cells)) (n / 256) ≡ None =
     sym (ap (λ (ss : List WiredSwitch). slice_get ss (n / 256)) (c.deref.ensures.value ∙ c.self.invariant.wired_are))

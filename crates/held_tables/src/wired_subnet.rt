@@ -9,23 +9,18 @@ use crate::far_end::Far;
 use crate::held::Held;
 use crate::senders::{Sender, all_begin, firsts, sources};
 use crate::wired_switch::{WiredSwitch, wired_switches};
-use fact_store::{Refused, Store};
-use smp_bytes::Guid;
 use std::alloc::{AllocError, Global};
 use std::marker::Model;
-use subnet_view::{EndPort, Wires, end_ports, switches};
+use subnet_view::Subnet;
 
-/// A subnet, as a view of facts describes it: its usable switches, its wires and its end ports.
+/// A subnet with what packets need that go by the tables of its switches: the far end of each wire of a usable switch,
+/// and the first switch that the packets of each end port reach.
 #[derive(Drop)]
-pub struct Subnet<'s> {
-    wires: Wires<'s>,
-    /// The GUIDs of the usable switches, in ascending order.
-    guids: Vec<Guid>,
+pub struct WiredSubnet<'s> {
+    subnet: &'s Subnet<'s>,
     /// The usable switches, in ascending order of GUID.
     switches: Vec<WiredSwitch>,
-    /// The end ports, in ascending order of port GUID, then node GUID, then port.
-    ports: Vec<EndPort>,
-    /// The end ports as senders, in the order of `ports`.
+    /// The end ports as senders, in the order of `Subnet::end_ports`.
     sources: Vec<Sender>,
     /// For each sender, the index of the first switch that the sender's packets reach, or `None` if these packets
     /// reach no switch.
@@ -34,73 +29,48 @@ pub struct Subnet<'s> {
     begin: bool,
 }
 
-impl<'s> Model for Subnet<'s> {
+impl<'s> Model for WiredSubnet<'s> {
     ghost use Rattle.fact_store.specs.Coded.{facts_code};
     ghost use Rattle.fact_store.specs.View.{Facts, cells_of};
-    ghost use Rattle.held_tables.specs.Subnet.{IsSubnet};
+    ghost use Rattle.held_tables.specs.WiredSubnet.{IsWired};
 
     ghost Value = { Facts };
 
     ghost coded = { facts_code };
 
-    ghost view = { λ a. a.wires };
+    ghost view = { λ a. a.subnet.now };
 
-    ghost invariant = { λ a. IsSubnet (cells_of a.wires) a.guids.items a.switches.items a.ports.items
-        a.sources.items a.firsts.items a.begin };
+    ghost invariant = { λ a. IsWired (cells_of a.subnet.now) a.switches.items a.sources.items a.firsts.items a.begin };
 }
 
-impl<'s> Subnet<'s> {
-    /// Returns the subnet that the view of `store` describes.
-    pub fn of(alloc: Global, store: &'s Store) -> Result<Self, Refused>
-        ensures { IfOk result (λ subnet. subnet ≡ store.now) }
+impl<'s> WiredSubnet<'s> {
+    /// Finds the far ends of the wires of `subnet`, and where the packets of its end ports begin.
+    pub fn of(alloc: Global, subnet: &'s Subnet<'s>) -> Result<Self, AllocError>
+        ensures { IfOk result (λ wired. wired ≡ subnet.now) }
     {
-        let wires = Wires::of(alloc, store)?;
-        let guids = switches(alloc, store)?;
-        let wired = wired_switches(alloc, &wires, &guids)?;
-        let ports = end_ports(alloc, store)?;
-        let sources = sources(alloc, &wires, &guids, &ports)?;
+        let wires = subnet.wires();
+        let guids = subnet.switches();
+        let switches = wired_switches(alloc, wires, guids)?;
+        let sources = sources(alloc, wires, guids, subnet.end_ports())?;
         let firsts = firsts(alloc, &sources)?;
-        let begin = all_begin(wired.len(), &firsts);
-        Ok(Subnet {
-            wires,
-            guids,
-            switches: wired,
-            ports,
+        let begin = all_begin(switches.len(), &firsts);
+        Ok(WiredSubnet {
+            subnet,
+            switches,
             sources,
             firsts,
             begin,
         })
     }
 
-    /// Returns the store whose view describes the subnet.
-    pub fn store(&self) -> &Store
+    /// Returns the subnet.
+    pub fn subnet(&self) -> &'s Subnet<'s>
         ensures { result.now ≡ self.now }
     {
-        self.wires.store()
+        self.subnet
     }
 
-    /// Returns the wires of the subnet.
-    pub fn wires(&self) -> &Wires<'s>
-        ensures { result.now ≡ self.now }
-    {
-        &self.wires
-    }
-
-    /// Returns the GUIDs of the usable switches, in ascending order.
-    pub fn switches(&self) -> &[Guid]
-        ensures { result.now ≡ switches (cells_of self.now) }
-    {
-        &self.guids
-    }
-
-    /// Returns the end ports, in ascending order of port GUID, then node GUID, then port.
-    pub fn end_ports(&self) -> &[EndPort]
-        ensures { result.now ≡ end_ports (cells_of self.now) }
-    {
-        &self.ports
-    }
-
-    /// Returns the end ports as senders, in the order of `end_ports`.
+    /// Returns the end ports as senders, in the order of `Subnet::end_ports`.
     pub fn sources(&self) -> &[Sender]
         ensures { result.now ≡ map (sender_of (cells_of self.now)) (end_ports (cells_of self.now)) }
     {

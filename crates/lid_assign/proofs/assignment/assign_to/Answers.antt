@@ -3,7 +3,7 @@ use Rattle.std.proofs.Common.{arith}
 use Rattle.fact_store.specs.View.{cells_of}
 use Rattle.lid_assign.proofs.FreeLids.{room_at_most}
 use Rattle.lid_assign.proofs.LidLaws.{found_in_room}
-use Rattle.lid_assign.proofs.assignment.assign.Goals as goal
+use Rattle.lid_assign.proofs.assignment.assign_to.Goals as goal
 
 pub new-requires : goal.new-requires
 new-requires c =
