@@ -28,9 +28,9 @@ impl WayTally {
         })
     }
 
-    /// For each switch, adds the route along `edges` as many times as the switch's weight. Adds `direct` routes along
-    /// one wire. Takes time linear in the number of switches and, for each weight above 0, in the number of channels of
-    /// that switch's route.
+    /// Adds, for each switch, the route along `edges` as many times as the switch's weight, and `direct` routes along
+    /// one wire. Takes time linear in the number of switches and, for each weight above 0, in the channels of its
+    /// route.
     pub(crate) fn add(
         &mut self,
         edges: &[Option<Edge>],

@@ -200,10 +200,8 @@ fn step_near(
     Ok(MadeStep { next, order })
 }
 
-/// Returns the tables to write next by the rule of `choice`, from the tables of the network `from`. They lead towards
-/// the goal of `choice` or, if `choice` has no goal, towards the tables of the network `plan`. Both networks must have
-/// the same facts. If another end port holds a LID of the goal in the tables of `from`, returns the fault `Moves` with
-/// the first such LID. Otherwise returns `Memory` if memory is refused.
+/// Returns the tables to write next by the rule of `choice`, from the tables of `from` towards the goal of `choice` or,
+/// if it has none, those of `plan`. Fails with `Moves` if another end port holds a LID of the goal in `from`.
 fn next_by_choice(
     alloc: Global,
     choice: &StepChoice,

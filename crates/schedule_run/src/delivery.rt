@@ -14,8 +14,7 @@ use schedule_lines::{RunFault, refuse_fabric, refuse_manager, show_trap};
 
 impl World<'_> {
     /// Performs one step of the packet in flight that `which` names, loses it, or copies it, as `fate` says. A packet
-    /// that is handed up goes to the manager at the port. Prints the refusal if there is no such packet, or of the
-    /// fabric.
+    /// that is handed up goes to the manager at the port. Prints a refusal, also if there is no such packet.
     #[tactic(auto, unfolding(crate::specs::Commands::after_packet_line))]
     pub(crate) fn handle_packet<W: Sink>(
         &mut self,
