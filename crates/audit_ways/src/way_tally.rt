@@ -29,8 +29,7 @@ impl WayTally {
     }
 
     /// Adds, for each switch, the route along `edges` as many times as the switch's weight, and `direct` routes along
-    /// one wire. Takes time linear in the number of switches and, for each weight above 0, in the channels of its
-    /// route.
+    /// one wire. Takes time linear in the number of switches and, for each weight above 0, in the route's channels.
     pub(crate) fn add(
         &mut self,
         edges: &[Option<Edge>],

@@ -53,8 +53,7 @@ impl<S: Source> InputReader<S> for TopologyAndSchedule {
 }
 
 /// Reads the two `texts` to their ends, the topology first, and returns what they describe, or the fault of the first
-/// that cannot be read or, if both were read, of the topology and then of the schedule. `before` other inputs come
-/// before `texts`.
+/// that cannot be read or, if both were read, of the topology and then of the schedule. `before` inputs come before.
 fn read_setting<S: Source>(alloc: Global, before: usize, texts: &mut [S]) -> Result<Setting, Fault>
     requires two { length texts.old ≡ 2 }
     requires counted { before + length texts.old ≤ usize.MAX }
