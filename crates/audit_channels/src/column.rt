@@ -64,9 +64,8 @@ struct Turn {
     next: usize,
 }
 
-/// Returns the channel that a packet takes from `vertex` along its edge in `before`, and the channel that it takes
-/// next, along the next vertex's edge in `now`. Returns `None` if one of these edges is missing. Each column must have
-/// fewer than 2^56 vertices.
+/// Returns the channel that a packet takes from `vertex` along its edge in `before`, and the next one, along the next
+/// vertex's edge in `now`. Returns `None` if one of these edges is missing.
 fn turn_at(before: &[Option<Edge>], now: &[Option<Edge>], vertex: usize) -> Option<Turn>
     requires before { 256 * length before.now < 2 ^ 64 }
     requires now { 256 * length now.now < 2 ^ 64 }
@@ -87,8 +86,7 @@ pub fn edge_of(column: &[Option<Edge>], vertex: usize) -> Option<Edge>
     column.get(vertex).copied().flatten()
 }
 
-/// Returns the number of the channel of `edge`, an edge of `vertex`. The numbers of all channels of `vertex` must fit
-/// in 64 bits.
+/// Returns the number of the channel of `edge`, an edge of `vertex`.
 fn number_of(vertex: usize, edge: Edge) -> usize
     requires { 256 * vertex + 256 < 2 ^ 64 + 1 }
     ensures is { result ≡ number_of vertex edge }

@@ -7,9 +7,7 @@ use crate::numbers::has_none;
 use crate::waits::Waits;
 use std::alloc::{AllocError, Global};
 
-/// Returns the cycle that a walk from `first` along channels without a number reaches. `first` must have no number.
-/// In `waits`, each channel without a number must be followed by another one without a number, and each channel with
-/// a number must have a lesser number than those that follow it.
+/// Returns the cycle that a walk from `first` along channels without a number reaches.
 pub(crate) fn cycle_from(
     alloc: Global,
     waits: &Waits,

@@ -34,8 +34,7 @@ impl Following {
         &self.channels
     }
 
-    /// Adds `channel` unless the list has it already. Takes constant time if `channel` is known, and otherwise time
-    /// linear in the number of channels. If memory runs out, the list stays as it is.
+    /// Adds `channel` unless the list has it, in constant time if it is known and else in time linear in the channels.
     pub(crate) fn add(&mut self, channel: usize) -> Result<(), AllocError>
         ensures added { OnOk result (AreWith self.old.channels.items channel self.new.channels.items) }
         ensures kept { OnErr result (self.new.channels.items ≡ self.old.channels.items) }

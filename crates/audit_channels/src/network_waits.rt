@@ -30,9 +30,8 @@ pub fn channel_waits(alloc: Global, network: &Network) -> Result<Waits, AllocErr
     Ok(waits)
 }
 
-/// Records in `waits` the channels that packets take one after the other along the edges of `column`. Does nothing if
-/// `column` equals `before`, whose channels must be recorded already. `waits` must have 256 channels for each vertex
-/// of `column`, fewer than 2^64 in all.
+/// Records in `waits` the channels that packets take one after the other along the edges of `column`, unless it equals
+/// `before`, whose channels are recorded.
 fn add_after(
     waits: &mut Waits,
     before: &[Option<Edge>],

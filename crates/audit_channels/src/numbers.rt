@@ -7,8 +7,7 @@ ghost use Rattle.audit_channels.specs.Numbers.{AreGiven, has_none, is_free, is_h
 use crate::waits::Waits;
 use std::alloc::{AllocError, Global};
 
-/// Returns a number above 0 for each channel that leads to no cycle, and 0 for each other channel. The number of a
-/// channel, if it is above 0, is less than the numbers of the channels that follow the channel. Works in rounds. A
+/// Returns a number above 0 for each channel that leads to no cycle, and 0 for each other channel. Works in rounds. A
 /// round takes time linear in the number of channels that have no number yet, plus the numbers of channels that follow
 /// each of them. There are as many rounds as the longest chain of numbered channels has channels, and one more.
 pub(crate) fn numbers(alloc: Global, waits: &Waits) -> Result<Vec<usize>, AllocError>

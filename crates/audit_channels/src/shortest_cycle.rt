@@ -11,8 +11,7 @@ use crate::numbers::has_none;
 use crate::waits::Waits;
 use std::alloc::{AllocError, Global};
 
-/// Returns a cycle with the fewest channels. This is `known` if no cycle has fewer channels. `known` must be a cycle,
-/// and `numbers` must be as `cycle_from` asks.
+/// Returns a cycle with the fewest channels, which is `known` if no cycle has fewer.
 pub(crate) fn shortest_cycle(
     alloc: Global,
     waits: &Waits,
@@ -32,9 +31,7 @@ pub(crate) fn shortest_cycle(
     Ok(shortest)
 }
 
-/// Returns a shortest cycle through `first` if such a cycle has fewer channels than `known`, and otherwise `known`.
-/// `known` must be a cycle. There must be a mark for each channel, none greater than `first`. `numbers` must be as
-/// `cycle_from` asks.
+/// Returns a shortest cycle through `first` if it has fewer channels than `known`, and otherwise `known`.
 fn shorter_from(
     alloc: Global,
     waits: &Waits,
@@ -76,10 +73,9 @@ pub(crate) struct Visited {
     count: usize,
 }
 
-/// Returns a shortest cycle through `first` if such a cycle has fewer than `least` channels, and otherwise an empty
-/// list. Marks each channel that the search reaches, except `first`, with `first` + 1. `first` must have no number.
-/// There must be a mark for each channel, none greater than `first`. `numbers` must be as `cycle_from` asks. Takes
-/// time linear in the number of channels that are reached, plus the numbers of channels that follow them.
+/// Returns a shortest cycle through `first` if it has fewer than `least` channels, and otherwise an empty list. Marks
+/// each channel that it reaches, except `first`, with `first` + 1. Takes time linear in the number of channels that are
+/// reached, plus the numbers of channels that follow them.
 fn cycle_of(
     alloc: Global,
     waits: &Waits,
@@ -125,8 +121,7 @@ fn cycle_of(
     Ok(Vec::new(alloc))
 }
 
-/// Returns the item of `reached` at `index`. Returns `None` if there is no such item, or if its path has `least`
-/// channels or more.
+/// Returns the item of `reached` at `index`, if there is one and its path has fewer than `least` channels.
 fn in_turn(reached: &[Visited], index: usize, least: usize) -> Option<Visited>
     ensures some { IfSome result (λ here. (index < length reached.now) × (here ≡ at_index reached.now index)
         × (here.count < least)) }
@@ -137,8 +132,7 @@ fn in_turn(reached: &[Visited], index: usize, least: usize) -> Option<Visited>
 }
 
 /// Adds to `reached` each channel that follows `here`, if the path via `here` to that channel has fewer than `least`
-/// channels. Leaves out channels that have a number, or that have the mark of this search, `first` + 1. `here` must
-/// be the item of `reached` at `index`, and its path must have fewer than `least` channels.
+/// channels. Leaves out channels that have a number, or that have the mark of this search, `first` + 1.
 fn reach_on(
     waits: &Waits,
     numbers: &[usize],
@@ -175,9 +169,7 @@ fn reach_on(
     Ok(())
 }
 
-/// Adds `next` to `reached` and marks its channel with `first` + 1. Does nothing if the channel has a number, or has
-/// this mark already. `next` must be a step of the search from `first` that has reached `reached` and set `marks`,
-/// and `first` + 1 must fit in 64 bits.
+/// Adds `next` to `reached` and marks its channel with `first` + 1, unless it has a number or this mark already.
 fn reach(
     waits: &Waits,
     numbers: &[usize],
@@ -202,8 +194,7 @@ fn reach(
     Ok(())
 }
 
-/// Returns the path from `first` to the channel of `reached` at `index`. There must be one, and `first` must follow
-/// it, so that the path is a cycle. `reached` must be the channels that a search from `first` has reached.
+/// Returns the path from `first` to the channel of `reached` at `index`, a cycle since `first` follows that channel.
 fn way_back(
     alloc: Global,
     waits: &Waits,

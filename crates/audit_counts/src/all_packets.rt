@@ -45,9 +45,8 @@ pub fn survey(
     Ok(PacketSurvey { tally, told })
 }
 
-/// Adds the packets for the LIDs of all lines to `tally`. Appends to `told`, which must be empty, a flag for each
-/// line. It is true only if all packets for the line's LID are delivered at the line's port. `sites` must be the
-/// sites of the end ports, in the order of the end ports.
+/// Adds the packets for the LIDs of all lines to `tally`. Appends to `told` a flag for each line, which is true only if
+/// all packets for its LID are delivered at its port.
 fn add_lines(
     alloc: Global,
     tally: &mut PacketTally,
@@ -79,9 +78,7 @@ fn add_lines(
 }
 
 /// Adds to `tally` the packets that the end ports in the component of `owner` send to the LID of `line`. Returns true
-/// only if all packets for this LID are delivered at the port of `line`. `cursor` must be at this LID. `sites` must
-/// be the sites of the end ports, in the order of the end ports, and `census` must be the census of `sites`. `owner`
-/// must be the site, among `sites`, of the port of `line`.
+/// only if all packets for this LID are delivered at the port of `line`.
 fn add_packets(
     alloc: Global,
     tally: &mut PacketTally,
@@ -126,8 +123,7 @@ fn add_packets(
     Ok(false)
 }
 
-/// Adds to `tally` the packets that the end ports in the component of `owner` send to the port of `owner`, all as
-/// arrived. `owner` must be one of `sites`, and `census` must be the census of `sites`.
+/// Adds to `tally` the packets that the end ports in the component of `owner` send to its port, all as arrived.
 fn add_arrived(
     tally: &mut PacketTally,
     sites: &[Site],

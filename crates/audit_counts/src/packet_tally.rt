@@ -60,8 +60,7 @@ impl PacketTally {
         self.between.add_arrived(between)
     }
 
-    /// Counts `packet`, and whether it arrives, among all packets. If `packet` goes between adapter ports, counts it
-    /// among those packets too.
+    /// Counts `packet`, and whether it arrives, among all packets and, if it is one, among those between adapter ports.
     fn count(&mut self, packet: &SentPacket) -> Result<(), AllocError>
         ensures { OnOk result (IsCountedWith self.old packet.now self.new) }
     {
@@ -70,7 +69,7 @@ impl PacketTally {
         self.between.add(packet.is_between(), arrives)
     }
 
-    /// Adds `packet`, which must not arrive, to the packets of its kind.
+    /// Adds `packet`, which does not arrive, to the packets of its kind.
     fn miss(&mut self, packet: SentPacket) -> Result<(), AllocError>
         requires { arrives packet ≡ false }
         ensures { OnOk result (IsMissed self.old packet self.new) }

@@ -23,8 +23,7 @@ impl Pairs {
         }
     }
 
-    /// Counts one packet if `is_one` is true, and counts it as arrived if `arrives` is true too. Changes nothing if
-    /// `is_one` is false. Returns an error if the count does not fit in 64 bits.
+    /// Counts one packet, as arrived if `arrives`, if `is_one`. Returns an error if the count does not fit in 64 bits.
     pub(crate) fn add(&mut self, is_one: bool, arrives: bool) -> Result<(), AllocError>
         ensures { OnOk result (ArePairsIf self.old is_one arrives self.new) }
     {

@@ -60,8 +60,7 @@ fn leads_to(far: Option<(Guid, PortNum)>, port: &EndPort) -> bool
     }
 }
 
-/// Returns whether the end ports of all `sites` lie at usable switches of the same component. Returns true if `sites`
-/// is empty.
+/// Returns whether the end ports of all `sites` lie at usable switches of one component, as they do if there are none.
 pub(crate) fn are_one_component(sites: &[Site]) -> bool
     ensures { result ≡ are_one_component sites.now }
 {
@@ -105,9 +104,8 @@ fn adapter_count(sites: &[Site]) -> usize
     sites.iter().filter(|site| is_adapter(&site.port)).count()
 }
 
-/// Returns how many of `sites` are joined to `owner` (`is_joined_to`). `owner` must be one of `sites`, and `census`
-/// must be the census of `sites`. Takes constant time if `census.whole` is true, otherwise time linear in the number
-/// of sites.
+/// Returns how many of `sites` are joined to `owner` (`is_joined_to`). Takes constant time if `census.whole` is true,
+/// otherwise time linear in the number of sites.
 pub(crate) fn joined_count(sites: &[Site], owner: &Site, census: Census) -> usize
     requires census { IsCensus sites.now census }
     requires listed { Contains sites.now owner.now }
@@ -119,9 +117,8 @@ pub(crate) fn joined_count(sites: &[Site], owner: &Site, census: Census) -> usiz
     sites.iter().filter(|site| site.is_joined_to(owner)).count()
 }
 
-/// Returns how many of `sites` are of adapter ports and are joined to `owner` (`is_joined_to`), or 0 if `owner` is not
-/// of an adapter port. `owner` must be one of `sites`, and `census` must be the census of `sites`. Takes constant time
-/// if `owner` is not of an adapter port or `census.whole` is true, otherwise time linear in the number of sites.
+/// Returns how many of `sites` are of adapter ports and are joined to `owner`, or 0 if `owner` is of none. Takes
+/// constant time in that case or if `census.whole` is true, otherwise time linear in the number of sites.
 pub(crate) fn joined_adapters(sites: &[Site], owner: &Site, census: Census) -> usize
     requires census { IsCensus sites.now census }
     requires listed { Contains sites.now owner.now }
@@ -163,8 +160,7 @@ pub fn sites(alloc: Global, subnet: &Subnet) -> Result<Vec<Site>, AllocError>
     sites_of(alloc, subnet.wires(), &graph, &roots, subnet.end_ports())
 }
 
-/// Returns the sites of `ports`, in the order of `ports`. `graph` must be the graph of `wires`, and `roots` must be the
-/// roots of its switches.
+/// Returns the sites of `ports`, in the order of `ports`.
 fn sites_of(
     alloc: Global,
     wires: &Wires,
@@ -183,7 +179,7 @@ fn sites_of(
     Ok(sites)
 }
 
-/// Returns the site of `port`. `graph` must be the graph of `wires`, and `roots` must be the roots of its switches.
+/// Returns the site of `port`.
 fn site_of(wires: &Wires, graph: &SwitchGraph, roots: &[Option<Guid>], port: &EndPort) -> Site
     requires graph { graph.now ≡ graph_of (cells_of wires.now) }
     requires roots { roots.now ≡ map (root_of graph.now) (guids_of graph.now) }
@@ -198,8 +194,7 @@ fn site_of(wires: &Wires, graph: &SwitchGraph, roots: &[Option<Guid>], port: &En
     }
 }
 
-/// Returns the root of the component in which `port` lies, or `None` if `port` lies at no usable switch. `graph` must
-/// be the graph of `wires`, and `roots` must be the roots of its switches.
+/// Returns the root of the component in which `port` lies, or `None` if `port` lies at no usable switch.
 fn root_at(
     wires: &Wires,
     graph: &SwitchGraph,
@@ -215,8 +210,7 @@ fn root_at(
     roots[index]
 }
 
-/// Returns the node of `port` if it is a usable switch. Otherwise returns the usable switch at the other end of the
-/// wire of `port`, or `None` if `port` has no wire or if there is no usable switch.
+/// Returns the usable switch of `port`: its node, or the one at the other end of its wire, if there is one.
 fn switch_of(wires: &Wires, port: &EndPort) -> Option<Guid>
     ensures { result ≡ switch_of (cells_of wires.now) port.now }
 {

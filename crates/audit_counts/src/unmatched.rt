@@ -55,8 +55,7 @@ impl Unmatched {
     }
 }
 
-/// Counts the lines of LIDs whose ports are not end ports of the facts, and the lines of LIDs that more than one end
-/// port holds. Keeps the first `most` lines of each kind.
+/// Counts the lines of LIDs whose ports are no end ports, and those of LIDs with several. Keeps `most` of each kind.
 fn unowned_and_twice(
     alloc: Global,
     most: usize,
@@ -70,8 +69,7 @@ fn unowned_and_twice(
     Ok((unowned, twice))
 }
 
-/// Counts the switches that have tables but are not usable switches of the facts, and the usable switches without
-/// tables. Keeps the first `most` switches of each kind.
+/// Counts switches with tables that are not usable, and usable switches without. Keeps the first `most` of each kind.
 fn unknown_and_tableless(
     alloc: Global,
     most: usize,
@@ -99,8 +97,7 @@ fn unusable_and_unjoined(
     Ok((unusable, unjoined))
 }
 
-/// Counts the nodes that `unusable_nodes` finds: nodes that the facts name but whose type is unknown, and switches
-/// whose table room is unknown. Keeps the first `most` of these nodes.
+/// Counts the nodes that `unusable_nodes` finds, and keeps the first `most` of them.
 fn unusable_of(alloc: Global, most: usize, store: &Store) -> Result<FirstFew<Guid>, AllocError>
     ensures { IfOk result (λ few. few ≡ unusable most (cells_of store.now)) }
 {
@@ -108,8 +105,7 @@ fn unusable_of(alloc: Global, most: usize, store: &Store) -> Result<FirstFew<Gui
     FirstFew::of(alloc, most, &guids)
 }
 
-/// Counts the ports that `unjoined_ports` finds: ports that the facts name but do not show to be down, to have a wire,
-/// or to be the end port of a switch. Keeps the first `most` of these ports.
+/// Counts the ports that `unjoined_ports` finds, and keeps the first `most` of them.
 fn unjoined_of(alloc: Global, most: usize, wires: &Wires) -> Result<FirstFew<EndPort>, AllocError>
     ensures { IfOk result (λ few. few ≡ unjoined most (cells_of wires.now)) }
 {

@@ -138,8 +138,7 @@ fn write_way<W: Sink>(sink: &mut W, network: &Network, found: &WayFound) -> Resu
     sink.write(b"\n")
 }
 
-/// Writes the channels of `way`, which a packet for `lid` takes, and how the packet ends. If `way` is `None`, writes that
-/// the sender is no end port.
+/// Writes the channels of `way`, for `lid`, and how the packet ends or, without a way, that the sender is no end port.
 fn write_tail<W: Sink>(
     sink: &mut W,
     network: &Network,

@@ -84,8 +84,7 @@ fn write_tally<W: Sink>(
     write_missed(sink, network, tally)
 }
 
-/// Writes how many packets there are and how many arrive: of all packets, of packets between adapter ports, and of
-/// packets to or from a switch.
+/// Writes how many packets there are and arrive: of all, of those between adapter ports, and of those with a switch.
 fn write_pairs<W: Sink>(sink: &mut W, all: &Pairs, between: &Pairs) -> Result<(), WriteFault>
     ensures { WritesPart W.written W.has_failed result sink.old sink.new (pairs_text all.now between.now) }
 {
@@ -94,8 +93,7 @@ fn write_pairs<W: Sink>(sink: &mut W, all: &Pairs, between: &Pairs) -> Result<()
     write_with_switch(sink, all, between)
 }
 
-/// Writes how many packets of `all` are not in `between`, and how many of those packets arrive. They are the packets to
-/// or from a switch.
+/// Writes how many packets of `all` are not in `between`, those to or from a switch, and how many of them arrive.
 fn write_with_switch<W: Sink>(sink: &mut W, all: &Pairs, between: &Pairs) -> Result<(), WriteFault>
     ensures { Writes W.written W.has_failed result sink.old sink.new
         (counts_line (codes "with a switch ") (all.now.sent - between.now.sent)
@@ -213,8 +211,7 @@ fn write_packets<W: Sink>(
     Ok(())
 }
 
-/// Writes the line of `packet`: `word`, the end port that sends the packet, the packet's LID, and where the packet
-/// ends.
+/// Writes the line of `packet`: `word`, the end port that sends it, its LID, and where it ends.
 fn write_packet<W: Sink>(
     sink: &mut W,
     network: &Network,
@@ -265,8 +262,7 @@ fn write_taken<W: Sink>(sink: &mut W, port: &EndPort) -> Result<(), WriteFault>
     write_port(sink, port.node, port.port)
 }
 
-/// Writes `node`, at which a packet for `lid` is lost, the entry of `node` for `lid`, and `cause`. The entry is left
-/// out if `node` is not a usable switch.
+/// Writes `node`, where a packet for `lid` is lost, its entry for `lid` if it is a usable switch, and `cause`.
 fn write_lost<W: Sink>(
     sink: &mut W,
     network: &Network,

@@ -201,8 +201,7 @@ fn survey_of(alloc: Global, most: usize, network: &Network) -> Result<PacketSurv
     Ok(survey(alloc, most, network, &sites)?)
 }
 
-/// Returns where tables and facts differ, and the channels of a shortest credit loop, or an empty list if there is no
-/// credit loop.
+/// Returns where tables and facts differ, and the channels of a shortest credit loop, if there is one.
 fn unmatched_and_cycle(
     alloc: Global,
     most: usize,

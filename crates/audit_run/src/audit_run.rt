@@ -60,9 +60,8 @@ pub fn run_audit<S: Source, W: Sink>(
     answer(alloc, sink, &asked, &told)
 }
 
-/// Writes the audit of the tables of `told` in the subnet that its facts describe, by its lanes too if there are any,
-/// and flushes. Returns whether the tables pass and, if there is an `asked.max_load`, no channel has a greater load. If
-/// the fault is not `Write`, nothing was written.
+/// Writes the audit of the tables of `told` in the subnet of its facts, by its lanes too if there are any, and flushes.
+/// Returns whether the tables pass and, if there is an `asked.max_load`, no channel has a greater load.
 fn answer<W: Sink>(
     alloc: Global,
     sink: &mut W,
@@ -85,8 +84,7 @@ fn answer<W: Sink>(
     tell(alloc, sink, asked, &audit, &found, &appendix)
 }
 
-/// Finds what `lanes`, if there are any, do with the packets of `audit`. Keeps the first `most` packets without a
-/// service level.
+/// Finds what `lanes`, if there are any, do with the packets of `audit`. Keeps `most` packets without a level.
 fn found_by_lane(
     alloc: Global,
     most: usize,
@@ -101,8 +99,7 @@ fn found_by_lane(
     }
 }
 
-/// Finds the packets between adapter ports that have no service level, and drops and credit loops by lane. Keeps the
-/// first `most` packets without a service level.
+/// Finds packets between adapter ports without a service level, the first `most`, and drops and credit loops by lane.
 fn findings(
     alloc: Global,
     most: usize,
@@ -156,9 +153,8 @@ fn nothing_found(alloc: Global) -> LaneOrder
     }
 }
 
-/// Finds the flaws by `audit` and what was `found` by lane. Writes both, the lines of `appendix`, which must be those
-/// that `asked` asks for, and the line of the flaws, and flushes. Returns whether there are no flaws. If the fault is
-/// not `Write`, nothing was written.
+/// Finds the flaws by `audit` and what was `found` by lane. Writes both, the lines of `appendix`, and the line of the
+/// flaws, and flushes. Returns whether there are no flaws.
 fn tell<W: Sink>(
     alloc: Global,
     sink: &mut W,
@@ -183,9 +179,8 @@ fn tell<W: Sink>(
     tell_flaws(sink, asked, audit, found, appendix, &flaws)
 }
 
-/// Writes `audit`, what was `found` by lane, the lines of `appendix`, which must be those that `asked` asks for, and
-/// the line of `flaws`, and flushes. Returns whether there are no flaws. If the fault is not `Write`, nothing was
-/// written.
+/// Writes `audit`, what was `found` by lane, the lines of `appendix`, and the line of `flaws`, and flushes. Returns
+/// whether there are no flaws.
 fn tell_flaws<W: Sink>(
     sink: &mut W,
     asked: &AuditAsked,

@@ -7,8 +7,7 @@ use crate::lane_findings::LaneFindings;
 use audit_report::Audit;
 use std::alloc::{AllocError, Global};
 
-/// Returns which flaws the tables have by `audit` and what was `found` by lane, in the order of `Flaw`. They have the
-/// flaw `Overloaded` if there is a `bound` and a channel has a greater load.
+/// Returns which flaws the tables have by `audit`, by what was `found` by lane and by the greatest load `bound`.
 pub(crate) fn flaws_of(
     alloc: Global,
     bound: Option<u64>,
@@ -40,8 +39,7 @@ fn note_unless(flaws: &mut Vec<Flaw>, is_free: bool, flaw: Flaw) -> Result<(), A
     Ok(())
 }
 
-/// Returns whether no packet between adapter ports was found without a service level. Returns true if nothing was
-/// looked for by lane.
+/// Returns whether no packet between adapter ports was found without a service level.
 fn is_leveled(found: &Option<LaneFindings>) -> bool
     ensures { IsTrue result ↔ IsFoundLeveled found.now }
 {
@@ -51,8 +49,7 @@ fn is_leveled(found: &Option<LaneFindings>) -> bool
     }
 }
 
-/// Returns whether no packet was found that is dropped for want of a lane. Returns true if nothing was looked for by
-/// lane.
+/// Returns whether no packet was found that is dropped for want of a lane.
 fn is_carried(found: &Option<LaneFindings>) -> bool
     ensures { IsTrue result ↔ IsFoundCarried found.now }
 {

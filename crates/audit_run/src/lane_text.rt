@@ -45,8 +45,7 @@ fn write_pair<W: Sink>(sink: &mut W, pair: &PacketPair) -> Result<(), WriteFault
     sink.write(b"\n")
 }
 
-/// Writes the line of a dropped packet, if one was found, and the line of the credit loop. Each line begins with
-/// `lead`.
+/// Writes the line of a dropped packet, if one was found, and that of the credit loop, each after `lead`.
 pub(crate) fn write_order<W: Sink>(
     sink: &mut W,
     network: &Network,
@@ -61,8 +60,7 @@ pub(crate) fn write_order<W: Sink>(
     write_cycle(sink, network, ChannelKind::ByLane, &order.cycle)
 }
 
-/// Writes the line of `dropped`, a packet that is dropped for want of a lane, or nothing if `dropped` is `None`. The
-/// line begins with `lead`.
+/// Writes the line of `dropped`, a packet that is dropped for want of a lane, after `lead`, if there is one.
 fn write_dropped<W: Sink>(
     sink: &mut W,
     network: &Network,

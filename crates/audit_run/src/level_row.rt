@@ -27,8 +27,7 @@ pub(crate) struct LevelRow {
 }
 
 impl LevelRow {
-    /// Returns the row of `sites` for the 64 LIDs of the block `number`. Does a binary search in `lanes` for each
-    /// site.
+    /// Returns the row of `sites` for the 64 LIDs of block `number`. Does a binary search in `lanes` for each site.
     pub(crate) fn of(
         alloc: Global,
         lanes: &Lanes,
@@ -42,8 +41,7 @@ impl LevelRow {
         Ok(LevelRow { number, senders })
     }
 
-    /// Returns the row of `sites` for the 64 LIDs of the block `number`. `self` must be a row of `sites` by `lanes`.
-    /// Takes constant time if `self` has this number already.
+    /// Returns the row of `sites` for the block `number`. Takes constant time if `self` has this number already.
     pub(crate) fn turned_to(
         self,
         alloc: Global,
@@ -63,8 +61,7 @@ impl LevelRow {
     }
 }
 
-/// Returns those of `sites` for which `lanes` has no block `number` with a level for each LID of the block. Each site
-/// is returned with its block, if it has one.
+/// Returns those of `sites` without a level by `lanes` for some LID of the block `number`, with their blocks, if any.
 fn senders_of(
     alloc: Global,
     lanes: &Lanes,

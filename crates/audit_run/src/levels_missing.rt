@@ -48,8 +48,7 @@ pub fn pairs_without_level(
 }
 
 /// Counts the packets without a service level that adapter ports send to the LIDs of other adapter ports of their
-/// components. Keeps the first `most` packets. `sites` must have the site of each end port, in the order of the end
-/// ports.
+/// components. Keeps the first `most` packets.
 fn pairs_at_sites(
     alloc: Global,
     most: usize,
@@ -98,8 +97,7 @@ fn add_for(
     Ok(())
 }
 
-/// Returns whether packets from `sender` for the LID of `line` have no service level, by the block of `sender`.
-/// Returns false unless `owner` and the site of `sender` are of different adapter ports in the same component.
+/// Returns whether packets between the adapter ports of `sender` and `owner` for the LID of `line` have no level.
 fn lacks_level(lanes: &Lanes, line: &HeldLid, owner: &Site, sender: &RowSender) -> bool
     ensures { result ≡ sender_lacks lanes.now line.now owner.now sender.now }
 {

@@ -7,8 +7,7 @@ ghost use Rattle.audit_run.specs.VerdictText.{flaw_word, flaws_text, later_word,
 use crate::flaw::Flaw;
 use byte_io::{Sink, WriteFault};
 
-/// Writes the line that says whether tables with `flaws` pass: `yes` if `flaws` is empty, and otherwise `no` and the
-/// words of `flaws`.
+/// Writes the line that says whether tables with `flaws` pass: `yes`, or `no` and the words of `flaws`.
 pub(crate) fn write_verdict<W: Sink>(sink: &mut W, flaws: &[Flaw]) -> Result<(), WriteFault>
     ensures { WritesPart W.written W.has_failed result sink.old sink.new (verdict_line flaws.now) }
 {

@@ -29,7 +29,6 @@ pub fn loaded_channels(alloc: Global, network: &Network) -> Result<Vec<LoadedCha
 }
 
 /// Returns the channels of `network`, each with its load in `loads`, in ascending order of switch GUID and port.
-/// `loads` must have 256 items for each usable switch.
 fn listed(alloc: Global, network: &Network, loads: &[u64]) -> Result<Vec<LoadedChannel>, AllocError>
     requires { length loads.now ≡ 256 * length (switches (cells_of network.now.facts)) }
     ensures { IfOk result (λ listed.

@@ -10,8 +10,7 @@ use std::alloc::AllocError;
 
 /// Follows `edges`, starting at the switch at index `first`, and adds `times` to the load of a channel each time that
 /// the channel is taken. Stops after as many channels as there are switches. Returns the number of channels taken.
-/// Returns an error if a load does not fit in 64 bits. Takes time linear in the number of channels taken. `loads`
-/// must have a load for each of the 256 channels of each switch of `edges`.
+/// Returns an error if a load does not fit in 64 bits. Takes time linear in the number of channels taken.
 pub(crate) fn load_channels(
     loads: &mut [u64],
     edges: &[Option<Edge>],
@@ -37,8 +36,7 @@ pub(crate) fn load_channels(
     Ok(edges.len())
 }
 
-/// Adds `times` to the load of `channel`. `channel` must be one of `loads`. Returns an error if the load does not fit
-/// in 64 bits.
+/// Adds `times` to the load of `channel`. Returns an error if the load does not fit in 64 bits.
 pub(crate) fn load_channel(loads: &mut [u64], channel: usize, times: u64) -> Result<(), AllocError>
     requires { channel < length loads.old }
     ensures { OnOk result (loads.new ≡ slice_set loads.old channel (slice_index loads.old channel + times)) }
@@ -54,8 +52,7 @@ pub(crate) fn edge_of(edges: &[Option<Edge>], switch: usize) -> Option<Edge>
     edges.get(switch).copied().flatten()
 }
 
-/// Returns the number of the channel of `edge`, an edge of `switch`. The numbers of all channels of `switch` must fit
-/// in 64 bits.
+/// Returns the number of the channel of `edge`, an edge of `switch`.
 fn number_of(switch: usize, edge: Edge) -> usize
     requires { 256 * switch + 256 < 2 ^ 64 + 1 }
     ensures is { result ≡ number_of switch edge }

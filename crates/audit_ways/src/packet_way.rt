@@ -47,8 +47,7 @@ pub fn way_of_packet(
     Ok(Some(way_from(alloc, &cursor, index)?))
 }
 
-/// Returns the way of the packet that the end port at `index` sends for the LID of `cursor`. There must be such an end
-/// port.
+/// Returns the way of the packet that the end port at `index` sends for the LID of `cursor`.
 fn way_from(alloc: Global, cursor: &LidCursor, index: usize) -> Result<PacketWay, AllocError>
     requires { index < length (end_ports (cells_of cursor.now.seen.facts)) }
     ensures { IfOk result (λ way. (e : _) → slice_get (end_ports (cells_of cursor.now.seen.facts)) index ≡ Some e
@@ -83,8 +82,7 @@ fn channels_of(alloc: Global, cursor: &LidCursor, source: &Sender) -> Result<Vec
     }
 }
 
-/// Returns the index of the usable switch that a packet of `source` reaches first. Returns `None` if `source` is one of
-/// `owners` and no usable switch, or if its wire leads to no usable switch.
+/// Returns the index of the usable switch that a packet of `source` for a LID of `owners` reaches first, if any.
 fn first_switch(owners: &[EndPort], source: &Sender) -> Option<usize>
     ensures { result ≡ first_switch_for owners.now source.now }
 {
@@ -126,8 +124,7 @@ fn channels_from(
     Ok(channels)
 }
 
-/// Returns the number of the channel of `edge`, an edge of `switch`. Returns an error if the number does not fit in 64
-/// bits.
+/// Returns the number of the channel of `edge`, an edge of `switch`, or an error if it does not fit in 64 bits.
 fn channel_of(switch: usize, edge: Edge) -> Result<usize, AllocError>
     ensures { IfOk result (λ number. number ≡ number_of switch edge) }
 {

@@ -34,8 +34,7 @@ fn port_of(source: &Sender) -> (Guid, PortNum)
     (source.port.node, source.port.port)
 }
 
-/// Returns the far end of the wire in `port`, or `None` if `port` is not an adapter port or is not in `roster`.
-/// `roster` must be in ascending order of node GUID and port. Does a binary search.
+/// Returns the far end of the wire in `port`, if it is an adapter port in `roster`. Does a binary search.
 pub(crate) fn target_among(roster: &[Sender], port: &EndPort) -> Option<Far>
     requires { AreByPort roster.now }
     ensures { IsTargetAmong roster.now port.now result }

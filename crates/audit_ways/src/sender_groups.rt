@@ -33,8 +33,7 @@ impl Groups {
         })
     }
 
-    /// Adds a packet whose sender's wire leads to `far`. If `far` is a switch, `self` must have a weight for it.
-    /// Returns an error if a count does not fit in 64 bits.
+    /// Adds a packet whose sender's wire leads to `far`. Returns an error if a count does not fit in 64 bits.
     pub(crate) fn join(&mut self, far: &Far) -> Result<(), AllocError>
         requires { IsWithin (length self.old.weights.items) far.now }
         ensures { OnOk result (IsGroupedWith self.old far.now self.new) }
@@ -54,7 +53,7 @@ impl Groups {
         Ok(())
     }
 
-    /// Removes a packet whose sender's wire leads to `far`. `self` must have such a packet.
+    /// Removes a packet whose sender's wire leads to `far`.
     pub(crate) fn leave(&mut self, far: &Far)
         requires { 1 ≤ packets_at self.old (switch_over far.now) }
         ensures { IsGroupedWith self.new far.now self.old }
@@ -66,7 +65,7 @@ impl Groups {
     }
 }
 
-/// Subtracts 1 from the weight of the switch at index `first`. The weight must be at least 1.
+/// Subtracts 1 from the weight of the switch at index `first`.
 fn unload(weights: &mut [u64], first: usize)
     requires { 1 ≤ slice_index weights.old first }
     ensures { weights.old ≡ slice_set weights.new first (slice_index weights.new first + 1) }
@@ -74,8 +73,7 @@ fn unload(weights: &mut [u64], first: usize)
     weights[first] -= 1;
 }
 
-/// Returns groups with one packet from each adapter port, by where the wire in the port leads. Takes time linear in
-/// the number of end ports.
+/// Returns groups of one packet from each adapter port, by where its wire leads, in time linear in the end ports.
 pub(crate) fn senders(alloc: Global, network: &Network) -> Result<Groups, AllocError>
     ensures { IfOk result (AreGrouped (cells_of network.now.facts) (adapters (cells_of network.now.facts))) }
 {
@@ -89,8 +87,7 @@ pub(crate) fn senders(alloc: Global, network: &Network) -> Result<Groups, AllocE
 }
 
 /// Returns the packets for the LID of `line` that other adapter ports send and that are delivered at the port of
-/// `line`, grouped by where the sender's wire leads. `ends` must be the ends of the packets that the end ports send
-/// for this LID, and must be for the port of `line`. Takes time linear in the number of end ports.
+/// `line`, grouped by where the sender's wire leads. Takes time linear in the number of end ports.
 pub(crate) fn group_packets(
     alloc: Global,
     network: &Network,

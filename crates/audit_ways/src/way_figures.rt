@@ -55,8 +55,7 @@ pub fn figures_of_ways_known(
     Ok(WayFigures { hops, load })
 }
 
-/// Counts the routes of the delivered packets between adapter ports. If `told` is true at the index of a line, all
-/// packets for the line's LID must be delivered at the line's port.
+/// Counts the routes of the delivered packets between adapter ports.
 pub(crate) fn tally_of(
     alloc: Global,
     network: &Network,
@@ -88,11 +87,7 @@ fn is_told(told: &[bool], index: usize) -> bool
     told.get(index).copied().unwrap_or(false)
 }
 
-/// Adds to `tally` the routes of the delivered packets for the LID of `line` from other adapter ports. The port of
-/// `line` must be an adapter port of the facts, and `far` must be the far end of the wire in it. `cursor` must be at
-/// the LID of `line`. `tally` must have 256 channels for each usable switch. `senders` must have one packet from each
-/// adapter port, and has these again at the end if no error is returned. If `told` is true, all packets for the LID
-/// must be delivered at the port of `line`.
+/// Adds to `tally` the routes of the delivered packets for the LID of `line` from other adapter ports.
 fn add_ways(
     alloc: Global,
     tally: &mut WayTally,
@@ -125,8 +120,7 @@ fn add_ways(
 }
 
 /// Returns the packets for the LID of `line` that other adapter ports send and that are delivered at the port of
-/// `line`, in groups. Returns `None` if all packets for the LID are delivered there. If `told` is true, all must be
-/// delivered there. `cursor` must be at the LID of `line`.
+/// `line`, in groups. Returns `None` if all packets for the LID are delivered there.
 fn some_of_all(
     alloc: Global,
     cursor: &LidCursor,
@@ -151,8 +145,7 @@ fn some_of_all(
     }
 }
 
-/// Returns the total of the loads of the network's channels: the ports of usable switches whose wires lead to usable
-/// switches. `loads` must have 256 items for each usable switch.
+/// Returns the total of the loads of the network's channels, each between usable switches.
 fn loads_of(network: &Network, loads: &[u64]) -> Result<Total, AllocError>
     requires { length loads.now ≡ 256 * length (switches (cells_of network.now.facts)) }
     ensures { IfOk result (IsTotal (map (slice_index loads.now) (channels_of (cells_of network.now.facts)))) }

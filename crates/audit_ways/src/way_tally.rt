@@ -28,10 +28,8 @@ impl WayTally {
         })
     }
 
-    /// For each switch, adds the route along `edges` as many times as the switch's weight. Adds `direct` routes along
-    /// one wire. `weights` must have as many items as `edges`, and `self` must have 256 channels for each of these
-    /// switches. Takes time linear in the number of switches and, for each weight above 0, in the number of channels
-    /// of that switch's route.
+    /// Adds, for each switch, the route along `edges` as many times as the switch's weight, and `direct` routes along
+    /// one wire. Takes time linear in the number of switches and, for each weight above 0, in the route's channels.
     pub(crate) fn add(
         &mut self,
         edges: &[Option<Edge>],
@@ -55,7 +53,7 @@ impl WayTally {
     }
 
     /// Adds the route via the switch at index `first`, `times` times: a wire to that switch, the channels along
-    /// `edges`, starting there, and a wire to an adapter. `self` must have 256 channels for each switch of `edges`.
+    /// `edges`, starting there, and a wire to an adapter.
     fn add_from(
         &mut self,
         edges: &[Option<Edge>],

@@ -21,10 +21,7 @@ use clap::error::ErrorKind;
 use clap::{ArgMatches, Error};
 use std::alloc::{AllocError, Global};
 
-/// Returns whether options contradict each other, or the GUID or the SM_Key of a manager, or the packet that `audit`
-/// names, is wrong. Options contradict each other if roots and an order are both named, if roots or an order are named
-/// without a rule of routing that takes them, or if held tables are named with a rule, roots or an order. The
-/// subcommand `order` needs no rule. The GUID must be 1 to 16 hex digits, and so must the SM_Key if one is named.
+/// Returns whether options contradict each other, or a manager's GUID or SM_Key, or the packet of `audit`, is wrong.
 pub(crate) fn has_conflict(matches: &ArgMatches<'_>) -> bool
     ensures { result ≡ has_conflict_behind (subcommand_rows_of matches.now) }
 {
@@ -34,9 +31,7 @@ pub(crate) fn has_conflict(matches: &ArgMatches<'_>) -> bool
     }
 }
 
-/// Returns whether the options of the subcommand `name` contradict each other, or `name` is `serve` or `manage` and the
-/// GUID or the SM_Key is not 1 to 16 hex digits, or `name` is `audit` and does not name a packet as `packet_named`
-/// reads it.
+/// Returns whether the options of the subcommand `name` contradict each other, or one that it takes is wrong.
 fn has_conflict_in(name: &str, words: &ArgMatches<'_>) -> bool
     ensures { result ≡ has_conflict name.now (first_value (found_of words.now)) }
 {
@@ -47,8 +42,7 @@ fn has_conflict_in(name: &str, words: &ArgMatches<'_>) -> bool
     }
 }
 
-/// Returns whether options of a plan or an order contradict each other: roots and an order are both named, or roots or
-/// an order are named without a rule that takes them.
+/// Returns whether options of a plan or an order contradict each other, as roots and an order do, or lack a rule.
 fn planning_conflict(name: &str, words: &ArgMatches<'_>) -> bool
     ensures { result ≡ planning_conflict name.now (first_value (found_of words.now)) }
 {
@@ -65,8 +59,7 @@ fn is_held_and_named(words: &ArgMatches<'_>) -> bool
         && (is_named(words, ROUTING) || is_named(words, ROOTS) || is_named(words, ORDER))
 }
 
-/// Returns whether no GUID of 1 to 16 hex digits is named, or whether an SM_Key is named that is not 1 to 16 hex
-/// digits.
+/// Returns whether no GUID of 1 to 16 hex digits is named, or an SM_Key that is not 1 to 16 hex digits.
 fn has_wrong_seat(words: &ArgMatches<'_>) -> bool
     ensures { result ≡ is_wrong_seat (first_value (found_of words.now)) }
 {
@@ -131,8 +124,7 @@ fn lacks_rule(name: &str, words: &ArgMatches<'_>, rooted: bool, ordered: bool) -
     }
 }
 
-/// Returns the error for a command line for which `has_conflict` returns true. Returns an outer `Err` if memory is
-/// refused.
+/// Returns the error for a command line with a conflict (`has_conflict`), or an outer `Err` if memory is refused.
 pub(crate) fn conflict(alloc: Global, matches: &ArgMatches<'_>) -> Result<Error, AllocError>
     ensures { IfOk result (λ error. kind_of error ≡ ErrorKind.ArgumentConflict) }
 {

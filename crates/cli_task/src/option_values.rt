@@ -38,16 +38,14 @@ const DEFAULT_TRIES: u32 = 4;
 /// How many requests may be out at a time, unless the command line says otherwise.
 const DEFAULT_OUTSTANDING: u32 = 4;
 
-/// Returns the LMC that `words` ask for, or 0 if `words` name no LMC. Returns `None` if the named LMC is not from 0 to
-/// 7.
+/// Returns the LMC that `words` ask for, by default 0, or `None` if it is not from 0 to 7.
 fn lmc_of(words: &ArgMatches<'_>) -> Option<Lmc>
     ensures { result ≡ lmc_asked (first_value (found_of words.now) (codes "lmc")) }
 {
     Lmc::new(u8::try_from(number_or(words, LMC, 0)?).ok()?)
 }
 
-/// Returns the number after the option `name`, or `otherwise` if the option is not given. Returns `None` if the option
-/// is not followed by a 32-bit number.
+/// Returns the 32-bit number after the option `name`, or `otherwise` if the option is not given.
 fn number_or(words: &ArgMatches<'_>, name: &str, otherwise: u32) -> Option<u32>
     ensures { result ≡ number_or otherwise (first_value (found_of words.now) name.now) }
 {
@@ -57,17 +55,14 @@ fn number_or(words: &ArgMatches<'_>, name: &str, otherwise: u32) -> Option<u32>
     }
 }
 
-/// Returns the number that `text` writes in decimal, with or without a sign, as the parser of the command line reads
-/// numbers. Returns `None` if `text` does not write a 32-bit number.
+/// Returns the 32-bit number that `text` writes in decimal, with or without a sign, as the parser reads numbers.
 fn number_in(text: &str) -> Option<u32>
     ensures { result ≡ option_and_then (within 0 4294967295) (number_in text.now) }
 {
     u32::try_from(text.parse::<i64>().ok()?).ok()
 }
 
-/// Returns the rule of routing that `words` ask for, or `UpDown` if `words` name no rule, no roots and no order.
-/// Returns `None` if the named rule is unknown, if roots and an order are both named, or if roots or an order are named
-/// without a rule that takes them.
+/// Returns the rule of routing that `words` ask for, by default `UpDown`, or `None` if their options conflict.
 fn rule_of(words: &ArgMatches<'_>) -> Option<RuleAsked>
     ensures { result ≡ rule_asked (first_value (found_of words.now) (codes "routing"))
         (is_some (first_value (found_of words.now) (codes "roots")))
@@ -83,8 +78,7 @@ fn rule_of(words: &ArgMatches<'_>) -> Option<RuleAsked>
     }
 }
 
-/// Returns the rule that spreads: from roots if `rooted` is true, in a named order if `ordered` is true. Returns
-/// `None` if `rooted` and `ordered` are both true.
+/// Returns the rule that spreads, from roots if `rooted`, or in a named order if `ordered`, or `None` if both.
 fn spread_by(rooted: bool, ordered: bool) -> Option<RuleAsked>
     ensures { result ≡ spread_asked rooted ordered }
 {
@@ -107,8 +101,7 @@ fn balance_by(ordered: bool) -> RuleAsked
     }
 }
 
-/// Returns the LMC and the rule of routing that `words` ask for. Returns `None` if the words for the LMC or for the
-/// rule are wrong.
+/// Returns the LMC and the rule of routing that `words` ask for, or `None` if their words are wrong.
 pub(crate) fn planning_of(words: &ArgMatches<'_>) -> Option<(Lmc, RuleAsked)>
     ensures { result ≡ planning_asked (first_value (found_of words.now)) }
 {
@@ -117,9 +110,7 @@ pub(crate) fn planning_of(words: &ArgMatches<'_>) -> Option<(Lmc, RuleAsked)>
     Some((lmc, rule))
 }
 
-/// Returns the rule whose order `words` ask for, or the rule that spreads if `words` name no rule. Returns `None` if
-/// the named rule is unknown, if roots and an order are both named, or if roots or an order are named with a rule that
-/// does not take them.
+/// Returns the rule whose order `words` ask for, by default the rule that spreads, or `None` if their options conflict.
 pub(crate) fn order_of(words: &ArgMatches<'_>) -> Option<RuleAsked>
     ensures { result ≡ order_asked (first_value (found_of words.now)) }
 {
@@ -132,24 +123,21 @@ pub(crate) fn order_of(words: &ArgMatches<'_>) -> Option<RuleAsked>
     }
 }
 
-/// Returns the floor that `words` ask for, or 1 if `words` name no floor. Returns `None` if the named floor is not from
-/// 1 to 2^32 - 1.
+/// Returns the floor that `words` ask for, by default 1, or `None` if it is not from 1 to 2^32 - 1.
 pub(crate) fn floor_of(words: &ArgMatches<'_>) -> Option<Generation>
     ensures { result ≡ floor_asked (first_value (found_of words.now) (codes "floor")) }
 {
     Generation::new(number_or(words, FLOOR, 1)?)
 }
 
-/// Returns the GUID that `words` name. Returns `None` if `words` name no GUID, or if the GUID is not written as 1 to 16
-/// hex digits.
+/// Returns the GUID that `words` name, or `None` if they name none of 1 to 16 hex digits.
 pub(crate) fn guid_of(words: &ArgMatches<'_>) -> Option<Guid>
     ensures { result ≡ guid_asked (first_value (found_of words.now) (codes "GUID")) }
 {
     Some(Guid::new(hex_number(words.get_str(GUID)?.as_bytes())?))
 }
 
-/// Returns the port number that `words` name. Returns `None` if `words` name no port number, or if the number is not
-/// from 1 to 254.
+/// Returns the port number that `words` name, or `None` if they name none from 1 to 254.
 pub(crate) fn port_of(words: &ArgMatches<'_>) -> Option<PortNum>
     ensures { result ≡ port_asked (first_value (found_of words.now) (codes "PORT")) }
 {
@@ -160,8 +148,7 @@ pub(crate) fn port_of(words: &ArgMatches<'_>) -> Option<PortNum>
     Some(PortNum::new(port as u8))
 }
 
-/// Returns the priority that `words` name. Returns `None` if `words` name no priority, or if the priority is not from 0
-/// to 15.
+/// Returns the priority that `words` name, or `None` if they name none from 0 to 15.
 pub(crate) fn priority_of(words: &ArgMatches<'_>) -> Option<Priority>
     ensures { result ≡ priority_asked (first_value (found_of words.now) (codes "PRIORITY")) }
 {
@@ -172,8 +159,7 @@ pub(crate) fn priority_of(words: &ArgMatches<'_>) -> Option<Priority>
     Priority::new(priority as u8)
 }
 
-/// Returns the SM_Key that `words` name, or that of OpenSM if `words` name no SM_Key. Returns `None` if the SM_Key is
-/// not written as 1 to 16 hex digits.
+/// Returns the SM_Key that `words` name, by default that of OpenSM, or `None` if it is not 1 to 16 hex digits.
 pub(crate) fn sm_key_of(words: &ArgMatches<'_>) -> Option<u64>
     ensures { result ≡ sm_key_asked (first_value (found_of words.now) (codes "sm-key")) }
 {
@@ -183,8 +169,7 @@ pub(crate) fn sm_key_of(words: &ArgMatches<'_>) -> Option<u64>
     }
 }
 
-/// Returns the maximum load that passes, as asked by `words`, which are those after a subcommand. Returns `Some(None)`
-/// if the words name no maximum load. Returns `None` if the maximum load is not a 32-bit number.
+/// Returns the maximum load that passes, by `words`: `Some(None)` for none, and `None` if it is no 32-bit number.
 pub(crate) fn max_load_of(words: &ArgMatches<'_>) -> Option<Option<u64>>
     ensures { result ≡ max_load_asked (first_value (found_of words.now) (codes "max-load")) }
 {
@@ -194,8 +179,7 @@ pub(crate) fn max_load_of(words: &ArgMatches<'_>) -> Option<Option<u64>>
     }
 }
 
-/// Returns the packet whose way is printed, as asked by `words`, which are those after a subcommand. Returns
-/// `Some(None)` if the words name no packet. Returns `None` if they do not name it as `packet_named` reads it.
+/// Returns the packet whose way is printed, by `words`: `Some(None)` for none, and `None` if it is wrong.
 pub(crate) fn way_of(words: &ArgMatches<'_>) -> Option<Option<WayAsked>>
     ensures { result ≡ way_asked (first_value (found_of words.now) (codes "way")) }
 {
@@ -208,8 +192,7 @@ pub(crate) fn way_of(words: &ArgMatches<'_>) -> Option<Option<WayAsked>>
     }
 }
 
-/// Returns when a manager does what, as asked by `words`. Returns `None` if an option for it is not followed by a
-/// 32-bit number.
+/// Returns when a manager does what, by `words`, or `None` if an option for it has no 32-bit number.
 pub(crate) fn timing_of(words: &ArgMatches<'_>) -> Option<Timing>
     ensures { result ≡ timing_asked (first_value (found_of words.now)) }
 {
@@ -222,8 +205,7 @@ pub(crate) fn timing_of(words: &ArgMatches<'_>) -> Option<Timing>
     })
 }
 
-/// Returns what limits the requests of a manager, as asked by `words`. Returns `None` if an option for it is not
-/// followed by a 32-bit number.
+/// Returns what limits the requests of a manager, by `words`, or `None` if an option for it has no 32-bit number.
 pub(crate) fn limits_of(words: &ArgMatches<'_>) -> Option<Limits>
     ensures { result ≡ limits_asked (first_value (found_of words.now)) }
 {
@@ -237,8 +219,7 @@ pub(crate) fn limits_of(words: &ArgMatches<'_>) -> Option<Limits>
     })
 }
 
-/// Returns the newest generation that is known, as `words` name it, or 0 if `words` name none. Returns `None` if it is
-/// not a 32-bit number.
+/// Returns the newest generation that is known by `words`, by default 0, or `None` if it is no 32-bit number.
 pub(crate) fn newest_of(words: &ArgMatches<'_>) -> Option<u32>
     ensures { result ≡ newest_asked (first_value (found_of words.now)) }
 {

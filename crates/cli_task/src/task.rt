@@ -82,8 +82,7 @@ pub fn task_of(matches: &ArgMatches<'_>) -> Option<Task>
     task_behind(command, words)
 }
 
-/// Returns the task that the subcommand `command` asks for with `words`. Returns `None` if no subcommand has the name
-/// `command`, or if one of `words` is missing or wrong.
+/// Returns the task that the subcommand `command` asks for with `words`, or `None` if one of them is missing or wrong.
 fn task_behind(command: &str, words: &ArgMatches<'_>) -> Option<Task>
     ensures { result ≡ task_behind (first_value (found_of words.now)) command.now }
 {
@@ -101,8 +100,7 @@ fn task_behind(command: &str, words: &ArgMatches<'_>) -> Option<Task>
     }
 }
 
-/// Returns the task of the subcommand `order`, as asked by `words`, which are those after it. The order is that of held
-/// tables if these are named. Returns `None` if one of the words is wrong.
+/// Returns the task of the subcommand `order` with `words`, of held tables if named, or `None` if one is wrong.
 fn order_task(words: &ArgMatches<'_>) -> Option<Task>
     ensures { result ≡ order_task (first_value (found_of words.now)) }
 {
@@ -116,8 +114,7 @@ fn order_task(words: &ArgMatches<'_>) -> Option<Task>
     }
 }
 
-/// Returns the task of the subcommand `command`, which is `facts`, `join` or `plan`, as asked by `words`, which are
-/// those after it. Returns `None` for another subcommand, or if one of the words is wrong.
+/// Returns the task of `facts`, `join` or `plan`, whichever is `command`, with `words`, or `None` if one is wrong.
 fn answer_task(command: &str, words: &ArgMatches<'_>) -> Option<Task>
     ensures { result ≡ answer_task (first_value (found_of words.now)) command.now }
 {
@@ -126,8 +123,7 @@ fn answer_task(command: &str, words: &ArgMatches<'_>) -> Option<Task>
     Some(Task::Answer(Invocation { output, floor }))
 }
 
-/// Returns the options of an audit, as asked by `words`, which are those after a subcommand. Returns `None` if one of
-/// the words is wrong.
+/// Returns the options of an audit by `words`, or `None` if one of the words is wrong.
 fn audit_of(words: &ArgMatches<'_>) -> Option<AuditAsked>
     ensures { result ≡ audit_asked (first_value (found_of words.now)) }
 {
@@ -142,8 +138,7 @@ fn audit_of(words: &ArgMatches<'_>) -> Option<AuditAsked>
     })
 }
 
-/// Returns the options of a step, as asked by `words`, which are those after a subcommand. Returns `None` if one of the
-/// words is wrong.
+/// Returns the options of a step by `words`, or `None` if one of the words is wrong.
 fn step_of(words: &ArgMatches<'_>) -> Option<StepAsked>
     ensures { result ≡ step_asked (first_value (found_of words.now)) }
 {
@@ -155,8 +150,7 @@ fn step_of(words: &ArgMatches<'_>) -> Option<StepAsked>
     })
 }
 
-/// Returns the manager that is served, as asked by `words`, which are those after a subcommand. Returns `None` if one
-/// of the words is missing or wrong.
+/// Returns, by `words`, the manager that is served, or `None` if one of the words is missing or wrong.
 fn serving_of(words: &ArgMatches<'_>) -> Option<Serving>
     ensures { result ≡ serving_asked (first_value (found_of words.now)) }
 {
@@ -175,8 +169,7 @@ fn serving_of(words: &ArgMatches<'_>) -> Option<Serving>
     })
 }
 
-/// Returns the manager that decides by itself, as asked by `words`, which are those after a subcommand. Returns `None`
-/// if one of the words is missing or wrong.
+/// Returns, by `words`, the manager that decides by itself, or `None` if one of the words is missing or wrong.
 fn managing_of(words: &ArgMatches<'_>) -> Option<Managing>
     ensures { result ≡ managing_asked (first_value (found_of words.now)) }
 {
@@ -192,8 +185,7 @@ fn managing_of(words: &ArgMatches<'_>) -> Option<Managing>
     })
 }
 
-/// Returns the output that the subcommand `command` writes from files. Returns `None` if `command` is not `facts`,
-/// `join` or `plan`, or if one of `words` is wrong.
+/// Returns the output of `facts`, `join` or `plan`, whichever is `command`, with `words`, or `None` if one is wrong.
 fn output_of(command: &str, words: &ArgMatches<'_>) -> Option<Output>
     ensures { result ≡ output_asked (first_value (found_of words.now)) command.now }
 {
@@ -224,8 +216,7 @@ pub fn names_of<'a>(
     }
 }
 
-/// Returns the names of the inputs of `task` according to `words`, which are those after the subcommand. The names are
-/// in the order in which the inputs are read. Returns `None` if an input is not named.
+/// Returns the names of the inputs of `task` by `words`, in the order of reading, or `None` if an input is not named.
 fn names_behind<'a>(
     alloc: Global,
     words: &ArgMatches<'a>,
@@ -252,8 +243,7 @@ fn names_behind<'a>(
     Ok(Some(names))
 }
 
-/// Returns the name of the text of roots or of an order that `rule` takes, or an empty list if `rule` takes no text.
-/// Returns `None` if `rule` takes a text that is not named.
+/// Returns the name of the text that `rule` takes, if it takes one, or `None` if it is not named.
 fn texts_of_rule<'a>(words: &ArgMatches<'a>, rule: RuleAsked) -> Option<ArrayVec<&'a str, 1>>
     ensures { option_map (λ found. map (λ name. name.now) found.items) result
         ≡ texts_of_rule (first_value (found_of words.now)) rule }
@@ -267,8 +257,7 @@ fn texts_of_rule<'a>(words: &ArgMatches<'a>, rule: RuleAsked) -> Option<ArrayVec
     Some(texts)
 }
 
-/// Returns the names of the text `option` if `is_asked` is true, and of the text of tables. Returns `None` if one of
-/// these texts is not named.
+/// Returns the names of the text `option`, if `is_asked`, and of the text of tables, or `None` if one is not named.
 fn texts_before_files<'a>(
     words: &ArgMatches<'a>,
     is_asked: bool,
@@ -285,9 +274,8 @@ fn texts_before_files<'a>(
     Some(texts)
 }
 
-/// Returns the names of the texts that `task` takes besides the text of its rule; for a manager at a port, that is the
-/// file of lines. Returns `None` if one of these texts is not named, or if `task` runs a manager at a port and no GUID
-/// is named.
+/// Returns the names of the texts that `task` takes besides its rule's, for a manager at a port the file of lines, or
+/// `None` if one of these, or the GUID of such a manager, is not named.
 fn texts_of<'a>(words: &ArgMatches<'a>, task: &Task) -> Option<ArrayVec<&'a str, 2>>
     ensures { option_map (λ found. map (λ name. name.now) found.items) result
         ≡ texts_asked (first_value (found_of words.now)) task.now }

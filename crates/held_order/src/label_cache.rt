@@ -52,8 +52,7 @@ impl Labelled {
     }
 }
 
-/// Returns whether `labels` and `others` are equal. Takes time linear in the number of labels before the first
-/// difference.
+/// Returns whether `labels` and `others` are equal, in time linear in the labels before the first difference.
 fn are_same(labels: &[Option<Sides>], others: &[Option<Sides>]) -> bool
     ensures { IsTrue result ↔ (labels.now ≡ others.now) }
 {

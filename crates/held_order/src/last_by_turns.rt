@@ -6,8 +6,7 @@ ghost use Rattle.held_order.specs.Turns.{lists_of};
 
 use crate::turns::SwitchTurn;
 
-/// Returns the last switch in `preferred` that may be the last of the switches left, or `None` if there is none.
-/// `turns` has the turns at each switch.
+/// Returns the last switch in `preferred` that may be the last of those left, by the `turns` at each, or `None`.
 pub(crate) fn last_of(
     turns: &[Vec<SwitchTurn>],
     preferred: &[usize],

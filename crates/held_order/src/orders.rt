@@ -13,12 +13,10 @@ use port_graph::Adjacency;
 use std::alloc::{AllocError, Global};
 use two_orders::{Orders, grown_by, positions_in, tree};
 
-/// Returns the two orders of a step from the tables of `held`. The first is the order that these tables imply, or the
-/// order that grows by it. The second is the next order on the way to the plan's. If several switches may be last,
-/// the one that comes last in the order that grows by `preferred` is taken first. Returns `None` if the tables imply
-/// no order. `edges` has the wires of each switch. Each wire must lead to a switch, and be listed at both ends.
-/// `plan` must have the position of each switch in the plan's order, and `preferred` must have the position of each
-/// switch in the preferred order.
+/// Returns the two orders of a step from the tables of `held`: the one that these tables imply, or that grows by it,
+/// and the next one on the way to the plan's. Returns `None` if the tables imply none. If several switches may be last,
+/// takes the one that comes last in the order that grows by `preferred` first. `plan` and `preferred` have the
+/// positions of the switches in the plan's order and in the preferred one.
 pub(crate) fn orders(
     alloc: Global,
     edges: &Adjacency,
@@ -43,11 +41,9 @@ pub(crate) fn orders(
     }
 }
 
-/// Returns the orders of a step from the tables of `held`. `told` must have the position of each switch in the order
-/// that the tables imply. If the tables are right by the order that grows by `told`, this grown order is the first,
-/// and the second grows by the positions `plan` along the tree of the first. Otherwise the implied order is the
-/// first, and the grown order the second. `plan` must have a position for each switch. Each wire of `edges` must lead
-/// to a switch, and be listed at both ends.
+/// Returns the orders of a step from the tables of `held`, which imply the order `told`. If the tables are right by the
+/// order that grows by `told`, this is the first, and the second grows by the positions `plan` along the tree of the
+/// first. Otherwise the implied order is the first, and the grown order the second.
 fn orders_from(
     alloc: Global,
     edges: &Adjacency,
@@ -82,8 +78,7 @@ fn told_positions(alloc: Global, taken: &[usize], count: usize) -> Result<Vec<us
         .collect(alloc)
 }
 
-/// Returns the number of vertices that come after the first `vertex` in `taken`, or 0 if `taken` does not have
-/// `vertex`.
+/// Returns how many vertices come after the first `vertex` in `taken`, or 0 if `taken` does not have it.
 fn position_in(taken: &[usize], vertex: usize) -> usize
     ensures { result ≡ position_in taken.now vertex }
 {

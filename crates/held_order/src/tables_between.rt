@@ -16,12 +16,9 @@ use std::alloc::{AllocError, Global};
 use subnet_view::EndPort;
 use two_orders::{Orders, Sides, label_at, leads_on};
 
-/// Returns the tables between two orders. They have the plan's LIDs and, for each usable switch, the greater of its
-/// tops in `held` and `plan`. For a LID, a switch has the plan's entry if the hop by that entry ends at the first end
-/// port that has the LID in the plan. Another switch with a label has the first of these whose channel leads on: its
-/// held entry, the plan's entry, the port of its first edge that leads on. A switch has no entry (255) if no channel
-/// leads on, if the switch has no label, or if no end port has the LID in the plan. `edges` has the wires of each
-/// switch. `held` and `plan` must have the same facts.
+/// Returns the tables between two orders, with the plan's LIDs. For a LID, a switch has the plan's entry if its hop
+/// ends at the first end port of the LID in the plan. Another switch with a label has its held entry, the plan's entry,
+/// or the port of its first edge, the first of these that leads on, and otherwise no entry (255).
 pub(crate) fn tables_between(
     alloc: Global,
     edges: &Adjacency,
@@ -37,8 +34,7 @@ pub(crate) fn tables_between(
     tables_with(alloc, held, plan, &columns)
 }
 
-/// Returns the entries between the two orders of all usable switches, for each LID of the first `count` blocks. `held`
-/// and `plan` must have the same facts, and `count` must be at most 1024.
+/// Returns the entries between the two orders of all usable switches, for each LID of the first `count` blocks.
 fn columns(
     alloc: Global,
     edges: &Adjacency,
@@ -67,9 +63,8 @@ fn columns(
     Ok(columns)
 }
 
-/// Returns the entry between the two orders of each usable switch, for the LID that both cursors are at. `held` and
-/// `plan` must be at the same LID, and have the same facts. The labels in `labelled` must follow from its first
-/// labels, and do so afterwards too. If the LID has an owner in the plan, they are then the labels for this LID.
+/// Returns the entry between the two orders of each usable switch, for the LID that both cursors are at. If the LID has
+/// an owner in the plan, `labelled` then has the labels for it.
 fn column(
     alloc: Global,
     edges: &Adjacency,
@@ -103,9 +98,8 @@ fn column(
     )
 }
 
-/// Returns the entries of all switches towards `port`, by `orders`. `held` and `plan` have what each switch does
-/// under the held tables and under the plan. The labels in `labelled` must follow from its first labels. They are
-/// replaced by the labels towards `port`.
+/// Returns the entries of all switches towards `port`, by `orders` and the steps `held` and `plan`. Replaces the labels
+/// in `labelled` by those towards `port`.
 fn entries_towards(
     alloc: Global,
     port: &EndPort,
@@ -126,8 +120,7 @@ fn entries_towards(
     entries_by(alloc, port, edges, orders, &labelled.labels, held, plan)
 }
 
-/// Returns the first label of each switch: down by both orders if the switch's hop under the plan ends at `port`,
-/// otherwise `None`.
+/// Returns each switch's first label: down by both orders if its hop under the plan ends at `port`, otherwise `None`.
 fn first_labels(
     alloc: Global,
     port: &EndPort,
@@ -164,8 +157,7 @@ fn arrives(port: &EndPort, hop: &NextHop) -> bool
     }
 }
 
-/// Returns the entry of each switch towards `port`, by `labels` and `orders`. `held` and `plan` have what each switch
-/// does under the held tables and under the plan.
+/// Returns the entry of each switch towards `port`, by `labels` and `orders` and the steps `held` and `plan`.
 fn entries_by(
     alloc: Global,
     port: &EndPort,
@@ -185,8 +177,7 @@ fn entries_by(
         .collect(alloc)
 }
 
-/// Returns the entry of the switch at `index`: the plan's entry if its hop ends at `port`, otherwise the entry
-/// according to the switch's label, or 255 if the switch has no label.
+/// Returns the entry of the switch at `index`: the plan's if its hop ends at `port`, else that by its label, or 255.
 fn entry(
     port: &EndPort,
     edges: &Adjacency,
@@ -207,9 +198,8 @@ fn entry(
     }
 }
 
-/// Returns the entry of the switch at `index` with the label `sides`: the held entry if its hop leads on; otherwise the
-/// plan's entry if its hop leads on; otherwise the port of the switch's first edge that leads on, or 255 if no edge
-/// does.
+/// Returns the entry of the switch at `index` with the label `sides`: the held one, the plan's, or the port of its
+/// first edge, the first of these that leads on, or else 255.
 fn entry_to(
     edges: &Adjacency,
     orders: &Orders,
@@ -230,8 +220,7 @@ fn entry_to(
     }
 }
 
-/// Returns whether `hop` leads on from the switch at `index`, which has the label `sides`. Returns false if the hop is
-/// an end.
+/// Returns whether `hop` leads on to a switch from the one at `index`, which has the label `sides`.
 fn fits(
     orders: &Orders,
     labels: &[Option<Sides>],

@@ -21,9 +21,8 @@ pub(crate) struct SwitchTurn {
     pub to: usize,
 }
 
-/// Returns the turns that packets make at each usable switch, in ascending order of GUID, under the tables of
-/// `network`. Takes the time that `channel_waits` takes, and time linear in the number of channels plus the number of
-/// pairs of a channel and one that follows it.
+/// Returns the turns that packets make at each usable switch under the tables of `network`. Takes the time of
+/// `channel_waits`, and time linear in the number of channels plus the pairs of a channel and one that follows it.
 pub(crate) fn turns(alloc: Global, network: &Network) -> Result<Vec<Vec<SwitchTurn>>, AllocError>
     ensures { IfOk result (λ turns.
         AreTurns (cells_of network.now.facts) network.now.held (lists_of turns.items)) }
@@ -32,9 +31,7 @@ pub(crate) fn turns(alloc: Global, network: &Network) -> Result<Vec<Vec<SwitchTu
     turns_over(alloc, network, &waits)
 }
 
-/// Returns the turns at each usable switch, in ascending order of GUID. A turn goes from a channel that leads to the
-/// switch into a channel that follows that one. `waits` must have, for each channel, the channels that packets take
-/// next under the tables of `network`.
+/// Returns the turns at each usable switch: from a channel that leads there into one that follows it in `waits`.
 fn turns_over(
     alloc: Global,
     network: &Network,
@@ -63,8 +60,7 @@ fn no_turns(alloc: Global, count: usize) -> Result<Vec<Vec<SwitchTurn>>, AllocEr
     Ok(turns)
 }
 
-/// Adds the turn from `channel` into each channel of `following` whose wire leads to a usable switch. `turns` must have
-/// a list for each usable switch.
+/// Adds the turn from `channel` into each channel of `following` whose wire leads to a usable switch.
 fn add_turns(
     turns: &mut [Vec<SwitchTurn>],
     network: &Network,
@@ -81,8 +77,7 @@ fn add_turns(
     Ok(())
 }
 
-/// Adds the turn from `channel` into `next`, if the wire of `next` leads to a usable switch. `turns` must have a list
-/// for each usable switch.
+/// Adds the turn from `channel` into `next`, if the wire of `next` leads to a usable switch.
 fn add_turn(
     turns: &mut [Vec<SwitchTurn>],
     network: &Network,

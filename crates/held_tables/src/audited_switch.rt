@@ -24,8 +24,7 @@ pub struct AuditedSwitch {
     pub ports: u8,
 }
 
-/// Returns each of `switches`, in the order of `switches`, with its index and its top in `held`. The index is `None`,
-/// and the top is 0, if `held` does not have the switch.
+/// Returns each of `switches`, in their order, with its index and its top in `held`, or else `None` and 0.
 pub(crate) fn nodes(
     alloc: Global,
     switches: &[WiredSwitch],

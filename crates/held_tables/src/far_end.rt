@@ -18,9 +18,7 @@ pub enum Far {
     Port(EndPort),
 }
 
-/// Returns the far end of the wire in `port` of `node`, or `Nothing` if there is no wire. `guids` must list the GUIDs
-/// of the usable switches in ascending order. `ports` must be the port count of `node`. Takes constant time if `port`
-/// is above `ports`.
+/// Returns the far end of the wire in `port` of `node`, in constant time if `port` is above `ports`, or `Nothing`.
 pub(crate) fn far_within(wires: &Wires, guids: &[Guid], node: Guid, ports: u8, port: PortNum) -> Far
     requires guids { guids.now ≡ switches (cells_of wires.now) }
     requires ports { ports ≡ port_count_of (cells_of wires.now) node }
@@ -33,8 +31,7 @@ pub(crate) fn far_within(wires: &Wires, guids: &[Guid], node: Guid, ports: u8, p
     }
 }
 
-/// Returns the far end of the wire in `port` of `node`, or `Nothing` if there is no wire. `guids` must list the GUIDs
-/// of the usable switches in ascending order.
+/// Returns the far end of the wire in `port` of `node`, or `Nothing` if there is no wire.
 pub(crate) fn far_of(wires: &Wires, guids: &[Guid], node: Guid, port: PortNum) -> Far
     requires { guids.now ≡ switches (cells_of wires.now) }
     ensures { result ≡ far_of (cells_of wires.now) node port }
@@ -48,8 +45,7 @@ pub(crate) fn far_of(wires: &Wires, guids: &[Guid], node: Guid, port: PortNum) -
     }
 }
 
-/// Returns the index of `guid` in `guids`, or `None` if `guids` does not have it. `guids` must be in ascending order,
-/// without repetitions. Does a binary search.
+/// Returns the index of `guid` in `guids`, or `None` if it is not there. Does a binary search.
 pub(crate) fn index(guids: &[Guid], guid: Guid) -> Option<usize>
     requires { IsStrictlyIncreasing guids.now }
     ensures { result ≡ index_in guids.now guid }

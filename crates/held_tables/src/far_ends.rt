@@ -62,8 +62,7 @@ fn far_at(fars: &[Far], port: u8) -> Far
     }
 }
 
-/// Returns the index of the usable switch that the item of `fars` at `port` leads to. Returns `None` if the item does
-/// not lead to a usable switch, or if there is no such item.
+/// Returns the index of the usable switch that the item of `fars` at `port` leads to, or `None` if it leads to none.
 fn switch_at(fars: &[Far], port: u8) -> Option<usize>
     ensures { result ≡ switch_over (slice_index_or fars.now port Far.Nothing) }
 {
@@ -73,8 +72,7 @@ fn switch_at(fars: &[Far], port: u8) -> Option<usize>
     }
 }
 
-/// Returns the far ends of the wires in the ports of `node`. `guids` must list the GUIDs of the usable switches in
-/// ascending order.
+/// Returns the far ends of the wires in the ports of `node`.
 pub(crate) fn row_of(
     alloc: Global,
     wires: &Wires,
@@ -89,8 +87,7 @@ pub(crate) fn row_of(
     Ok(FarEnds { fars })
 }
 
-/// Returns the far ends of the wires in ports 0 to 254 of `node`, in the order of the ports. `guids` must list the
-/// GUIDs of the usable switches in ascending order.
+/// Returns the far ends of the wires in ports 0 to 254 of `node`, in the order of the ports.
 fn all_fars(
     alloc: Global,
     wires: &Wires,
@@ -129,8 +126,7 @@ fn wired(fars: &[Far]) -> usize
 }
 
 /// Returns, among ports 0 to `port`, the number of ports from port 0 up to the last one that has a wire. `count` is
-/// this number for the ports before `port`, and `far` is the far end of the wire in `port`. `port` must be below
-/// 2^64-1.
+/// this number for the ports before `port`, and `far` is the far end of the wire in `port`.
 fn wired_more(far: &Far, port: usize, count: usize) -> usize
     requires { port < 2 ^ 64 - 1 }
     ensures { result ≡ wired_more far.now port count }

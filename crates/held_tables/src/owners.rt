@@ -35,8 +35,7 @@ pub fn lid_owners(alloc: Global, lines: &[HeldLid]) -> Result<Vec<Owner>, AllocE
     Ok(owners)
 }
 
-/// Records in `owners` that the end port of `line` holds the LID of `line`. Does nothing if `owners` has no item for
-/// this LID.
+/// Records in `owners`, if it has an item for the LID of `line`, that the end port of `line` holds it.
 fn add_owner(owners: &mut Vec<Owner>, line: &HeldLid)
     ensures { owners.new.items ≡ slice_set owners.old.items line.now.lid
         (owner_more (slice_index_or owners.old.items line.now.lid Several) line.now.port) }
@@ -47,8 +46,7 @@ fn add_owner(owners: &mut Vec<Owner>, line: &HeldLid)
     }
 }
 
-/// Returns who holds a LID after `port` is added to `owner`: `port` alone if `owner` is `Nobody`, and otherwise
-/// `Several`.
+/// Returns who holds a LID after `port` is added to `owner`: `port` alone after `Nobody`, and otherwise `Several`.
 fn owner_more(owner: Owner, port: EndPort) -> Owner
     ensures { result ≡ owner_more owner port }
 {
@@ -162,8 +160,7 @@ pub fn is_sole_owner(lines: &[HeldLid], owners: &[Owner], line: &HeldLid) -> boo
     }
 }
 
-/// Returns whether, according to `lines`, no end port other than that of `line` holds the LID of `line`. Takes time
-/// linear in the number of `lines`.
+/// Returns whether no other end port of `lines` holds the LID of `line`. Takes time linear in the number of `lines`.
 fn is_sole_of_all(lines: &[HeldLid], line: &HeldLid) -> bool
     ensures { result ≡ is_sole line.now.port (holders lines.now line.now.lid) }
 {

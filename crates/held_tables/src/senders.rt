@@ -19,8 +19,7 @@ pub struct Sender {
     pub far: Far,
 }
 
-/// Returns the end ports `ports` as senders, in the order of `ports`. `guids` must list the GUIDs of the usable
-/// switches in ascending order.
+/// Returns the end ports `ports` as senders, in the order of `ports`.
 pub(crate) fn sources(
     alloc: Global,
     wires: &Wires,
@@ -43,8 +42,7 @@ pub(crate) fn sources(
     Ok(sources)
 }
 
-/// Returns, for each of `sources`, the index of the first switch that the sender's packets reach, or `None` if these
-/// packets reach no switch.
+/// Returns, for each of `sources`, the index of the first switch that its packets reach, or `None`.
 pub(crate) fn firsts(alloc: Global, sources: &[Sender]) -> Result<Vec<Option<usize>>, AllocError>
     ensures { IfOk result (λ firsts. firsts.items ≡ map first_switch sources.now) }
 {
@@ -54,8 +52,7 @@ pub(crate) fn firsts(alloc: Global, sources: &[Sender]) -> Result<Vec<Option<usi
         .collect(alloc)
 }
 
-/// Returns the index of the first switch that the packets of `source` reach, or `None` if these packets reach no
-/// switch.
+/// Returns the index of the first switch that the packets of `source` reach, or `None` if they reach none.
 fn first_switch(source: &Sender) -> Option<usize>
     ensures { result ≡ first_switch source.now }
 {

@@ -19,8 +19,7 @@ pub struct WiredSwitch {
     pub ports: u8,
 }
 
-/// Returns the switches with the GUIDs `guids`, in the order of `guids`, each with the far ends of the switch's wires
-/// and the switch's port count. `guids` must list the GUIDs of the usable switches in ascending order.
+/// Returns the switches `guids`, in this order, each with the far ends of its wires and its port count.
 pub(crate) fn wired_switches(
     alloc: Global,
     wires: &Wires,
@@ -36,8 +35,7 @@ pub(crate) fn wired_switches(
     Ok(wired)
 }
 
-/// Returns the switch `guid` with the far ends of its wires and its port count. `guids` must list the GUIDs of the
-/// usable switches in ascending order.
+/// Returns the switch `guid` with the far ends of its wires and its port count.
 fn wired_switch(
     alloc: Global,
     wires: &Wires,

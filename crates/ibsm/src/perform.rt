@@ -20,9 +20,8 @@ use sm_cli::{ExitStatus, Fault, run_files, write_fault};
 use std::alloc::Global;
 use std::io::Write;
 
-/// Performs `task` on the files `names`, the inputs of `task` in the order in which they are read. There must be
-/// enough names for the task; a run and serving a manager take no further names. All files are opened before the
-/// first one is read. If the task cannot be done, writes the reason to `errors`.
+/// Performs `task` on the files `names`, its inputs in the order in which they are read. All files are opened before
+/// the first one is read. If the task cannot be done, writes the reason to `errors`.
 pub(crate) fn perform_or_explain<R, O, E>(
     rt: &R,
     task: Task,
@@ -66,9 +65,7 @@ fn status_after(passed: bool) -> ExitStatus
     }
 }
 
-/// Opens the files `names` and performs `task` on these files. There must be enough names for the task; a run and
-/// serving a manager take no further names. Returns whether what `task` judges passes. A task that judges nothing
-/// passes.
+/// Opens the files `names` and performs `task` on these files. Returns whether what `task` judges, if anything, passes.
 fn perform<R, O, E>(
     rt: &R,
     task: Task,
@@ -99,8 +96,7 @@ where
     do_task(rt.alloc(), task, &mut inputs, output, errors)
 }
 
-/// Performs `task` on `inputs`, which are open. There must be enough inputs for the task; a run and serving a manager
-/// take no further inputs. Returns whether what `task` judges passes. A task that judges nothing passes.
+/// Performs `task` on `inputs`, which are open. Returns whether what `task` judges, if anything, passes.
 fn do_task<S: Source, W: Sink, E: Sink>(
     alloc: Global,
     task: Task,
@@ -148,8 +144,7 @@ fn do_task<S: Source, W: Sink, E: Sink>(
     }
 }
 
-/// Writes the line of `fault` to `errors`, and returns the exit status of `fault`, whether or not the write fails.
-/// `names` are the names of the run's files.
+/// Writes the line of `fault` in a run of the files `names` to `errors`, and returns its exit status.
 pub(crate) fn say<E: Write>(errors: &mut ToWrite<E>, names: &[&str], fault: &Fault) -> ExitStatus
     ensures status { result ≡ status_of fault.now }
     ensures said { IsSaid ⟦<ToWrite<E> as Sink>⟧.written ⟦<ToWrite<E> as Sink>⟧.has_failed errors.old errors.new
@@ -159,8 +154,8 @@ pub(crate) fn say<E: Write>(errors: &mut ToWrite<E>, names: &[&str], fault: &Fau
     fault.status()
 }
 
-/// Opens the files `names`, in the order of `names`. Returns `Open` with the index of the first file that cannot be
-/// opened. If each file can be opened, but memory was refused for one of them, returns `Memory`.
+/// Opens the files `names`, in this order. Fails with `Open` and the index of the first file that cannot be opened or,
+/// if each can be opened but memory was refused for one, with `Memory`.
 fn open_all<R>(rt: &R, names: &[&str]) -> Result<Vec<R::Opened>, Fault>
 where
     R: Opener + AllocGlobal,

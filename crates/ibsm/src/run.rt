@@ -50,12 +50,8 @@ where
     }
 }
 
-/// Performs what the words `matches` ask for. `matches` must be well-formed. If the task cannot be done, writes the
-/// reason to `errors`.
-///
-/// # Errors
-///
-/// Returns an error if memory was refused before the task began.
+/// Performs what the words `matches` ask for. If the task cannot be done, writes the reason to `errors`. Returns an
+/// error if memory was refused before the task began.
 fn dispatch<R, O, E>(
     rt: &R,
     matches: &ArgMatches<'_>,

@@ -66,8 +66,7 @@ pub(crate) fn explain<R: Print + Eprint, E: Write>(
     Ok(ExitStatus::Done)
 }
 
-/// Writes to `errors` what to use instead of each of `words` that the program took in an earlier release, in the order
-/// of `words`. Ignores a failed write.
+/// Writes to `errors` what to use instead of each of `words` that an earlier release took. Ignores a failed write.
 fn tell_successors<E: Write>(words: &[String], errors: &mut ToWrite<E>)
     ensures { IsSaid ⟦<ToWrite<E> as Sink>⟧.written ⟦<ToWrite<E> as Sink>⟧.has_failed errors.old errors.new
         (successors_text words.now) }

@@ -10,8 +10,7 @@ use smp_bytes::{Guid, PortNum};
 use std::alloc::{AllocError, Global};
 use subnet_view::Subnet;
 
-/// Returns, for each port of each usable switch, the port at the far end of the wire there, or 0 if there is no wire.
-/// The item for port p of the switch at index i is at 256 * i + p. There must be fewer than 2^56 usable switches.
+/// Returns the port at the far end of the wire in each port of each usable switch, or 0, at 256 * index + port.
 pub(crate) fn far_ports(alloc: Global, network: &Network) -> Result<Vec<PortNum>, AllocError>
     requires { 256 * length (switches (cells_of network.now.facts)) < 2 ^ 64 }
     ensures { IfOk result (λ ports. ports.items ≡ map (far_port_by (cells_of network.now.facts))
@@ -25,8 +24,7 @@ pub(crate) fn far_ports(alloc: Global, network: &Network) -> Result<Vec<PortNum>
     Ok(ports)
 }
 
-/// Returns the port at the far end of the wire in port `number` % 256 of the usable switch at index `number` / 256.
-/// Returns 0 if there is no such wire or no such switch.
+/// Returns the port across port `number` % 256 of the usable switch at index `number` / 256, or 0 if there is none.
 fn far_port_by(network: &Network, number: usize) -> PortNum
     ensures { result ≡ far_port_by (cells_of network.now.facts) number }
 {

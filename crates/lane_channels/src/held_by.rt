@@ -22,8 +22,7 @@ pub(crate) struct Asked {
     pub(crate) held_by: Vec<Vec<Lid>>,
 }
 
-/// Returns the LIDs that each sender holds if `answers` is true, otherwise no LIDs. If `answers` is true, goes
-/// through the held LIDs once for each end port.
+/// Returns the LIDs that each sender holds if `answers`, by a walk through the held LIDs for each end port, else none.
 pub(crate) fn asked_of(
     alloc: Global,
     by_lane: &LaneNetwork,
@@ -42,8 +41,7 @@ pub(crate) fn asked_of(
     Ok(Asked { answers, held_by })
 }
 
-/// Returns the LIDs that each end port holds, in the order of the end ports. Goes through the held LIDs once for each
-/// end port.
+/// Returns the LIDs that each end port holds. Goes through the held LIDs once for each end port.
 fn held_by(alloc: Global, network: &Network) -> Result<Vec<Vec<Lid>>, AllocError>
     ensures { IfOk result (λ held_by. lists_of held_by.items
         ≡ map (lids_held network.now.held) (end_ports (cells_of network.now.facts))) }

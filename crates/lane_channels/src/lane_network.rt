@@ -89,8 +89,7 @@ impl<'a> LaneNetwork<'a> {
         if lane < DROPPED { Some(lane) } else { None }
     }
 
-    /// Returns the port at the far end of the wire in port `out` of the switch at `index`, or 0 if there is no wire.
-    /// The numbers of all channels of the switch must fit in 64 bits. Takes constant time.
+    /// Returns the port across port `out` of the switch at `index`, or 0 without a wire. Takes constant time.
     pub(crate) fn port_across(&self, index: usize, out: PortNum) -> PortNum
         requires { 256 * index + 256 < 2 ^ 64 + 1 }
         ensures { result ≡ port_across (cells_of self.now.seen.facts) index out }

@@ -19,7 +19,6 @@ use std::alloc::{AllocError, Global};
 use subnet_view::Subnet;
 
 /// Returns, for each sender, the stop at which its packets first reach a usable switch, or `None` if they reach none.
-/// There must be fewer than 2^56 usable switches.
 pub(crate) fn first_stops(
     alloc: Global,
     network: &Network,
@@ -35,8 +34,7 @@ pub(crate) fn first_stops(
     Ok(firsts)
 }
 
-/// Returns the stop at which the packets of `source` first reach a usable switch, or `None` if they reach none. The
-/// numbers of all stops at the first switch must fit in 64 bits.
+/// Returns the stop at which the packets of `source` first reach a usable switch, or `None` if they reach none.
 fn first_stop(subnet: &Subnet, source: &Sender) -> Option<usize>
     requires { (index : ℕ) → first_switch source.now ≡ Some index → 256 * index + 256 < 2 ^ 64 + 1 }
     ensures { result ≡ stop_from source.now (far_port (cells_of subnet.now) source.now.port.node source.now.port.port) }
@@ -50,8 +48,7 @@ fn first_stop(subnet: &Subnet, source: &Sender) -> Option<usize>
     }
 }
 
-/// Returns the stop at `port` of the switch `far`, or `None` if `far` is not a usable switch. The numbers of all stops
-/// at the switch must fit in 64 bits.
+/// Returns the stop at `port` of the switch `far`, or `None` if `far` is not a usable switch.
 fn stop_over(far: Far, port: PortNum) -> Option<usize>
     requires { (index : ℕ) → switch_over far ≡ Some index → 256 * index + 256 < 2 ^ 64 + 1 }
     ensures { result ≡ stop_by None far port }
@@ -62,8 +59,7 @@ fn stop_over(far: Far, port: PortNum) -> Option<usize>
     }
 }
 
-/// Returns the number of the stop at `port` of the usable switch at `index`. The numbers of all stops at the switch
-/// must fit in 64 bits.
+/// Returns the number of the stop at `port` of the usable switch at `index`.
 pub(crate) fn stop_at(index: usize, port: PortNum) -> usize
     requires { 256 * index + 256 < 2 ^ 64 + 1 }
     ensures { result ≡ stop_at index port }
@@ -78,8 +74,7 @@ pub(crate) fn port_of(stop: usize) -> PortNum
     PortNum::new((stop % 256) as u8)
 }
 
-/// Returns the number of the channel by port `out` of the switch at `index`, on `lane`. `lane` must be below 15, and
-/// the numbers of all channels by lane of the switch must fit in 64 bits.
+/// Returns the number of the channel by port `out` of the switch at `index`, on `lane`.
 pub(crate) fn lane_number(index: usize, out: PortNum, lane: u8) -> usize
     requires within { lane < 15 }
     requires room { 4096 * index + 4096 < 2 ^ 64 + 1 }

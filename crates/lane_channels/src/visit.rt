@@ -19,8 +19,6 @@ use smp_bytes::{Lid, PortNum};
 use std::alloc::AllocError;
 
 /// Visits `stop`, unless it is at no usable switch, or packets of `level` for the LID were followed from there before.
-/// `level` must be below 16. `walks` must have 4096 channels and 4096 marks for each usable switch. There must be
-/// fewer than 2^52 usable switches, and at most as many edges in each column.
 pub(crate) fn visit_if_new(
     by_lane: &LaneNetwork,
     columns: &LidColumns,
@@ -44,8 +42,6 @@ pub(crate) fn visit_if_new(
 }
 
 /// Marks `stop` for the LID and `level`, and follows a packet of `level` from there along the edge of each column.
-/// `stop` must be at a usable switch, and `level` below 16. `walks` must have 4096 channels and 4096 marks for each
-/// usable switch. There must be fewer than 2^52 usable switches, and at most as many edges in each column.
 ///
 /// For each edge, records which channels the packet can take after the channel of the edge, and adds the stop that the
 /// edge leads to. If the packet is dropped for want of a lane, notes the packet, unless one is noted already. For each
@@ -70,8 +66,7 @@ fn visit(
     leave(by_lane, columns, level, stop, walks)
 }
 
-/// Follows a packet of `level` from `stop` along the edge of each column. `walks` must have 4096 channels for each
-/// usable switch. There must be fewer than 2^52 usable switches, and at most as many edges in each column.
+/// Follows a packet of `level` from `stop` along the edge of each column.
 fn leave(
     by_lane: &LaneNetwork,
     columns: &LidColumns,
@@ -95,9 +90,7 @@ fn leave(
     Ok(())
 }
 
-/// Follows a packet of `level` from `stop` along `edge`. `edge` must be an edge of the stop's switch by some column.
-/// `walks` must have 4096 channels for each usable switch. There must be fewer than 2^52 usable switches, and at most
-/// as many edges in each column.
+/// Follows a packet of `level` from `stop` along `edge`.
 fn leave_along(
     by_lane: &LaneNetwork,
     columns: &LidColumns,
@@ -151,10 +144,8 @@ fn note(noted: &mut Option<Dropped>, dropped: Dropped)
     *noted = noted.or(Some(dropped));
 }
 
-/// Adds, to the channels that can come after `channel`, those that packets of `level` take from the switch at `index`
-/// along its edge in any column. These packets come in by port `into`. Leaves out edges along which they are dropped.
-/// `waits` must have 4096 channels for each usable switch, and `channel` must be one of them. There must be fewer than
-/// 2^52 usable switches, and at most as many edges in each column.
+/// Adds, to the channels that can come after `channel`, those that packets of `level` that come in by port `into` take
+/// from the switch at `index` along its edge in any column, unless they are dropped there.
 fn record(
     by_lane: &LaneNetwork,
     columns: &LidColumns,
@@ -179,10 +170,8 @@ fn record(
     Ok(())
 }
 
-/// Adds the channel along `edge` from the switch at `index` to those that can come after `channel`. Adds nothing if
-/// packets of `level` that come in there by port `into` are dropped along `edge`. `index` must be the index of a
-/// usable switch. `waits` must have 4096 channels for each usable switch, and `channel` must be one of them. There
-/// must be fewer than 2^52 usable switches.
+/// Adds the channel along `edge` from the switch at `index` to those that can come after `channel`, unless packets of
+/// `level` that come in there by port `into` are dropped along it.
 fn record_along(
     by_lane: &LaneNetwork,
     level: u8,
@@ -205,7 +194,7 @@ fn record_along(
     }
 }
 
-/// Sets the mark at `number` to `lid`. There must be such a mark.
+/// Sets the mark at `number` to `lid`.
 fn mark(marks: &mut [u16], number: usize, lid: Lid)
     requires { number < length marks.old }
     ensures { marks.new ≡ slice_set marks.old number lid }
@@ -213,8 +202,7 @@ fn mark(marks: &mut [u16], number: usize, lid: Lid)
     marks[number] = lid.number();
 }
 
-/// Returns whether nothing is left to follow from `stop`: it is at none of `count` switches, or packets of `level` for
-/// `lid` were followed from there before. `level` must be below 16, and `count` below 2^52.
+/// Returns whether `stop` is at none of `count` switches, or was followed at `level` for `lid` before.
 fn is_done(count: usize, lid: Lid, marks: &[u16], level: u8, stop: usize) -> bool
     requires level { level < 16 }
     requires room { 4096 * count < 2 ^ 64 }
@@ -230,8 +218,7 @@ fn mark_at(marks: &[u16], number: usize) -> u16
     marks.get(number).copied().unwrap_or(0)
 }
 
-/// Returns the number of the mark of `stop` and `level`. `level` must be below 16, and the numbers of all marks of
-/// `stop` must fit in 64 bits.
+/// Returns the number of the mark of `stop` and `level`.
 fn mark_number(level: u8, stop: usize) -> usize
     requires level { level < 16 }
     requires room { 16 * stop + 16 < 2 ^ 64 + 1 }

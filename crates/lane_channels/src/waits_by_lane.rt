@@ -92,10 +92,7 @@ pub(crate) fn nothing_followed(alloc: Global, count: usize) -> Result<Walks, All
     })
 }
 
-/// Follows the packets for the LID of `columns` that end ports send. The LID must not be 0, and `owners` must be the
-/// end ports that hold it. If answers are followed, `asked` must have the LIDs that each end port of `by_lane` holds.
-/// `walks` must have 4096 channels and 4096 marks for each usable switch. There must be fewer than 2^52 usable
-/// switches, and at most as many edges in each column.
+/// Follows the packets for the LID of `columns` that end ports send.
 pub(crate) fn follow_lid(
     by_lane: &LaneNetwork,
     asked: &Asked,
@@ -119,10 +116,7 @@ pub(crate) fn follow_lid(
     Ok(())
 }
 
-/// Follows the packets for the LID of `columns` that the end port at `index` sends. There must be such an end port.
-/// The LID must not be 0, and `owners` must be the end ports that hold it. If answers are followed, `asked` must have
-/// the LIDs that each end port of `by_lane` holds. `walks` must have 4096 channels and 4096 marks for each usable
-/// switch. There must be fewer than 2^52 usable switches, and at most as many edges in each column.
+/// Follows the packets for the LID of `columns` that the end port at `index` sends.
 fn follow_sender(
     by_lane: &LaneNetwork,
     asked: &Asked,
@@ -154,8 +148,7 @@ fn follow_sender(
     follow_answers(by_lane, columns, owners, lids, first, walks)
 }
 
-/// Returns the first stop of packets of the end port at `index`, or `None` if these packets reach no switch. There must
-/// be such an end port.
+/// Returns the first stop of packets of the end port at `index`, or `None` if these packets reach no switch.
 fn first_at(firsts: &[Option<usize>], index: usize) -> Option<usize>
     requires { index < length firsts.now }
     ensures { slice_get firsts.now index ≡ Some result }
@@ -163,7 +156,7 @@ fn first_at(firsts: &[Option<usize>], index: usize) -> Option<usize>
     firsts[index]
 }
 
-/// Returns the end port of the sender at `index`. There must be such a sender.
+/// Returns the end port of the sender at `index`.
 fn port_at(sources: &[Sender], index: usize) -> &EndPort
     requires { index < length sources.now }
     ensures { option_map (λ s. s.port) (slice_get sources.now index) ≡ Some result.now }
@@ -171,7 +164,7 @@ fn port_at(sources: &[Sender], index: usize) -> &EndPort
     &sources[index].port
 }
 
-/// Returns the LIDs that the end port at `index` holds. There must be such an end port.
+/// Returns the LIDs that the end port at `index` holds.
 fn lids_at(held_by: &[Vec<Lid>], index: usize) -> &[Lid]
     requires { index < length held_by.now }
     ensures { slice_get (lists_of held_by.now) index ≡ Some result.now }
@@ -179,9 +172,7 @@ fn lids_at(held_by: &[Vec<Lid>], index: usize) -> &[Lid]
     &held_by[index]
 }
 
-/// Follows a packet of `level`, starting at the stop `first`. Follows none if `level` or `first` is `None`. The level
-/// must be below 16, and the LID of `columns` must not be 0. `walks` must have 4096 channels and 4096 marks for each
-/// usable switch. There must be fewer than 2^52 usable switches, and at most as many edges in each column.
+/// Follows a packet of `level`, starting at the stop `first`, if there are both.
 fn walk_at_level(
     by_lane: &LaneNetwork,
     columns: &LidColumns,
@@ -204,10 +195,7 @@ fn walk_at_level(
     }
 }
 
-/// Follows, starting at the stop `first`, the answers to packets that each of `owners` sends for each of `lids`.
-/// Follows none if `first` is `None`. The LID of `columns` must not be 0. `walks` must have 4096 channels and 4096
-/// marks for each usable switch. There must be fewer than 2^52 usable switches, and at most as many edges in each
-/// column.
+/// Follows, from the stop `first` on, if there is one, the answers to packets that each of `owners` sends for `lids`.
 fn follow_answers(
     by_lane: &LaneNetwork,
     columns: &LidColumns,
@@ -232,8 +220,7 @@ fn follow_answers(
     Ok(())
 }
 
-/// Returns the service level of packets from `port` to `lid`, or `None` if the text gives them none. Does a binary
-/// search among the blocks of levels.
+/// Returns the service level of packets from `port` to `lid`, if any. Does a binary search among the blocks of levels.
 fn level_from(lanes: &Lanes, port: &EndPort, lid: Lid) -> Option<u8>
     ensures is { result ≡ level_of lanes.now port.now.node port.now.port lid }
     ensures within { IfSome result (λ l. l < 16) }
@@ -241,9 +228,7 @@ fn level_from(lanes: &Lanes, port: &EndPort, lid: Lid) -> Option<u8>
     lanes.level(port.node, port.port, lid)
 }
 
-/// Follows, starting at the stop `first`, the answers to packets that `asker` sends for each of `lids`. Follows none
-/// if `first` is `None`. The LID of `columns` must not be 0. `walks` must have 4096 channels and 4096 marks for each
-/// usable switch. There must be fewer than 2^52 usable switches, and at most as many edges in each column.
+/// Follows, from the stop `first` on, if there is one, the answers to packets that `asker` sends for each of `lids`.
 fn follow_answers_to(
     by_lane: &LaneNetwork,
     columns: &LidColumns,

@@ -11,10 +11,7 @@ use crate::visit::visit_if_new;
 use crate::walk_state::{LidColumns, Walks};
 use std::alloc::AllocError;
 
-/// Follows a packet of `level`, starting at the stop `first`, at each stop along the edge of each column. Follows
-/// none if `first` is `None`. `level` must be below 16, and the LID of `columns` must not be 0. `walks` must have
-/// 4096 channels and 4096 marks for each usable switch. There must be fewer than 2^52 usable switches, and at most as
-/// many edges in each column.
+/// Follows a packet of `level` from the stop `first` on, if there is one, at each stop along the edge of each column.
 pub(crate) fn walk(
     by_lane: &LaneNetwork,
     columns: &LidColumns,

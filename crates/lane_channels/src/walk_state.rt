@@ -45,8 +45,7 @@ impl LidColumns {
         if edge == first { None } else { edge }
     }
 
-    /// Returns the edge of the switch at `index` in the column at `nth`, or `None` if there is none. Takes constant
-    /// time.
+    /// Returns the edge of the switch at `index` in the column at `nth`, if there is one. Takes constant time.
     fn edge(&self, index: usize, nth: usize) -> Option<Edge>
         ensures { result ≡ edge_by (columns_in self.now) index nth }
     {

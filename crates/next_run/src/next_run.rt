@@ -91,8 +91,7 @@ fn texts_before(asked: StepAsked) -> usize
     asked.rule.texts() + texts_if(asked.has_last)
 }
 
-/// Writes to `sink` the step that `asked` asks for, from `found`, what the inputs say, towards the plan by `rule`.
-/// Writes to `told` what `run_next` writes there, and returns what `run_next` returns.
+/// Writes the step that `asked` asks for, from `found`, towards the plan by `rule`, as `run_next` does.
 fn step<W: Sink, E: Sink>(
     alloc: Global,
     asked: StepAsked,
@@ -126,8 +125,7 @@ fn step<W: Sink, E: Sink>(
     Ok(cycle.is_none())
 }
 
-/// Returns a shortest credit loop that mixtures of the tables of the network `from` and of the tables `next` make, with
-/// its LIDs, or empty lists if no mixtures make a credit loop.
+/// Returns a shortest credit loop that mixtures of the tables of `from` and `next` make, with its LIDs, or empty lists.
 fn loop_in_step(alloc: Global, from: &Network, next: &Held) -> Result<StepLoop, AllocError>
     ensures { IfOk result (λ found. IsLoopInStep (cells_of from.now.facts) from.now.held next.now
         found.channels.items found.lids.items) }
@@ -136,8 +134,7 @@ fn loop_in_step(alloc: Global, from: &Network, next: &Held) -> Result<StepLoop, 
     StepLoop::of(alloc, from, &after)
 }
 
-/// Writes to `told` the lines of `cycle`, a credit loop that the step can make, and then the lines of `order`, if
-/// `order` is not `None`.
+/// Writes to `told` the lines of `cycle`, a credit loop that the step can make, and then those of `order`, if given.
 fn write_loop_and_order<E: Sink>(
     told: &mut E,
     from: &Network,
@@ -152,11 +149,9 @@ fn write_loop_and_order<E: Sink>(
     write_step_order(told, order)
 }
 
-/// Makes the step from the tables of the network `from` towards `plan`. `positions` must have the position of each
-/// usable switch, in ascending order of GUID, in an order; it is meant to be the one that the plan goes by. `graph` must
-/// be the graph of the usable switches. If the step goes by an order that the tables imply, it takes the one nearest to
-/// the order `last`, as long as that changes something. Otherwise, and if `last` is `None`, it takes the one nearest to
-/// that of `positions`. Returns the fault `Moves` if a LID moves, or `Memory` if memory is refused.
+/// Makes the step from the tables of `from` towards `plan`, where `positions` is meant to be the order that the plan
+/// goes by. If the step goes by an order that the tables imply, it takes the one nearest to the order `last`, as long
+/// as that changes something, and otherwise, or without `last`, the one nearest to that of `positions`.
 fn made_step(
     alloc: Global,
     graph: &SwitchGraph,
@@ -184,11 +179,9 @@ fn made_step(
     Ok(made)
 }
 
-/// Makes the step from the tables of the network `from` towards the tables of the network `plan`. Both networks must
-/// have the same facts. `positions` must have the position of each usable switch, in ascending order of GUID, in an
-/// order; it is meant to be the one that the plan goes by. `graph` must be the graph of the usable switches. If the step
-/// goes by an order that the tables of `from` imply, it takes the one nearest to the order `last`, or to that of
-/// `positions` if `last` is `None`. Returns the fault `Moves` if a LID moves, or `Memory` if memory is refused.
+/// Makes the step from the tables of `from` towards those of `plan`, where `positions` is meant to be the order that
+/// the plan goes by. If the step goes by an order that the tables of `from` imply, it takes the one nearest to the
+/// order `last`, or to that of `positions` if `last` is `None`.
 fn step_near(
     alloc: Global,
     graph: &SwitchGraph,
@@ -214,10 +207,8 @@ fn step_near(
     Ok(MadeStep { next, order })
 }
 
-/// Returns the tables to write next by the rule of `choice`, from the tables of the network `from`. They lead towards
-/// the goal of `choice` or, if `choice` has no goal, towards the tables of the network `plan`. Both networks must have
-/// the same facts. If another end port holds a LID of the goal in the tables of `from`, returns the fault `Moves` with
-/// the first such LID. Otherwise returns `Memory` if memory is refused.
+/// Returns the tables to write next by the rule of `choice`, from the tables of `from` towards the goal of `choice` or,
+/// if it has none, those of `plan`. Fails with `Moves` if another end port holds a LID of the goal in `from`.
 fn next_by_choice(
     alloc: Global,
     choice: &StepChoice,
@@ -239,8 +230,7 @@ fn next_by_choice(
     }
 }
 
-/// Returns `fault`, the reason why no step is made, as a fault of the run. `input` is the index of the held tables'
-/// text.
+/// Returns `fault`, the reason why no step is made, as a fault of the run with the held tables at the index `input`.
 fn fault_of_step(input: usize, fault: &StepFault) -> Fault
     ensures { result ≡ fault_of_step input fault.now }
 {

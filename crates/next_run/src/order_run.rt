@@ -47,8 +47,7 @@ pub fn run_order_of_tables<S: Source, W: Sink>(
     answer(alloc, sink, &read.store, &read.held)
 }
 
-/// Writes the order of the switches that `held` implies in the subnet of `store`, or nothing if `held` implies no
-/// order, and flushes. Returns whether `held` implies an order.
+/// Writes the order that `held` implies in the subnet of `store`, if any, and flushes. Returns whether there is one.
 fn answer<W: Sink>(alloc: Global, sink: &mut W, store: &Store, held: &Held) -> Result<bool, Fault>
     ensures told { IfOk result (IsOrderAnswer store.now held.now
         (Appends (W.written sink.old) (W.written sink.new))) }
@@ -66,9 +65,8 @@ fn answer<W: Sink>(alloc: Global, sink: &mut W, store: &Store, held: &Held) -> R
     Ok(order.is_some())
 }
 
-/// Returns the order that the tables of `network` imply, or `None` if these tables imply no order. The order has the
-/// indices of the switches, the last switch first. Whenever several switches may be the last of those left, the one
-/// with the greatest GUID is taken.
+/// Returns the order that the tables of `network` imply, if any: the indices of the switches, the last switch first. Of
+/// several that may be the last of those left, takes the one with the greatest GUID.
 fn order_of(alloc: Global, network: &Network) -> Result<Option<Vec<usize>>, AllocError>
     ensures { IfOk result (λ order. IsImpliedOrder (cells_of network.now.facts) network.now.held
         (range_with_len 0 (length (switches (cells_of network.now.facts)))) (option_map (λ taken. taken.items) order)) }
@@ -84,8 +82,7 @@ fn indices(alloc: Global, count: usize) -> Result<Vec<usize>, AllocError>
     (0..count).collect(alloc)
 }
 
-/// Returns the GUIDs of the switches of `order`, the first switch first, or an empty list if `order` is `None`.
-/// `order` has the indices of the switches, the last switch first.
+/// Returns the GUIDs of the switches of `order`, the first one first, or an empty list. `order` begins with the last.
 fn told_switches(
     alloc: Global,
     network: &Network,

@@ -34,9 +34,8 @@ pub(crate) struct StepChoice {
     pub order: Option<Vec<Guid>>,
 }
 
-/// Returns how a step from the tables of `from` towards the tables of `plan` chooses entries. Both networks must have
-/// the same facts. `positions` must have the position of each usable switch, in ascending order of GUID, in an order;
-/// it is meant to be the one that the plan goes by. `graph` must be the graph of the usable switches.
+/// Returns how a step from the tables of `from` towards those of `plan` chooses entries. `positions` is meant to be the
+/// order that the plan goes by.
 ///
 /// The step goes by the order of `positions` if the tables of `from` are right by it. Otherwise, if these tables imply
 /// an order, the step goes by that order, towards the goal in between. Of several implied orders, the step takes the
@@ -81,10 +80,8 @@ pub(crate) fn step_choice(
     }
 }
 
-/// Returns the goal in between of a step by an order that the tables of `from` imply. Of several implied orders, the
-/// step takes the one nearest to the order `last`, or to that of `positions` if `last` is `None`. Returns `None` if the
-/// tables imply no order. Both networks must have the same facts. `positions` must have a position for each usable
-/// switch. `graph` must be the graph of the usable switches.
+/// Returns the goal in between of a step by an order that the tables of `from` imply, if they imply any: the one
+/// nearest to the order `last`, or to that of `positions` if `last` is `None`.
 fn goal_near(
     alloc: Global,
     graph: &SwitchGraph,
@@ -104,8 +101,7 @@ fn goal_near(
 }
 
 /// Returns the position of each usable switch, in ascending order of GUID, in the order `last`, or `positions` if
-/// `last` is `None`. A switch that `last` does not have gets the length of `last`. `positions` must have a position for
-/// each usable switch.
+/// `last` is `None`. A switch that `last` does not have gets the length of `last`.
 fn near_positions(
     alloc: Global,
     positions: &[usize],

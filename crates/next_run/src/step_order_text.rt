@@ -11,8 +11,7 @@ use smp_bytes::Guid;
 use std::alloc::{AllocError, Global};
 use two_orders::positions_in;
 
-/// Returns the usable switches in the order of `positions`. `positions` must have the position of each usable switch,
-/// in ascending order of GUID.
+/// Returns the usable switches in the order of `positions`, which are theirs in ascending order of GUID.
 pub(crate) fn switches_by(
     alloc: Global,
     network: &Network,
@@ -27,8 +26,7 @@ pub(crate) fn switches_by(
         .collect(alloc)
 }
 
-/// Writes a line for each switch of `order`, the order that a step goes by, in the form of a text of an order. Writes
-/// nothing if `order` is `None`.
+/// Writes a line for each switch of `order`, the order that a step goes by, if there is one, as a text of an order.
 pub(crate) fn write_step_order<W: Sink>(
     sink: &mut W,
     order: &Option<Vec<Guid>>,

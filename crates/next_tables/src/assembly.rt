@@ -48,7 +48,6 @@ pub fn greater(lid: Lid, other: Lid) -> Lid
 }
 
 /// Returns the usable switches, in ascending order of GUID, each with the greater of its tops in `held` and `plan`.
-/// `held` and `plan` must have the same facts.
 fn switches_with(
     alloc: Global,
     held: &Network,
@@ -68,8 +67,7 @@ fn switches_with(
     Ok(made)
 }
 
-/// Returns the blocks of each of `switches` in turn, up to the block that has the entry for the switch's top. `columns`
-/// has, for each LID, the entries of all switches. A missing entry is 255.
+/// Returns the blocks of each of `switches` in turn, up to that of its top, by the `columns` of entries for each LID.
 fn all_blocks(
     alloc: Global,
     columns: &[Vec<u8>],
@@ -86,8 +84,7 @@ fn all_blocks(
     Ok(blocks)
 }
 
-/// Appends the first `count` blocks of the switch at `index`, from `columns`. A missing entry is 255. `count` must be
-/// at most 1024.
+/// Appends the first `count` blocks of the switch at `index`, from `columns`. A missing entry is 255.
 fn add_blocks(
     blocks: &mut Vec<HeldBlock>,
     columns: &[Vec<u8>],
@@ -108,8 +105,7 @@ fn add_blocks(
     Ok(())
 }
 
-/// Returns block `number` of the switch at `index`, from `columns`. A missing entry is 255. `number` must be less than
-/// 1024.
+/// Returns block `number` of the switch at `index`, from `columns`. A missing entry is 255.
 fn block(columns: &[Vec<u8>], index: usize, number: usize) -> [u8; 64]
     requires { number < 1024 }
     ensures { result ≡ block_in (map (λ column. column.items) columns.now) index number }

@@ -12,8 +12,7 @@ use smp_bytes::{Lid, NO_ENTRY};
 use std::alloc::{AllocError, Global};
 use subnet_view::EndPort;
 
-/// Returns, for each LID of the first `count` blocks, the next entries of all usable switches, by `rule`. `held` and
-/// `plan` must have the same facts, and `count` must be at most 1024.
+/// Returns, for each LID of the first `count` blocks, the next entries of all usable switches, by `rule`.
 pub(crate) fn columns(
     alloc: Global,
     rule: &StepRule,
@@ -39,8 +38,7 @@ pub(crate) fn columns(
     Ok(columns)
 }
 
-/// Returns the next entry of each usable switch, by `rule`, for the LID that both cursors are at. `held` and `plan`
-/// must be at the same LID, and have the same facts.
+/// Returns the next entry of each usable switch, by `rule`, for the LID that both cursors are at.
 fn column(
     alloc: Global,
     rule: &StepRule,
@@ -59,7 +57,6 @@ fn column(
 }
 
 /// Returns the next entry of each usable switch, by the order `positions`, for the LID that both cursors are at.
-/// `held` and `plan` must be at the same LID, and have the same facts.
 fn ordered_column(
     alloc: Global,
     positions: &[usize],
@@ -87,8 +84,7 @@ fn ordered_column(
     ordered_entries(alloc, &port, positions, &held_steps, &plan_steps)
 }
 
-/// Returns the next entry of each usable switch, by settled entries, for the LID that both cursors are at. `held` and
-/// `plan` must be at the same LID, and have the same facts.
+/// Returns the next entry of each usable switch, by settled entries, for the LID that both cursors are at.
 fn settled_column(alloc: Global, held: &LidCursor, plan: &LidCursor) -> Result<Vec<u8>, AllocError>
     requires facts { plan.now.seen.facts ≡ held.now.seen.facts }
     requires lid { plan.now.lid ≡ held.now.lid }
@@ -141,8 +137,7 @@ fn are_same(entries: &[u8], others: &[u8]) -> bool
     entries == others
 }
 
-/// Returns the end port that alone owns a LID both in the plan and in the held tables, or `None` if there is none.
-/// `planned` has the LID's owners in the plan, and `held` those in the held tables.
+/// Returns the end port that alone owns a LID both in the plan (`planned`) and in the held tables (`held`), if any.
 fn keeper(planned: &[EndPort], held: &[EndPort]) -> Option<EndPort>
     ensures { result ≡ keeper planned.now held.now }
 {

@@ -15,8 +15,7 @@ pub(crate) fn hops(alloc: Global, steps: &[SwitchStep]) -> Result<Vec<NextHop>, 
     steps.iter().map(|step| step.hop).collect(alloc)
 }
 
-/// Returns whether the walk that goes on with the hop `step` arrives at `port`. `ends` has the end of the walk from
-/// each switch.
+/// Returns whether the walk that goes on with the hop `step` arrives at `port`, by the `ends` of the switches' walks.
 pub(crate) fn arrives_by(port: &EndPort, ends: &[NextHop], step: NextHop) -> bool
     ensures { result ≡ arrives_by port.now ends.now step }
 {
@@ -36,8 +35,7 @@ pub(crate) fn delivered(
     arrivals(alloc, port, &ends, held)
 }
 
-/// Returns, for each of `steps`, whether the walk that goes on with its hop arrives at `port`. `ends` has the end of
-/// the walk from each switch.
+/// Returns, for each of `steps`, whether the walk that goes on with its hop arrives at `port`, by the `ends` of walks.
 fn arrivals(
     alloc: Global,
     port: &EndPort,

@@ -27,9 +27,8 @@ struct SwitchFlags {
     entered: Vec<bool>,
 }
 
-/// Returns the next entries of the switches towards `port`. `positions` has each switch's position, and `held` and
-/// `goal` have what each switch does under the held tables and under the goal's. Takes time linear in the number of
-/// switches, times the logarithm of the longest walk's length.
+/// Returns the next entries of the switches towards `port`, by their `positions` and their steps `held` and `goal`.
+/// Takes time linear in the number of switches, times the logarithm of the longest walk's length.
 pub(crate) fn ordered_entries(
     alloc: Global,
     port: &EndPort,
@@ -85,8 +84,7 @@ fn goes_up(positions: &[usize], index: usize, hop: &NextHop) -> bool
     }
 }
 
-/// Returns, for each switch, whether some switch sends the packet down to it according to a held entry that is not
-/// the goal's.
+/// Returns, for each switch, whether some switch sends the packet down to it by a held entry that is not the goal's.
 fn entered(
     alloc: Global,
     positions: &[usize],
@@ -109,8 +107,7 @@ fn none_entered(alloc: Global, count: usize) -> Result<Vec<bool>, AllocError>
     vec![in alloc; false; count]
 }
 
-/// If the switch at `index` sends the packet down to another switch, by a held entry that is not the goal's, sets
-/// the other switch's flag in `entered`. Otherwise, or if there is no such flag, does nothing.
+/// Sets the flag in `entered` of the switch to which that at `index` sends down by a held entry not the goal's.
 fn enter(
     entered: &mut [bool],
     positions: &[usize],
@@ -129,8 +126,7 @@ fn enter(
     }
 }
 
-/// Returns the step that each switch tries: the goal's step if the switch may change to that one, otherwise the held
-/// step.
+/// Returns the step that each switch tries: the goal's if it may change to that one, and otherwise the held one.
 fn tried(
     alloc: Global,
     port: &EndPort,
@@ -168,9 +164,8 @@ fn tried_by(
     }
 }
 
-/// Returns whether the switch at `index` may take the goal's entry, which gives the next hop `hop`. The hop must make
-/// no turn from down to up. If the held tables deliver from this switch, the hop must also end at `port` or lead to a
-/// switch from which they deliver.
+/// Returns whether the switch at `index` may take the goal's hop `hop`: it makes no turn from down to up and, if the
+/// held tables deliver from there, ends at `port` or leads to a switch from which they deliver.
 fn may_change(
     port: &EndPort,
     positions: &[usize],
@@ -185,9 +180,8 @@ fn may_change(
         && (!flag(&flags.delivered, index) || leads_in(port, &flags.delivered, hop))
 }
 
-/// Returns whether `hop`, the goal's next hop of the switch at `index`, makes no turn from down to up with held entries
-/// that are not the goal's. The hop may lead up only if the switch is not `entered`, and down only if the next switch
-/// is not `going_up`.
+/// Returns whether `hop`, the goal's next hop at `index`, makes no turn from down to up with other held entries: it
+/// leads up only if the switch is not `entered`, and down only if the next one is not `going_up`.
 fn turns_well(positions: &[usize], flags: &SwitchFlags, index: usize, hop: &NextHop) -> bool
     ensures { result ≡ turns_well_by positions.now flags.now.going_up.items flags.now.entered.items index hop.now }
 {
@@ -200,8 +194,7 @@ fn turns_well(positions: &[usize], flags: &SwitchFlags, index: usize, hop: &Next
     }
 }
 
-/// Returns, for each switch, the entry of its step in `tried` if these steps deliver the packet from there at `port`,
-/// otherwise 255.
+/// Returns, for each switch, the entry of its step in `tried` if these steps deliver from there at `port`, else 255.
 fn entries_by(alloc: Global, port: &EndPort, tried: &[SwitchStep]) -> Result<Vec<u8>, AllocError>
     ensures { IfOk result (λ entries. entries.items ≡ entries_by port.now tried.now) }
 {
@@ -210,8 +203,7 @@ fn entries_by(alloc: Global, port: &EndPort, tried: &[SwitchStep]) -> Result<Vec
     entries_where(alloc, port, &ends, tried)
 }
 
-/// Returns, for each switch, the entry of its step if the walk from there arrives at `port`, otherwise 255. `ends` has
-/// the end of the walk from each switch.
+/// Returns, for each switch, the entry of its step if the walk from there arrives at `port` by `ends`, otherwise 255.
 fn entries_where(
     alloc: Global,
     port: &EndPort,
@@ -228,8 +220,7 @@ fn entries_where(
         .collect(alloc)
 }
 
-/// Returns the entry of `step` if the walk from the switch at `index` arrives at `port`, otherwise 255. `ends` has the
-/// end of the walk from each switch.
+/// Returns the entry of `step` if the walk from the switch at `index` arrives at `port` by `ends`, otherwise 255.
 fn entry_by(port: &EndPort, ends: &[NextHop], index: usize, step: &SwitchStep) -> u8
     ensures { result ≡ entry_by (arrives_by port.now ends.now) (index, step.now) }
 {

@@ -29,16 +29,14 @@ pub fn are_right(alloc: Global, held: &Network, positions: &[usize]) -> Result<b
     Ok(true)
 }
 
-/// Returns whether packets for a LID never go down and then up again. `edges` has the edge along which these packets
-/// leave each switch for another switch, if there is one. `positions` has the position of each switch.
+/// Returns whether packets along `edges`, one at most from each switch, never go down and then up by `positions`.
 fn is_right_column(positions: &[usize], edges: &[Option<Edge>]) -> bool
     ensures { result ≡ is_right_column (position_at positions.now) edges.now }
 {
     (0..edges.len()).all(|index| goes_well(positions, edges, index))
 }
 
-/// Returns whether no packet leaves the switch at `index` on a channel down and then leaves the next switch on a
-/// channel up.
+/// Returns whether no packet leaves the switch at `index` on a channel down and then the next one on a channel up.
 fn goes_well(positions: &[usize], edges: &[Option<Edge>], index: usize) -> bool
     ensures { result ≡ goes_well (position_at positions.now) edges.now index }
 {

@@ -10,9 +10,8 @@ use packet_walks::{Cause, End, NextHop, SwitchStep};
 use std::alloc::{AllocError, Global};
 use subnet_view::EndPort;
 
-/// Returns the next entries of the switches for a LID of `port`. `held` and `plan` have what each switch does under
-/// the held tables and under the plan. Takes time linear in the number of switches, times the logarithm of the
-/// longest walk's length.
+/// Returns the next entries of the switches for a LID of `port`, by their steps `held` and `plan`. Takes time linear in
+/// the number of switches, times the logarithm of the longest walk's length.
 pub(crate) fn next_entries(
     alloc: Global,
     port: &EndPort,
@@ -32,8 +31,7 @@ pub(crate) fn next_entries(
     entries_by(alloc, port, &settled, &delivered, held, plan)
 }
 
-/// Returns the next entries of the switches for a LID of `port`. `settled` must have the end of the walk from each
-/// switch along entries that are equal in both tables, and `delivered` the end of the walk under the held tables.
+/// Returns the next entries of the switches for a LID of `port`, by the ends of the walks `settled` and `delivered`.
 fn entries_by(
     alloc: Global,
     port: &EndPort,
@@ -76,8 +74,7 @@ fn is_same_hop(hop: &NextHop, other: &NextHop) -> bool
     *hop == *other
 }
 
-/// Returns, for each switch, the plan's next hop if the switch's entries in both tables are equal, and otherwise that
-/// the switch drops the packet.
+/// Returns, for each switch, the plan's next hop if its entries in both tables are equal, and otherwise a drop.
 fn agreed(
     alloc: Global,
     held: &[SwitchStep],
@@ -91,8 +88,7 @@ fn agreed(
         .collect(alloc)
 }
 
-/// Returns the plan's next hop of a switch if its entries in both tables are equal. Otherwise returns that the switch
-/// drops the packet.
+/// Returns the plan's next hop of a switch if its entries in both tables are equal, and otherwise a drop.
 fn agreed_by(held: &SwitchStep, plan: &SwitchStep) -> NextHop
     ensures { result ≡ agreed_by (held.now, plan.now) }
 {
@@ -103,9 +99,7 @@ fn agreed_by(held: &SwitchStep, plan: &SwitchStep) -> NextHop
     }
 }
 
-/// Returns whether nothing needs mending: from each switch, the plan's hop or the held hop leads to `port`. After the
-/// plan's hop, the walk goes on as `settled` says, and after the held hop as `delivered` says. Each of the two has the
-/// end of the walk from each switch.
+/// Returns whether from each switch the plan's hop leads to `port` by `settled`, or the held hop by `delivered`.
 fn is_whole(
     port: &EndPort,
     settled: &[NextHop],
@@ -120,8 +114,7 @@ fn is_whole(
         || arrives_by(port, delivered, held.hop))
 }
 
-/// Returns the next hop of each switch while mending. `delivered` has the end of the walk from each switch under the
-/// held tables.
+/// Returns the next hop of each switch while mending, by the ends `delivered` of the walks under the held tables.
 fn mending(
     alloc: Global,
     port: &EndPort,
@@ -138,9 +131,8 @@ fn mending(
         .collect(alloc)
 }
 
-/// Returns the next hop of a switch while mending: delivery at `port` if the held tables deliver from the switch,
-/// otherwise the held hop if it leads to a switch, otherwise the plan's hop. `delivered` has the end of the walk from
-/// each switch under the held tables.
+/// Returns the next hop of a switch while mending: delivery at `port` if the held tables deliver from it, otherwise the
+/// held hop if it leads to a switch, otherwise the plan's hop.
 fn mending_by(
     port: &EndPort,
     delivered: &[NextHop],
@@ -174,8 +166,7 @@ fn patch_entry_by(held: &SwitchStep, plan: &SwitchStep) -> u8
     }
 }
 
-/// Returns the next entry of each switch. `settled`, `delivered` and `mended` have the end of the walk from each
-/// switch: along entries that are equal in both tables, under the held tables, and while mending.
+/// Returns the next entry of each switch, by the ends of the walks `settled`, `delivered` and `mended`.
 fn chosen(
     alloc: Global,
     port: &EndPort,
@@ -194,9 +185,8 @@ fn chosen(
         .collect(alloc)
 }
 
-/// Returns the next entry of a switch, the first of these that applies: the plan's entry if the plan's hop arrives
-/// according to `settled`; the held entry if the held hop arrives according to `delivered`; the entry while mending
-/// if the hop while mending arrives according to `mended`; 255.
+/// Returns the next entry of a switch: the plan's if it arrives by `settled`, else the held one if it arrives by
+/// `delivered`, else the one while mending if it arrives by `mended`, else 255.
 fn next_by(
     port: &EndPort,
     settled: &[NextHop],

@@ -34,8 +34,7 @@ pub fn next_tables(
     }
 }
 
-/// Returns the first LID that the plan gives to an end port and the held tables give to another, or `None` if there is
-/// none.
+/// Returns the first LID that the plan gives to an end port and the held tables to another, or `None`.
 fn first_moved(held: &Network, plan: &Network) -> Option<Lid>
     ensures { result ≡ first_moved held.now.held plan.now.held }
 {
@@ -53,7 +52,7 @@ fn moves(held: &Network, line: &HeldLid) -> bool
     !held.is_sole_owner(line)
 }
 
-/// Returns the tables to write next by `rule`, whether or not a LID moves. `held` and `plan` must have the same facts.
+/// Returns the tables to write next by `rule`, whether or not a LID moves.
 fn tables(
     alloc: Global,
     rule: &StepRule,

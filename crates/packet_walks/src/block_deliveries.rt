@@ -60,8 +60,7 @@ const NUMBERS: u16 = 0x400;
 const MOST_ROUNDS: usize = 64;
 
 /// Returns the LIDs of the block `number` that exactly one end port holds and whose packets reach this end port from
-/// every switch. Can miss such LIDs if a walk has more than 64 switches. Returns the empty set if there is no switch.
-/// `rows` has the block `number` of each held switch, and `owners` says who holds each LID.
+/// every switch. Can miss such LIDs if a walk has more than 64 switches.
 pub(crate) fn delivered(
     alloc: Global,
     nodes: &[AuditedSwitch],
@@ -95,9 +94,7 @@ impl BlockWalks {
         })
     }
 
-    /// Adds what the switch at index `switch` does with packets for each LID of the block `number`. `switch` must be
-    /// the index of one of `nodes`, and `number` must be below 1024. What `self` has must already be right for
-    /// `nodes`, `owners`, `rows` and `number` (`AreSeenBy`).
+    /// Adds what the switch at index `switch` does with packets for each LID of the block `number`.
     fn add_switch(
         &mut self,
         nodes: &[AuditedSwitch],
@@ -123,10 +120,8 @@ impl BlockWalks {
         Ok(())
     }
 
-    /// Adds what the switch at index `switch` does with packets for the LID at `index` of the block `number`. Adds
-    /// nothing unless exactly one end port holds the LID. `switch` must be the index of one of `nodes`, `number` must
-    /// be below 1024, and `index` below 64. What `self` has must already be right for `nodes`, `owners`, `rows` and
-    /// `number` (`AreSeenBy`).
+    /// Adds what the switch at index `switch` does with packets for the LID at `index` of the block `number`, if
+    /// exactly one end port holds the LID.
     fn add_last(
         &mut self,
         nodes: &[AuditedSwitch],
@@ -151,8 +146,7 @@ impl BlockWalks {
         Ok(())
     }
 
-    /// Adds `hop`, the next hop of `switch` for the LID at `index`. Adds a hop to a switch as an exit, and a delivery
-    /// at `port` as an arrival. Adds nothing for any other end. `index` must be below 64.
+    /// Adds the next hop `hop` of `switch` for the LID at `index`: an exit to a switch, or an arrival at `port`.
     fn add_hop(
         &mut self,
         switch: usize,
@@ -176,7 +170,7 @@ impl BlockWalks {
     }
 }
 
-/// Returns the LID at `index` of the block `number`. `number` must be below 1024, and `index` below 64.
+/// Returns the LID at `index` of the block `number`.
 fn lid_at(number: u16, index: usize) -> Lid
     requires number { number < 1024 }
     requires index { index < 64 }
@@ -185,7 +179,7 @@ fn lid_at(number: u16, index: usize) -> Lid
     Lid::new(64 * number + index as u16)
 }
 
-/// Records that the switch `from` forwards packets for the LID at `index` to the switch `to`. `index` must be below 64.
+/// Records that the switch `from` forwards packets for the LID at `index` to the switch `to`.
 fn add_exit(
     exits: &mut Vec<Exit>,
     slots: &mut Vec<usize>,
@@ -214,8 +208,7 @@ fn add_exit(
     Ok(())
 }
 
-/// Returns the LIDs of the exit at `slot`. Returns `None` if there is no such exit, or if it does not lead from `from`
-/// to `to`.
+/// Returns the LIDs of the exit at `slot`, if there is one and it leads from `from` to `to`.
 fn lids_of(exits: &[Exit], slot: usize, from: usize, to: usize) -> Option<LidSet>
     ensures { IfSome result (IsExit exits.now slot from to) }
 {
@@ -242,8 +235,7 @@ fn put_slot(slots: &mut Vec<usize>, switch: usize, slot: usize) {
     }
 }
 
-/// Records in `arrived` that packets for the LID at `index` reach the end port that holds the LID from `switch`. Does
-/// nothing if there is no such switch. `index` must be below 64.
+/// Records in `arrived` that packets for the LID at `index` reach its end port from `switch`, if there is one.
 fn add_lid(arrived: &mut Vec<LidSet>, switch: usize, index: usize)
     requires { index < 64 }
     ensures { arrived.new.items ≡ arrived_more arrived.old.items switch index }
@@ -271,8 +263,7 @@ fn put_lids(arrived: &mut Vec<LidSet>, switch: usize, lids: LidSet)
     }
 }
 
-/// Carries arrivals back along the exits, in rounds, until nothing changes or 64 rounds are done. If packets arrive
-/// from a switch, they also arrive from each switch that forwards them to that switch.
+/// Carries arrivals back along the exits, in rounds, until nothing changes or 64 rounds are done.
 fn go_back(arrived: &mut Vec<LidSet>, exits: &[Exit])
     ensures { AreAfterRounds exits.now arrived.old.items arrived.new.items }
 {

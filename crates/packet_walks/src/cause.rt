@@ -20,8 +20,7 @@ pub enum Cause {
     Foreign,
 }
 
-/// Returns why a switch with `ports` ports, the top `top` and the entry `entry` does not forward a packet for `lid`:
-/// the first cause that applies.
+/// Returns why a switch with `ports` ports, the top `top` and the entry `entry` does not forward a packet for `lid`.
 pub(crate) fn cause_by(ports: u8, top: Lid, lid: Lid, entry: u8) -> Cause
     ensures { result ≡ cause_by ports top lid entry }
 {

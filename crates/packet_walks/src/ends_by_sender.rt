@@ -51,9 +51,7 @@ impl<'a> Model for Ends<'a> {
 
 impl<'a> Ends<'a> {
     /// Builds the ends of the packets of `sources`. `owners` are the end ports that hold the LID, and `walks` has the
-    /// end of the walk from each switch. `firsts` must have, for each source, the index of the first switch that the
-    /// source's packet reaches, or `None` if the packet reaches no switch. `begin` must say whether each of `firsts`
-    /// is the index of one of `walks`.
+    /// end of the walk from each switch.
     pub(crate) fn new(
         alloc: Global,
         port: EndPort,
@@ -136,8 +134,7 @@ impl<'a> Ends<'a> {
     }
 }
 
-/// Returns the end of the packet of the source at `index`, or `None` if the packet loops forever or there is no such
-/// source. `walks` has the end of the walk from each switch.
+/// Returns the end of the packet of the source at `index`, or `None` if the packet loops forever.
 #[tactic(auto, using(crate::proofs::Arrivals::found_there, crate::proofs::Arrivals::none_there))]
 fn end_at(owners: &[EndPort], walks: &[NextHop], sources: &[Sender], index: usize) -> Option<End>
     ensures { result ≡ slice_index_or (map (end_from owners.now walks.now) sources.now) index None }
@@ -149,16 +146,14 @@ fn end_at(owners: &[EndPort], walks: &[NextHop], sources: &[Sender], index: usiz
     }
 }
 
-/// Returns the end of the packet of `source`, or `None` if the packet loops forever. `walks` has the end of the walk
-/// from each switch.
+/// Returns the end of the packet of `source`, by the ends `walks` of walks from switches, or `None` if it loops.
 fn end_from(owners: &[EndPort], walks: &[NextHop], source: &Sender) -> Option<End>
     ensures { result ≡ end_from owners.now walks.now source.now }
 {
     end_of(onward(walks, first_hop(owners, source)))
 }
 
-/// Returns whether `sole`, and the walk from the first switch of the source at `index` ends at the port. `arrive`
-/// says, for each switch, whether the walk from there ends at the port.
+/// Returns whether `sole`, and the walk from the first switch of the source at `index` ends at the port, by `arrive`.
 fn comes_there(sole: bool, firsts: &[Option<usize>], arrive: &[bool], index: usize) -> bool
     ensures { result ≡ (sole && comes_by (slice_index_or firsts.now index None) arrive.now) }
 {
@@ -173,7 +168,6 @@ fn first_at(firsts: &[Option<usize>], index: usize) -> Option<usize>
 }
 
 /// Returns whether the walk from the switch at index `first` ends at the port, as `arrive` says for each switch.
-/// Returns false if `first` is `None` or `arrive` has no such item.
 fn comes_by(first: Option<usize>, arrive: &[bool]) -> bool
     ensures { result ≡ comes_by first arrive.now }
 {
@@ -200,8 +194,7 @@ fn is_sole(port: &EndPort, owners: &[EndPort]) -> bool
     owners.iter().all(|owner| is_same_end(port, owner))
 }
 
-/// Returns whether all packets end at the port: each packet first reaches a switch (`begin`), the walk from each
-/// switch ends at the port (`arrive`), and no other end port holds the LID (`sole`).
+/// Returns whether all packets end at the port: they reach a switch (`begin`), all `arrive`, and the port is `sole`.
 fn all_come(begin: bool, arrive: &[bool], sole: bool) -> bool
     ensures { result ≡ all_come begin arrive.now sole }
 {

@@ -6,8 +6,7 @@ use crate::hops_by_tables::counted;
 use held_tables::{Held, HeldBlock, index_of, top_at};
 use smp_bytes::{Guid, Lid, NO_ENTRY};
 
-/// Returns the effective entry of `switch` for `lid`: 255 if `lid` is 0 or above the switch's top, or if no entry is
-/// held, and otherwise the held entry.
+/// Returns the effective entry of `switch` for `lid`, or 255 if there is none.
 pub(crate) fn entry_for(held: &Held, switch: Guid, lid: Lid) -> u8
     ensures { result ≡ entry_for held.now lid switch }
 {
@@ -28,8 +27,7 @@ fn entry_at(held: &Held, index: Option<usize>, lid: Lid) -> u8
     }
 }
 
-/// Returns the last held block with the number `number` of the switch at `index`, or `None` if there is no such
-/// block.
+/// Returns the last held block with the number `number` of the switch at `index`, if there is one.
 fn block_at(held: &Held, index: usize, number: u16) -> Option<HeldBlock>
     ensures { result ≡ block_at held.now index number }
 {

@@ -23,8 +23,7 @@ pub(crate) fn is_owner(owners: &[EndPort], port: &EndPort) -> bool
         .any(|owner| owner.node == port.node && owner.port == port.port)
 }
 
-/// Returns the next hop of each of `nodes` for packets for `lid`. `owners` are the end ports that hold `lid`. `rows`
-/// has, for each held switch, the block with the entries for `lid`.
+/// Returns the next hop of each of `nodes` for `lid`, by the LID's `owners` and the blocks `rows` of held switches.
 pub(crate) fn steps(
     alloc: Global,
     nodes: &[AuditedSwitch],
@@ -40,8 +39,7 @@ pub(crate) fn steps(
         .collect(alloc)
 }
 
-/// Returns the next hop of the switch `node` for packets for `lid`. `owners` are the end ports that hold `lid`.
-/// `rows` has, for each held switch, the block with the entries for `lid`.
+/// Returns the next hop of the switch `node` for `lid`, by the LID's `owners` and the blocks `rows` of held switches.
 pub(crate) fn next_hop_at(
     owners: &[EndPort],
     rows: &[[u8; 64]],
@@ -53,8 +51,7 @@ pub(crate) fn next_hop_at(
     next_hop_by(owners, lid, node, entry_of(rows, lid, node))
 }
 
-/// Returns the next hop of the switch `node` for packets for `lid`, given its effective entry `entry`. `owners` are
-/// the end ports that hold `lid`.
+/// Returns the next hop of the switch `node` for `lid`, by the LID's `owners` and the effective entry `entry`.
 fn next_hop_by(owners: &[EndPort], lid: Lid, node: &AuditedSwitch, entry: u8) -> NextHop
     ensures { result ≡ next_hop_by owners.now lid node.now entry }
 {
@@ -74,8 +71,7 @@ fn next_hop_by(owners: &[EndPort], lid: Lid, node: &AuditedSwitch, entry: u8) ->
     }
 }
 
-/// Returns, for each of `nodes`, its effective entry for `lid` and its next hop according to this entry. `owners` are
-/// the end ports that hold `lid`. `rows` has, for each held switch, the block with the entries for `lid`.
+/// Returns the effective entry of each of `nodes` for `lid` and its next hop, by `owners` and `rows` as in `steps`.
 pub(crate) fn switch_steps(
     alloc: Global,
     nodes: &[AuditedSwitch],
@@ -91,8 +87,7 @@ pub(crate) fn switch_steps(
         .collect(alloc)
 }
 
-/// Returns the effective entry of the switch `node` for `lid`, and its next hop according to this entry. `owners` are
-/// the end ports that hold `lid`. `rows` has, for each held switch, the block with the entries for `lid`.
+/// Returns the effective entry of the switch `node` for `lid` and its next hop, by `owners` and `rows` as in `steps`.
 fn switch_step_at(
     owners: &[EndPort],
     rows: &[[u8; 64]],
@@ -109,8 +104,7 @@ fn switch_step_at(
     }
 }
 
-/// Returns the effective entry of each of `nodes` for `lid`. `rows` has, for each held switch, the block with the
-/// entries for `lid`.
+/// Returns the effective entry of each of `nodes` for `lid`, by the blocks `rows` of held switches.
 pub(crate) fn entries(
     alloc: Global,
     nodes: &[AuditedSwitch],
@@ -125,8 +119,7 @@ pub(crate) fn entries(
         .collect(alloc)
 }
 
-/// Returns the effective entry of the switch `node` for `lid`. `rows` has, for each held switch, the block with the
-/// entries for `lid`.
+/// Returns the effective entry of the switch `node` for `lid`, by the blocks `rows` of held switches.
 pub(crate) fn entry_of(rows: &[[u8; 64]], lid: Lid, node: &AuditedSwitch) -> u8
     ensures { result ≡ node_entry rows.now lid node.now }
 {
@@ -158,8 +151,7 @@ pub(crate) fn counted(lid: Lid, top: Lid, entry: u8) -> u8
 }
 
 /// Returns, for each of `nodes`, the edge along which it forwards packets for `lid` to a usable switch, possibly
-/// itself. The edge is `None` if the switch does not forward these packets to a usable switch. `rows` has, for each
-/// held switch, the block with the entries for `lid`.
+/// itself, by the blocks `rows` of held switches.
 pub(crate) fn edges(
     alloc: Global,
     nodes: &[AuditedSwitch],
@@ -182,8 +174,7 @@ pub(crate) fn edges(
     Ok(edges)
 }
 
-/// Returns the index of the usable switch to which the port `entry` of the switch `node` leads. Returns `None` if
-/// `entry` is 0, or does not lead to a usable switch.
+/// Returns the index of the usable switch to which the port `entry` of the switch `node` leads, if it leads to one.
 pub(crate) fn switch_by(node: &AuditedSwitch, entry: u8) -> Option<usize>
     ensures { result ≡ switch_by node.now.row entry }
 {
@@ -193,8 +184,7 @@ pub(crate) fn switch_by(node: &AuditedSwitch, entry: u8) -> Option<usize>
     node.row.switch(entry)
 }
 
-/// Returns what becomes of a packet that leaves `node` along a wire to `far`, for a LID that `owners` hold. If there
-/// is no wire, the packet is lost for `cause`.
+/// Returns what becomes of a packet for a LID of `owners` from `node` to `far`, lost for `cause` without a wire.
 fn over(owners: &[EndPort], node: Guid, cause: Cause, far: Far) -> NextHop
     ensures { result ≡ over owners.now node cause far }
 {
@@ -205,8 +195,7 @@ fn over(owners: &[EndPort], node: Guid, cause: Cause, far: Far) -> NextHop
     }
 }
 
-/// Returns the end of a packet that reaches `port`, whose node is not a usable switch. The packet is delivered if
-/// `port` is one of `owners`, and otherwise lost.
+/// Returns the end of a packet at `port` of no usable switch: delivered if `port` is one of `owners`, and else lost.
 fn at_port(owners: &[EndPort], port: &EndPort) -> End
     ensures { result ≡ at_port owners.now port.now }
 {
@@ -217,9 +206,8 @@ fn at_port(owners: &[EndPort], port: &EndPort) -> End
     }
 }
 
-/// Returns the first hop of a packet that `source` sends for a LID that `owners` hold. If the node of `source` is a
-/// usable switch, the packet is at this switch. Otherwise, if the port of `source` is one of `owners`, the packet is
-/// delivered at once. Otherwise the packet leaves along the wire of `source`, or is lost if there is no wire.
+/// Returns the first hop of a packet that `source` sends for a LID of `owners`: to its own switch, to the port itself
+/// if it is one of `owners`, or along the wire, or lost if there is none.
 pub(crate) fn first_hop(owners: &[EndPort], source: &Sender) -> NextHop
     ensures { result ≡ first_hop owners.now source.now }
 {

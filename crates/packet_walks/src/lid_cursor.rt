@@ -185,8 +185,7 @@ impl<'n> LidCursor<'n> {
     }
 }
 
-/// Returns the deliveries that a cursor keeps: those found in `blocks` if `asked`, and otherwise `None`. `blocks` must
-/// be held blocks of `network`.
+/// Returns the deliveries that a cursor keeps: those found in `blocks` if `asked`, and otherwise `None`.
 fn deliveries_if(
     alloc: Global,
     asked: bool,

@@ -16,7 +16,7 @@ impl LidSet {
         LidSet { bits: 0 }
     }
 
-    /// Returns `self` with the LID at `index` added. `index` must be below 64.
+    /// Returns `self` with the LID at `index` added.
     pub(crate) fn with(self, index: usize) -> Self
         requires { index < 64 }
         ensures { result ≡ with_lid self index }
@@ -44,7 +44,7 @@ impl LidSet {
         }
     }
 
-    /// Returns whether `self` has the LID at `index`. `index` must be below 64.
+    /// Returns whether `self` has the LID at `index`.
     pub(crate) fn has(self, index: usize) -> bool
         requires { index < 64 }
         ensures { result ≡ has self index }

@@ -85,9 +85,7 @@ impl<'a> Network<'a> {
         })
     }
 
-    /// Returns the held blocks with the number `number`, which have the entries for 64 consecutive LIDs, the first of
-    /// which is 64 * `number`. Takes time linear in the number of held switches, plus the number of held blocks with
-    /// the number `number`.
+    /// Returns the held blocks with the number `number`, in time linear in the held switches and these blocks.
     pub(crate) fn blocks(&self, alloc: Global, number: u16) -> Result<Blocks, AllocError>
         ensures { IfOk result (λ blocks. AreBlocks self.now.held blocks.number blocks.rows.items
             × (blocks.number ≡ number)) }
@@ -98,7 +96,6 @@ impl<'a> Network<'a> {
 
     /// Returns, for each end port, in the order of the end ports, the end of the packet that it sends for `lid`, or
     /// `None` if the packet loops forever. The result also says which of these packets are delivered at `port`.
-    /// `blocks` must be the held blocks of this network that have the entries for `lid`.
     pub(crate) fn ends(
         &self,
         alloc: Global,
@@ -125,8 +122,7 @@ impl<'a> Network<'a> {
         )
     }
 
-    /// Returns, for each usable switch in ascending order of GUID, its effective entry for `lid` and its next hop
-    /// according to this entry. `blocks` must be the held blocks of this network that have the entries for `lid`.
+    /// Returns the effective entry and the next hop of each usable switch for `lid`, in ascending order of GUID.
     pub(crate) fn switch_steps(
         &self,
         alloc: Global,
@@ -142,8 +138,7 @@ impl<'a> Network<'a> {
         switch_steps(alloc, &self.nodes, &owners, &blocks.rows, lid)
     }
 
-    /// Returns the effective entry of each usable switch for `lid`, in ascending order of GUID. An effective entry of
-    /// 255 stands for no entry. `blocks` must be the held blocks of this network that have the entries for `lid`.
+    /// Returns the effective entry of each usable switch for `lid`, in ascending order of GUID, or 255 for none.
     pub(crate) fn entries(
         &self,
         alloc: Global,
@@ -158,9 +153,8 @@ impl<'a> Network<'a> {
         entries(alloc, &self.nodes, &blocks.rows, lid)
     }
 
-    /// Returns the LIDs of the block of `blocks` that exactly one end port holds and whose packets reach this end
-    /// port from every usable switch. Can miss such LIDs if a walk has more than 64 switches. `blocks` must be held
-    /// blocks of this network.
+    /// Returns the LIDs of the block of `blocks` that exactly one end port holds and whose packets reach this end port
+    /// from every usable switch. Can miss such LIDs if a walk has more than 64 switches.
     pub(crate) fn deliveries(
         &self,
         alloc: Global,
@@ -182,9 +176,8 @@ impl<'a> Network<'a> {
         })
     }
 
-    /// Returns true only if each packet that an end port sends to the LID of `line` is delivered at the port of
-    /// `line`. Can return false although all these packets arrive. `deliveries` must be deliveries of this network.
-    /// Takes constant time.
+    /// Returns true only if each packet that an end port sends to the LID of `line` is delivered at the port of `line`.
+    /// Can return false although all these packets arrive. Takes constant time.
     pub(crate) fn all_arrive(&self, deliveries: &Deliveries, line: &HeldLid) -> bool
         requires { AreDeliveries (cells_of self.now.facts) self.now.held deliveries.now }
         ensures { result ≡ true → LineArrives (cells_of self.now.facts) self.now.held line.now }
@@ -251,8 +244,7 @@ impl<'a> Network<'a> {
     }
 
     /// Returns, for each usable switch in ascending order of GUID, the edge along which it forwards packets for `lid`
-    /// to a usable switch, possibly itself. The edge is `None` if the switch does not forward these packets to a
-    /// usable switch. `blocks` must be the held blocks of this network that have the entries for `lid`.
+    /// to a usable switch, possibly itself.
     pub(crate) fn edges(
         &self,
         alloc: Global,

@@ -35,8 +35,7 @@ fn under_top(alloc: Global, plan: &Plan, top: Lid) -> Result<Held, AllocError>
     Ok(Held::of(lids, switches, blocks))
 }
 
-/// Returns each LID of `map` with its end port. The LIDs of an end port stand together, and the end ports are in the
-/// order of their first LIDs.
+/// Returns each LID of `map` with its end port, by end port in the order of their first LIDs.
 fn owned_lids(alloc: Global, map: &LidMap) -> Result<Vec<HeldLid>, AllocError>
     ensures { IfOk result (λ lids. lids.items ≡ owned_lids map.now) }
 {
@@ -47,8 +46,7 @@ fn owned_lids(alloc: Global, map: &LidMap) -> Result<Vec<HeldLid>, AllocError>
     Ok(lids)
 }
 
-/// If an end port owns `lid`, appends to `lids` as many consecutive LIDs, starting with `lid`, as this end port has,
-/// each with this end port. Otherwise appends none.
+/// Appends to `lids` the LIDs of the end port that owns `lid`, from `lid` on, each with this end port, if there is one.
 fn push_owned(lids: &mut Vec<HeldLid>, map: &LidMap, lid: Lid) -> Result<(), AllocError>
     ensures { OnOk result (lids.new.items
         ≡ lids.old.items ++ option_map_or lids_of (owned_range map.now lid) []) }
@@ -83,7 +81,6 @@ fn blocks_of(alloc: Global, tables: &[Table]) -> Result<Vec<HeldBlock>, AllocErr
 }
 
 /// Appends the blocks of `table` to `blocks`, as those of the switch at index `switch`. The first block has number 0.
-/// `table` must have at most 1024 blocks.
 fn push_blocks(
     blocks: &mut Vec<HeldBlock>,
     switch: usize,

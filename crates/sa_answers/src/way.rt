@@ -64,8 +64,7 @@ fn port_at(port: &EndPort) -> (Guid, PortNum)
     (port.node, port.port)
 }
 
-/// Returns what follows the step of a packet for `lid`, a LID of `owner`, at the port `at`, come there by a wire or
-/// not.
+/// Returns what follows the step of a packet for `lid`, a LID of `owner`, at the port `at`, there by a wire or not.
 fn take_step(
     told: &Told<'_>,
     lid: Lid,

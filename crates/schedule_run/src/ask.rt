@@ -12,8 +12,7 @@ use smp_bytes::Generation;
 use std::alloc::Global;
 
 impl World<'_> {
-    /// Seats the manager at index `seat` at its port. There must be a manager at this index. If the fabric refuses
-    /// the call, prints the refusal.
+    /// Seats the manager at index `seat` at its port. If the fabric refuses the call, prints the refusal.
     pub(crate) fn seat<W: Sink>(&mut self, seat: usize, sink: &mut W) -> Result<(), RunFault>
         requires { seat < length self.old.managers.items }
         ensures does { Does W.written W.has_failed self.old self.new result sink.old sink.new
@@ -25,8 +24,8 @@ impl World<'_> {
         }
     }
 
-    /// Makes the request `what` to the manager at index `seat`, and sends the packets that the manager then has
-    /// queued. There must be a manager at this index. If the manager refuses the request, prints the refusal instead.
+    /// Makes the request `what` to the manager at index `seat`, and sends the packets that the manager then has queued.
+    /// If the manager refuses the request, prints the refusal instead.
     pub(crate) fn ask<W: Sink>(
         &mut self,
         seat: usize,
@@ -43,8 +42,7 @@ impl World<'_> {
         self.send(seat, sink)
     }
 
-    /// Makes the manager at index `seat` forget the facts of generations below `floor`. There must be a manager at
-    /// this index.
+    /// Makes the manager at index `seat` forget the facts of generations below `floor`.
     pub(crate) fn raise_floor(&mut self, seat: usize, floor: Generation)
         requires { seat < length self.old.managers.items }
         ensures managers { length self.new.managers.items ≡ length self.old.managers.items }
@@ -53,9 +51,8 @@ impl World<'_> {
         self.managers[seat].manager.raise_floor(floor);
     }
 
-    /// Times out each request of the manager at index `seat` that is outstanding when the call begins. There must be
-    /// a manager at this index. Then sends the packets that the manager has queued. Prints a line for each timeout
-    /// that the manager refuses.
+    /// Times out each request of the manager at index `seat` that is outstanding when the call begins. Then sends the
+    /// packets that the manager has queued. Prints a line for each timeout that the manager refuses.
     pub(crate) fn time_out<W: Sink>(
         &mut self,
         alloc: Global,
@@ -73,8 +70,7 @@ impl World<'_> {
         self.send(seat, sink)
     }
 
-    /// Times out the request with the TransactionID `transaction` of the manager at index `seat`. There must be a
-    /// manager at this index. If the manager refuses the timeout, prints the refusal.
+    /// Times out the request `transaction` of the manager at index `seat`. Prints the refusal, if it is refused.
     fn give_up<W: Sink>(
         &mut self,
         seat: usize,

@@ -11,8 +11,7 @@ use schedule_lines::{RunFault, refuse_fabric};
 use std::alloc::Global;
 
 impl World<'_> {
-    /// Cuts the cable in `port`, and informs the agents at both ends of the cable. If the fabric refuses the cut,
-    /// prints the refusal.
+    /// Cuts the cable in `port`, and informs the agents at both ends, or prints the refusal of the fabric.
     #[tactic(auto, unfolding(crate::specs::Commands::after_cut_line))]
     pub(crate) fn cut<W: Sink>(&mut self, port: NodePort, sink: &mut W) -> Result<(), RunFault>
         ensures does { Does W.written W.has_failed self.old self.new result sink.old sink.new
@@ -28,8 +27,7 @@ impl World<'_> {
         }
     }
 
-    /// Plugs a cable into the ports `one` and `other`, and informs the agents at both ends of the cable. If the
-    /// fabric refuses the cable, prints the refusal.
+    /// Plugs a cable into `one` and `other`, and informs the agents at both ends, or prints the refusal of the fabric.
     #[tactic(auto, unfolding(crate::specs::Commands::after_plug_line))]
     pub(crate) fn plug<W: Sink>(
         &mut self,
@@ -46,8 +44,7 @@ impl World<'_> {
         }
     }
 
-    /// Informs the agents of the nodes of `one` and `other`, the ends of a cable, that the state of a port has
-    /// changed. A node at both ends is informed once.
+    /// Informs the agents at the ends `one` and `other` of a cable of a change of state, once if they are one node.
     #[tactic(auto, unfolding(crate::specs::Commands::after_tell_ends))]
     fn tell_ends<W: Sink>(
         &mut self,
@@ -92,8 +89,7 @@ impl World<'_> {
         }
     }
 
-    /// Resends each waiting trap, in the order of the nodes. Skips a trap that cannot leave, and each trap for which
-    /// no serial number is left.
+    /// Resends each waiting trap, in the order of the nodes, but for those that cannot leave or get no serial number.
     pub(crate) fn resend<W: Sink>(&mut self, sink: &mut W) -> Result<(), RunFault>
         ensures does { Does W.written W.has_failed self.old self.new result sink.old sink.new
             (after_resend_line (value_of self.old)) }
@@ -105,8 +101,7 @@ impl World<'_> {
         Ok(())
     }
 
-    /// Resends the trap that waits at `node`. Does nothing if no trap waits there, if the trap cannot leave, or if no
-    /// serial number is left.
+    /// Resends the trap that waits at `node`, if there is one, it can leave, and a serial number is left.
     fn resend_one<W: Sink>(&mut self, node: NodeId, sink: &mut W) -> Result<(), RunFault>
         ensures does { Does W.written W.has_failed self.old self.new result sink.old sink.new
             (after_resend (value_of self.old) node) }

@@ -14,16 +14,9 @@ use schedule_lines::{RunFault, show_tables};
 use std::alloc::Global;
 use topo_file::Topology;
 
-/// Runs the commands of `schedule` in the fabric of `topology`, with managers that plan as `planning` says, and
-/// flushes `sink`. The managers of `schedule` must sit at ports of adapters of `topology`, and its commands may ask no
-/// other managers.
-///
-/// If the fabric or a manager refuses a call, prints a line and goes on.
-///
-/// # Errors
-///
-/// Returns `Memory` if memory runs out; a prefix of the text has then been printed. Returns `Write` if a write to the
-/// output failed.
+/// Runs the commands of `schedule` in the fabric of `topology`, with managers that plan as `planning` says, and flushes
+/// `sink`. If the fabric or a manager refuses a call, prints a line and goes on. Returns `Memory` if memory runs out; a
+/// prefix of the text has then been printed. Returns `Write` if a write to the output failed.
 pub(crate) fn run_commands<W: Sink>(
     alloc: Global,
     topology: &Topology,
@@ -47,7 +40,7 @@ pub(crate) fn run_commands<W: Sink>(
 }
 
 impl World<'_> {
-    /// Runs `command`. There must be managers at the indices that it asks.
+    /// Runs `command`.
     fn execute<W: Sink>(
         &mut self,
         alloc: Global,

@@ -16,8 +16,7 @@ use schedule_lines::{RunFault, refuse_fabric, show_manager};
 use serve_run::{ActingManager, note_all};
 
 impl World<'_> {
-    /// Seats the decider at `index` at its port, and wakes it up. If the fabric refuses the call, prints the refusal.
-    /// Does nothing if there is no such decider.
+    /// Seats the decider at `index`, if there is one, at its port and wakes it up, or prints the refusal of the fabric.
     pub(crate) fn seat_decider<W: Sink>(
         &mut self,
         index: usize,
@@ -53,8 +52,7 @@ impl World<'_> {
         self.set_awake(index, true);
     }
 
-    /// Wakes the decider at `index` up, or lets it stand still if `is_awake` is `false`. Does nothing if there is no such
-    /// decider.
+    /// Wakes the decider at `index` up, or lets it stand still unless `is_awake`, if there is such a decider.
     fn set_awake(&mut self, index: usize, is_awake: bool)
         ensures managers { self.new.managers ≡ self.old.managers }
         ensures leaves { value_of self.new ≡ (after_pause_line (value_of self.old) index is_awake).now }
@@ -82,8 +80,7 @@ impl World<'_> {
         show_manager(sink, Some(name), decider.acting.manager(), what)
     }
 
-    /// Tells `packet` to the decider that is awake at `port`, and lets it give out what it then has to. Drops the packet
-    /// if there is none.
+    /// Tells `packet` to the decider that is awake at `port`, if any, and lets it give out what it then has to.
     #[tactic(auto, unfolding(crate::specs::Deciders::after_hearing))]
     pub(crate) fn hear<W: Sink>(
         &mut self,
@@ -112,8 +109,7 @@ impl World<'_> {
         None
     }
 
-    /// Tells the decider at `index` that `packet` came to its port, and lets it give out what it then has to. Does
-    /// nothing if there is no such decider.
+    /// Tells the decider at `index`, if there is one, that `packet` came, and lets it give out what it then has to.
     fn tell_packet<W: Sink>(
         &mut self,
         index: usize,
@@ -131,8 +127,7 @@ impl World<'_> {
         give_out(&mut self.fabric, seat, acting, sink)
     }
 
-    /// Tells the decider at `index` the time, and lets it give out what it then has to. Does nothing if there is no such
-    /// decider.
+    /// Tells the decider at `index`, if there is one, the time, and lets it give out what it then has to.
     pub(crate) fn tell_time<W: Sink>(&mut self, index: usize, sink: &mut W) -> Result<(), RunFault>
         ensures does { Does W.written W.has_failed self.old self.new result sink.old sink.new
             (after_telling (value_of self.old) index Told.Time) }
@@ -155,8 +150,7 @@ impl Decider<'_> {
     }
 }
 
-/// Prints the notes of `acting`, the manager of `seat`, and then sends the packets that it has ready. Prints a line for
-/// each packet that the fabric refuses.
+/// Prints the notes of `acting`, the manager of `seat`, sends its ready packets, and prints each refusal.
 fn give_out<W: Sink>(
     fabric: &mut Fabric,
     seat: &Seat,
@@ -173,8 +167,7 @@ fn give_out<W: Sink>(
     send_ready(fabric, &seat.at, acting, sink)
 }
 
-/// Sends all packets that `acting` has ready from the port `from`, the next one first. Prints a line for each packet that
-/// the fabric refuses.
+/// Sends all packets that `acting` has ready from the port `from`, the next one first. Prints refusals of the fabric.
 fn send_ready<W: Sink>(
     fabric: &mut Fabric,
     from: &NodePort,

@@ -13,9 +13,8 @@ use schedule_file::{Fate, Which};
 use schedule_lines::{RunFault, refuse_fabric, refuse_manager, show_trap};
 
 impl World<'_> {
-    /// Performs one step of the packet in flight that `which` names, loses the packet, or copies it, as `fate` says.
-    /// A packet that is handed up goes to the manager at the port. If no such packet is in flight, or the fabric
-    /// refuses the call, prints the refusal.
+    /// Performs one step of the packet in flight that `which` names, loses it, or copies it, as `fate` says. A packet
+    /// that is handed up goes to the manager at the port. Prints a refusal, also if there is no such packet.
     #[tactic(auto, unfolding(crate::specs::Commands::after_packet_line))]
     pub(crate) fn handle_packet<W: Sink>(
         &mut self,
@@ -58,8 +57,7 @@ impl World<'_> {
         }
     }
 
-    /// Performs one step of the packet in flight with the least serial number, again and again, at most `most` times.
-    /// Stops once no packet is in flight.
+    /// Performs a step of the packet in flight with the least serial number, up to `most` times, while there is one.
     pub(crate) fn drain<W: Sink>(&mut self, most: u32, sink: &mut W) -> Result<(), RunFault>
         ensures does { Does W.written W.has_failed self.old self.new result sink.old sink.new
             (after_drain_line (value_of self.old) most) }
@@ -74,9 +72,8 @@ impl World<'_> {
         Ok(())
     }
 
-    /// Performs one step of the packet in flight with the serial number `serial`. If the packet is handed up to a
-    /// manager, the manager takes it in, and the packets that the manager then has queued are sent. If the fabric
-    /// refuses the step, prints the refusal.
+    /// Performs one step of the packet in flight with the number `serial`. If it is handed up, the manager takes it in
+    /// and sends what it then has queued. Prints the refusal, if the fabric refuses.
     #[tactic(auto, using(schedule_lines::proofs::Printing::prints_then), unfolding(crate::specs::Delivery::after_step))]
     pub(crate) fn deliver<W: Sink>(&mut self, serial: u64, sink: &mut W) -> Result<(), RunFault>
         ensures does { Does W.written W.has_failed self.old self.new result sink.old sink.new
@@ -108,8 +105,7 @@ impl World<'_> {
         self.send(seat, sink)
     }
 
-    /// Hands `packet` to the manager at index `seat`. There must be a manager at this index. If the packet is a trap
-    /// that the manager represses, prints the trap. If the manager refuses the packet, prints the refusal.
+    /// Hands `packet` to the manager at index `seat`. Prints the refusal, if there is one, or a trap that is repressed.
     fn take_in<W: Sink>(
         &mut self,
         seat: usize,
@@ -128,8 +124,7 @@ impl World<'_> {
     }
 }
 
-/// Returns the serial number of the packet that `which` names. Returns `None` if `which` names the last packet and no
-/// packet is in flight. If `which` names a packet by its serial number, the packet need not be in flight.
+/// Returns the serial number that `which` names, of a packet that need not be in flight, or of the last one, if any.
 fn serial(fabric: &Fabric, which: Which) -> Option<u64>
     ensures { result ≡ serial_of fabric.now.flights which }
 {

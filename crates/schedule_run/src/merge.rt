@@ -10,8 +10,7 @@ use schedule_lines::{RunFault, refuse_manager};
 use sm_manager::ManagerFault;
 
 impl World<'_> {
-    /// Merges the facts and the floor of the manager at index `other` into the manager at index `seat`. There must be
-    /// managers at both indices. Does nothing if `seat` is `other`.
+    /// Merges the facts and the floor of the manager at `other` into that at `seat`, unless they are the same.
     #[tactic(auto, unfolding(crate::specs::Commands::after_merge_line))]
     pub(crate) fn merge<W: Sink>(
         &mut self,
@@ -34,9 +33,7 @@ impl World<'_> {
     }
 }
 
-/// Merges the facts and the floor of the manager at index `other` into the manager at index `seat`, which is taken
-/// out of the list meanwhile. The indices must differ, and there must be managers at both. Returns an error only if
-/// memory runs out.
+/// Merges the facts and the floor of the manager at `other` into that at `seat`, taken out of the list meanwhile.
 fn merge_at(managers: &mut Vec<Seated>, seat: usize, other: usize) -> Result<(), ManagerFault>
     requires seat { seat < length managers.old.items }
     requires other { other < length managers.old.items }

@@ -12,7 +12,7 @@ use smp_bytes::Lid;
 use topo_file::Topology;
 
 impl World<'_> {
-    /// Prints what `what` asks about the manager at index `seat`. There must be a manager at this index.
+    /// Prints what `what` asks about the manager at index `seat`.
     pub(crate) fn show<W: Sink>(
         &self,
         seat: usize,

@@ -52,13 +52,8 @@ impl<S: Source> InputReader<S> for TopologyAndSchedule {
     }
 }
 
-/// Reads the two `texts` to their ends, the topology first, and returns what they describe. `before` other inputs come
-/// before `texts`. There must be at most `usize::MAX` inputs in all.
-///
-/// # Errors
-///
-/// Returns the fault of the first text that cannot be read. If both texts were read, returns the fault of the topology
-/// if the topology is refused. Otherwise returns the fault of the schedule.
+/// Reads the two `texts` to their ends, the topology first, and returns what they describe, or the fault of the first
+/// that cannot be read or, if both were read, of the topology and then of the schedule. `before` inputs come before.
 fn read_setting<S: Source>(alloc: Global, before: usize, texts: &mut [S]) -> Result<Setting, Fault>
     requires two { length texts.old ≡ 2 }
     requires counted { before + length texts.old ≤ usize.MAX }
@@ -71,8 +66,7 @@ fn read_setting<S: Source>(alloc: Global, before: usize, texts: &mut [S]) -> Res
     judge(alloc, before, &texts)
 }
 
-/// Reads the texts of `topology` and then of `schedule` to their ends. `first`, the index of the topology's input, must
-/// be below `usize::MAX`.
+/// Reads the texts of `topology` and then of `schedule` to their ends. `first` is the index of the topology's input.
 fn read_texts<S: Source>(
     alloc: Global,
     first: usize,
@@ -103,7 +97,7 @@ fn read_texts<S: Source>(
     Ok(Texts { topology, schedule })
 }
 
-/// Parses both texts, the topology first. `first`, the index of the topology's input, must be below `usize::MAX`.
+/// Parses both texts, the topology first. `first` is the index of the topology's input.
 #[tactic(auto, using(crate::proofs::Judging::behind, crate::proofs::Judging::refused_behind))]
 fn judge(alloc: Global, first: usize, texts: &Texts) -> Result<Setting, Fault>
     requires { first < usize.MAX }
@@ -134,8 +128,7 @@ fn judge_topology(alloc: Global, first: usize, bytes: &[u8]) -> Result<Topology,
     }
 }
 
-/// Parses `bytes` as a schedule for `topology`. `first`, the index of the topology's input, must be below `usize::MAX`.
-/// The schedule's input is the next one.
+/// Parses `bytes` as a schedule for `topology`. `first` is the index of the topology's input, just before its own.
 fn judge_schedule(
     alloc: Global,
     first: usize,

@@ -76,9 +76,8 @@ pub(crate) struct World<'s> {
 }
 
 impl<'s> World<'s> {
-    /// Builds the fabric of `topology`, and creates a manager for each of `seats` that plans as `planning` says, and one
-    /// for each of `deciders` that decides by itself. Each seat must be at a port of an adapter of `topology`. Returns an
-    /// error if memory runs out.
+    /// Builds the fabric of `topology`, and creates a manager for each of `seats` and of `deciders`, which decide by
+    /// themselves, that plans as `planning` says. Returns an error if memory runs out.
     pub(crate) fn of(
         alloc: Global,
         topology: &Topology,
@@ -102,8 +101,7 @@ impl<'s> World<'s> {
         })
     }
 
-    /// Sends all packets that the manager at index `seat` has queued. There must be a manager at this index. Prints a
-    /// line for each packet that the fabric refuses.
+    /// Sends all packets that the manager at index `seat` has queued. Prints a line for each that is refused.
     #[tactic(auto, using(crate::proofs::Seats::sits), unfolding(crate::specs::World::after_send))]
     pub(crate) fn send<W: Sink>(&mut self, seat: usize, sink: &mut W) -> Result<(), RunFault>
         requires { seat < length self.old.managers.items }
@@ -131,8 +129,7 @@ impl<'s> World<'s> {
     }
 }
 
-/// Creates a manager for each of `seats`, which is asked and plans as `planning` says. Each seat must be at a port of an
-/// adapter of `topology`. Returns an error if memory runs out.
+/// Creates a manager for each of `seats`, which is asked and plans as `planning` says.
 fn seat_all<'s>(
     alloc: Global,
     topology: &Topology,
@@ -151,8 +148,7 @@ fn seat_all<'s>(
     Ok(managers)
 }
 
-/// Creates a manager for each of `seats`, which decides by itself and plans as `planning` says. Each seat must be at a
-/// port of an adapter of `topology`. Returns an error if memory runs out.
+/// Creates a manager for each of `seats`, which decides by itself and plans as `planning` says.
 fn decide_all<'s>(
     alloc: Global,
     topology: &Topology,
@@ -177,8 +173,7 @@ fn decide_all<'s>(
     Ok(deciders)
 }
 
-/// Creates the manager of `seat`, which plans as `planning` says. The seat must be at a port of an adapter of `topology`.
-/// Returns an error if memory runs out.
+/// Creates the manager of `seat`, which plans as `planning` says. Returns an error if memory runs out.
 fn new_manager(
     alloc: Global,
     topology: &Topology,
@@ -196,8 +191,7 @@ fn new_manager(
     Ok(Manager::new(alloc, guid, port, seat.priority, conduct, own))
 }
 
-/// Sends all packets that `manager` has queued from the port `from`, in the order of the queue. Prints a line for
-/// each packet that the fabric refuses.
+/// Sends all packets that `manager` has queued from the port `from`, in their order. Prints a line for each refused.
 fn send_outgoing<W: Sink>(
     fabric: &mut Fabric,
     from: &NodePort,
@@ -246,7 +240,7 @@ fn packet(outgoing: &Outgoing) -> Packet
     }
 }
 
-/// Returns the GUID of `port`, which must be a port of an adapter of `topology`.
+/// Returns the GUID of `port`, a port of an adapter of `topology`.
 #[tactic(auto, using(crate::proofs::Ports::guid_fits))]
 fn port_guid(topology: &Topology, port: &NodePort) -> Guid
     requires { is_seat topology.now.nodes port.now ≡ true }

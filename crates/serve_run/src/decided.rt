@@ -19,8 +19,7 @@ use byte_io::Sink;
 use schedule_lines::{RunFault, show_manager};
 use serve_lines::{ManageLine, ManageWord};
 
-/// Handles `line`: answers the line, writes all notes and all packets that are ready, and when the manager is to be
-/// told the time next. Then ends the answer, and flushes.
+/// Handles `line`: writes its answer, all notes and packets that are ready, and when to tell the time next. Flushes.
 pub(crate) fn decide_line<W: Sink>(
     acting: &mut ActingManager,
     line: ManageLine,

@@ -36,8 +36,7 @@ pub(crate) fn write_outgoing<W: Sink>(sink: &mut W, outgoing: &Outgoing) -> Resu
     sink.write(b"\n")
 }
 
-/// Writes the line of `answer`, an answer of subnet administration that is sent to the LID `to`. Writes nothing if there
-/// is none.
+/// Writes the line of `answer`, an answer of subnet administration for the LID `to`, if there is one.
 #[tactic(auto, unfolding(crate::specs::Decided::sa_line))]
 pub(crate) fn write_sa<W: Sink>(
     sink: &mut W,
@@ -67,8 +66,7 @@ pub(crate) fn write_hex<W: Sink>(sink: &mut W, packet: &[u8; 256]) -> Result<(),
     sink.write(&digits)
 }
 
-/// Writes ` to ` and then `to`, the LID that a packet is sent to. Writes nothing if `to` is `None`, since the packet
-/// then goes along its own path.
+/// Writes ` to ` and then `to`, the LID that a packet is sent to, unless the packet goes along its own path.
 fn write_to<W: Sink>(sink: &mut W, to: Option<Lid>) -> Result<(), WriteFault>
     ensures writes { Writes W.written W.has_failed result sink.old sink.new (to_text to) }
 {

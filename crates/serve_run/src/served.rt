@@ -91,8 +91,7 @@ fn ask<W: Sink>(manager: &mut Manager, what: Ask, sink: &mut W) -> Result<(), Ru
     }
 }
 
-/// Hands `manager` a packet that came to its port from the LID `from`. If the manager refuses the packet, prints the
-/// refusal. If the packet is a trap that the manager represses, prints the trap.
+/// Hands `manager` a packet from the LID `from`. Prints the refusal, if it is refused, or a trap that is repressed.
 fn take_in<W: Sink>(
     manager: &mut Manager,
     bytes: &[u8; 256],
@@ -108,8 +107,7 @@ fn take_in<W: Sink>(
     }
 }
 
-/// Times out the request of `manager` with the TransactionID `transaction`. If the manager refuses the timeout,
-/// prints the refusal.
+/// Times out the request of `manager` with the TransactionID `transaction`. Prints the refusal, if it is refused.
 fn time_out<W: Sink>(manager: &mut Manager, transaction: u64, sink: &mut W) -> Result<(), RunFault>
     ensures does { Lives W.written W.has_failed manager.new result sink.old sink.new
         (after_called (after_timeout manager.old transaction)) }
@@ -120,8 +118,7 @@ fn time_out<W: Sink>(manager: &mut Manager, transaction: u64, sink: &mut W) -> R
     }
 }
 
-/// Times out each request of `manager` that is outstanding when the call begins, in ascending order of TransactionID.
-/// Prints a line for each timeout that the manager refuses.
+/// Times out each outstanding request of `manager`, in ascending order of TransactionID. Prints refusals.
 fn give_up<W: Sink>(alloc: Global, manager: &mut Manager, sink: &mut W) -> Result<(), RunFault>
     ensures does { Lives W.written W.has_failed manager.new result sink.old sink.new
         (after_giving_up manager.old (outstanding manager.old)) }

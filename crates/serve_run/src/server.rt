@@ -58,7 +58,7 @@ pub fn serve<S: Source, W: Sink>(
 }
 
 impl Server {
-    /// Reads `lines` until they end, and handles each line. No line must have begun.
+    /// Reads `lines` until they end, and handles each line.
     fn serve_all<S: Source, W: Sink>(
         &mut self,
         alloc: Global,
@@ -83,9 +83,8 @@ impl Server {
         Err(ServeFault::Read)
     }
 
-    /// Reads some bytes, and handles the lines that end in them. Returns whether more bytes may come. Returns an
-    /// error if a read or a write fails, or if memory runs out. `sink` must be flushed, so that no output is held
-    /// back while bytes are read.
+    /// Reads some bytes, and handles the lines that end in them. Returns whether more bytes may come. `sink` is
+    /// flushed, so that no output is held back while bytes are read.
     fn serve_piece<S: Source, W: Sink>(
         &mut self,
         alloc: Global,
@@ -109,7 +108,7 @@ impl Server {
         }
     }
 
-    /// Handles the lines that end in `bytes`, and flushes `sink`, which must be flushed at first.
+    /// Handles the lines that end in `bytes`, and flushes `sink`.
     fn serve_bytes<W: Sink>(
         &mut self,
         alloc: Global,
@@ -127,8 +126,7 @@ impl Server {
         Ok(())
     }
 
-    /// Handles the line that has begun if `byte` is a line feed, and otherwise adds `byte` to the line. `sink` must be
-    /// flushed.
+    /// Handles the line that has begun if `byte` is a line feed, and otherwise adds `byte` to the line.
     fn serve_byte<W: Sink>(&mut self, alloc: Global, byte: u8, sink: &mut W) -> Result<(), RunFault>
         requires { IsTrue (W.is_flushed sink.old) }
         ensures serves { Lives W.written W.has_failed (value_of self.new) result sink.old sink.new
@@ -145,8 +143,7 @@ impl Server {
     }
 }
 
-/// Appends `byte` to `begun`, the bytes of a line, unless the line is too long already. Returns an error if memory runs
-/// out.
+/// Appends `byte` to `begun`, the bytes of a line, unless it is too long. Returns an error if memory runs out.
 fn keep(begun: &mut Vec<u8>, byte: u8) -> Result<(), AllocError>
     ensures { OnOk result (begun.new.items ≡ kept_with begun.old.items byte) }
 {

@@ -61,8 +61,7 @@ pub fn run_serve<S: Source, W: Sink>(
     }
 }
 
-/// Returns `fault`, the fault of serving, as a fault of the program. `lines` is the index of the input that has the
-/// lines.
+/// Returns `fault`, the fault of serving, as one of the program. `lines` is the index of the input of lines.
 fn fault_of_serving(lines: usize, fault: ServeFault) -> Fault
     ensures { result ≡ fault_of_serving lines fault }
 {

@@ -36,12 +36,8 @@ impl<S: Source> InputReader<S> for FilesFrom {
     }
 }
 
-/// Reads all `files` to their ends, and returns what `files` say together, at the greatest of `floor` and the files'
-/// floors. `before` other inputs come before `files`. There must be at most `usize::MAX` inputs in all.
-///
-/// # Errors
-///
-/// Returns the fault of the first file that is refused. Memory that is refused counts as a fault of its file.
+/// Reads all `files` to their ends, and returns what they say together, at the greatest of `floor` and the files'
+/// floors, or the fault of the first file that is refused. `before` other inputs come before `files`.
 pub(crate) fn read_files<S: Source>(
     alloc: Global,
     before: usize,
@@ -66,8 +62,7 @@ pub(crate) fn read_files<S: Source>(
     Ok(all)
 }
 
-/// Reads `source` to its end into a new store, and merges this store into `all`. Returns an error if `source` is
-/// refused, or if memory is refused.
+/// Reads `source` to its end into a new store, and merges this store into `all`.
 fn read_into<S: Source>(all: &mut Store, alloc: Global, source: &mut S) -> Result<(), FileFault>
     ensures read { OnOk result (ReadsInto S.state
         source.old source.new all.old all.new) }

@@ -29,8 +29,7 @@ fn read_source<S: Source, T: FromText>(
     }
 }
 
-/// Reads the text of the only source of `texts` to its end, and returns what it says. `input` is the index of the text
-/// in the run.
+/// Reads the text of the only source of `texts`, that with the index `input` in the run, and returns what it says.
 pub(crate) fn read_text<S: Source, T: FromText>(
     alloc: Global,
     input: usize,
@@ -45,8 +44,7 @@ pub(crate) fn read_text<S: Source, T: FromText>(
     read_source(alloc, input, &mut texts[0])
 }
 
-/// Reads the text of the only source of `texts` to its end, and returns what it says. Returns `None` if `is_there` is
-/// false; `texts` must then be empty. `input` is the index of the text in the run.
+/// Reads the only source of `texts`, that with the index `input` in the run, if `is_there`, and returns what it says.
 pub(crate) fn read_text_if<S: Source, T: FromText>(
     alloc: Global,
     input: usize,

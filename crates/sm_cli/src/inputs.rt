@@ -72,8 +72,7 @@ pub fn read_inputs<S: Source, R: InputReader<S>>(
     }
 }
 
-/// Reads the rule that is asked for. If a text names the rule's roots or its order, reads the text to its end. `texts`
-/// must have this text alone, or be empty if the rule takes no text.
+/// Reads the rule that is asked for, with the text of its roots or its order to its end if there is one.
 fn read_rule<S: Source>(alloc: Global, asked: RuleAsked, texts: &mut [S]) -> Result<Rule, Fault>
     requires { length texts.old ≡ texts_for asked }
     ensures read { IfOk result (λ rule.
@@ -112,8 +111,7 @@ fn read_rule<S: Source>(alloc: Global, asked: RuleAsked, texts: &mut [S]) -> Res
     }
 }
 
-/// Returns why no plan can be made by `rule`: the text of its roots names no root, or a root that is not a usable
-/// switch. Returns `None` if a plan can be made.
+/// Returns why no plan can be made by `rule`, if so: its text names no root, or a root that is no usable switch.
 fn rule_fault<S: Source, R: InputReader<S>>(
     asked: RuleAsked,
     rule: &Rule,
@@ -128,8 +126,7 @@ fn rule_fault<S: Source, R: InputReader<S>>(
     }
 }
 
-/// Returns why no plan can be made by `order`: it grows from roots, but has no root, or a root that is not a usable
-/// switch. Returns `None` if a plan can be made.
+/// Returns why no plan can be made by `order`, if so: it has no root to grow from, or one that is no usable switch.
 fn order_fault<S: Source, R: InputReader<S>>(
     order: &SwitchOrder,
     reader: &R,
@@ -146,8 +143,7 @@ fn order_fault<S: Source, R: InputReader<S>>(
     }
 }
 
-/// Returns `NoRoot` if `roots` is empty, and otherwise `NoSwitch` with `unusable`, the first root that is not a usable
-/// switch. Returns `None` if there are roots and `unusable` is `None`.
+/// Returns `NoRoot` if `roots` is empty, and otherwise `NoSwitch` with `unusable`, if there is one.
 fn fault_of_first(roots: &[Guid], unusable: Option<Guid>) -> Option<TextFault>
     ensures { result ≡ fault_of_first roots.now unusable }
 {

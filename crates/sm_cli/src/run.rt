@@ -52,8 +52,7 @@ pub fn run_files<S: Source, W: Sink>(
     write_answer(alloc, sink, request.output, &rule, &store)
 }
 
-/// Writes what `output` asks for from the facts in `store`, and flushes. A plan or an order is by `rule`, whatever rule
-/// `output` names.
+/// Writes what `output` asks for from the facts in `store`, by `rule` whatever rule it names, and flushes.
 fn write_answer<W: Sink>(
     alloc: Global,
     sink: &mut W,
@@ -77,8 +76,7 @@ fn write_answer<W: Sink>(
     Ok(())
 }
 
-/// Writes the plan of the facts in `store`, under `lmc` and by `rule`, and flushes. Returns `NoRoom` if there is no
-/// room for the plan's LIDs, `Memory` if memory is refused, or `Write` if a write fails.
+/// Writes the plan of the facts in `store`, under `lmc` and by `rule`, and flushes.
 #[tactic(auto, using(crate::proofs::Plans::has_room, crate::proofs::Plans::plan_fault))]
 fn write_plan_by<W: Sink>(
     alloc: Global,
@@ -100,8 +98,7 @@ fn write_plan_by<W: Sink>(
     Ok(())
 }
 
-/// Writes the usable switches of the facts in `store`, in the order by which `rule` plans, and flushes. Returns
-/// `Memory` if memory is refused, or `Write` if a write fails.
+/// Writes the usable switches of the facts in `store`, in the order by which `rule` plans, and flushes.
 fn write_order_by<W: Sink>(
     alloc: Global,
     sink: &mut W,

@@ -112,8 +112,7 @@ fn pass(later: &mut VecDeque<Phase>)
     }
 }
 
-/// Queues `steps`, which are then outstanding. If `counts`, the plan is written only if all are done. Does not
-/// allocate.
+/// Queues `steps`, then outstanding. If `counts`, the plan is written only if all are done. Does not allocate.
 fn send_steps(
     counts: bool,
     steps: Vec<Step>,

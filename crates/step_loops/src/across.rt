@@ -29,8 +29,7 @@ impl Columns {
     }
 }
 
-/// Returns the edges under the held tables for the LID of `held`, and the edges under the next tables for the LID of
-/// `next`. Takes the time that `LidCursor::edges` takes for each.
+/// Returns the edges for the LIDs of `held` and `next` under their tables, in the time of `LidCursor::edges` for each.
 pub(crate) fn columns_of(
     alloc: Global,
     held: &LidCursor,
@@ -50,11 +49,9 @@ pub(crate) fn columns_of(
 }
 
 /// Records in `waits` that a channel follows another if packets for the LID of `columns` take the two in this order,
-/// each under the held or the next tables. `before` has the columns of an earlier LID, whose channels must be
-/// recorded already. Equal columns are not added again. `waits` must have 256 channels for each vertex of each
-/// column, fewer than 2^64 in all. Takes time linear in the number of switches. If it is not recorded yet that a
-/// switch's channel is followed by the next one, also takes time linear in the number of channels that are recorded
-/// to follow it.
+/// each under the held or the next tables. Equal columns are not added again. Takes time linear in the number of
+/// switches. If it is not recorded yet that a switch's channel is followed by the next one, also takes time linear in
+/// the number of channels that are recorded to follow it.
 pub(crate) fn add_step(
     waits: &mut Waits,
     before: &Columns,
@@ -75,8 +72,7 @@ pub(crate) fn add_step(
     add_all(waits, &columns.held, &columns.next)
 }
 
-/// Records in `waits` that a channel follows another if packets take the two in this order, each along an edge of
-/// `held` or of `next`. `waits` must have 256 channels for each vertex of each column, fewer than 2^64 in all.
+/// Records in `waits` which channels follow which, as packets take them, each along an edge of `held` or of `next`.
 fn add_all(
     waits: &mut Waits,
     held: &[Option<Edge>],

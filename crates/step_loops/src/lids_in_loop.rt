@@ -74,8 +74,7 @@ fn are_known(lids: &[Lid]) -> bool
 }
 
 /// Sets `lid`, in `lids`, for each channel of `cycle` that has no LID yet, if packets for `lid` hold the channel and
-/// wait for the channel at the same index of `after`. Packets may take each of the two channels along an edge of
-/// `held` or of `next`. `lids`, `cycle` and `after` must have the same length.
+/// wait for that of `after`, each along an edge of `held` or of `next`.
 fn note_lid(
     lids: &mut [Lid],
     cycle: &[usize],
@@ -93,8 +92,7 @@ fn note_lid(
     }
 }
 
-/// Returns `lid` if `known` is 0 and packets for `lid` hold `channel` and wait for `other`, each along an edge of
-/// `held` or of `next`. Otherwise returns `known`.
+/// Returns `lid` if `known` is 0 and packets for it hold `channel` and wait for `other` (`waits`), otherwise `known`.
 fn noted(
     channel: usize,
     other: usize,
@@ -112,8 +110,7 @@ fn noted(
     }
 }
 
-/// Returns whether packets leave a switch on `channel` and the next switch on `other`, each along an edge of `held` or
-/// of `next`.
+/// Returns whether packets take `channel` and then `other`, each along an edge of `held` or of `next`.
 fn waits(channel: usize, other: usize, held: &[Option<Edge>], next: &[Option<Edge>]) -> bool
     ensures { IsTrue result ↔ TakesHere held.now next.now channel other }
 {
@@ -123,8 +120,7 @@ fn waits(channel: usize, other: usize, held: &[Option<Edge>], next: &[Option<Edg
         || takes(channel, other, next, next)
 }
 
-/// Returns whether packets leave a switch on `channel`, along an edge in `before`, and the next switch on `other`,
-/// along an edge in `now`.
+/// Returns whether packets take `channel`, along an edge in `before`, and then `other`, along an edge in `now`.
 fn takes(channel: usize, other: usize, before: &[Option<Edge>], now: &[Option<Edge>]) -> bool
     ensures { IsTrue result ↔ TakesFrom before.now now.now channel other }
 {

@@ -29,8 +29,7 @@ pub fn step_order(alloc: Global, held: &Network, next: &Network) -> Result<Chann
     Ok(found)
 }
 
-/// Returns, for each channel, the channels that packets take next, each of the two under the held or the next tables.
-/// `held` and `next` must have the same facts.
+/// Returns, for each channel, those that packets take next, each of the two under the held or the next tables.
 fn waits(alloc: Global, held: &Network, next: &Network) -> Result<Waits, AllocError>
     requires facts { next.now.facts ≡ held.now.facts }
     ensures { IfOk result (λ waits.

@@ -48,9 +48,8 @@ impl LastLines {
         }
     }
 
-    /// Returns what the `block` line with the number `number` says. Returns `Syntax` if no switch is above the line.
-    /// Otherwise returns `Block` if the number of the block is above 767, or is less than the least number that may
-    /// follow.
+    /// Returns what the `block` line with the number `number` says. Fails with `Syntax` if no switch is above the line,
+    /// and with `Block` if the block's number is above 767, or too low after the last one.
     fn block(&self, number: usize, line: BlockLine) -> Result<HeldItem, TablesLineFault>
         ensures { result ≡ block_with number self.now line.number line.entries }
     {
@@ -96,8 +95,7 @@ fn wrong(line: usize, wrong: TablesTextError) -> Result<HeldItem, TablesLineFaul
     Err(TablesLineFault { line, wrong })
 }
 
-/// Returns what the `lid` line with the number `number` says, or the line's fault. `last` is the first LID of the
-/// previous `lid` line, or `None` if there was no such line.
+/// Returns what the `lid` line with the number `number` says, or its fault. `last` is the first LID of the last one.
 fn lid(number: usize, last: Option<HeldLid>, line: LidLine) -> Result<HeldItem, TablesLineFault>
     ensures { result ≡ lid_with number last line.lid line.node line.port line.lmc }
 {
@@ -121,8 +119,7 @@ fn lid(number: usize, last: Option<HeldLid>, line: LidLine) -> Result<HeldItem, 
     lid_after(number, last, HeldRange { first, lmc })
 }
 
-/// Returns `range`, the LIDs of the `lid` line with the number `number`, if `last` is `None`, or if `range` comes
-/// after `last`, the first LID of the previous `lid` line. Otherwise returns the fault of the line.
+/// Returns `range`, the LIDs of the `lid` line with the number `number`, if it comes after `last`, or the line's fault.
 fn lid_after(
     number: usize,
     last: Option<HeldLid>,
@@ -136,8 +133,7 @@ fn lid_after(
     }
 }
 
-/// Returns `range`, the LIDs of the `lid` line with the number `number`, if `range` comes after `last`. Otherwise
-/// returns `Lid` if the first LID of `range` is less than that of `last`, and else `Port`.
+/// Returns `range` if it comes after `last`, and otherwise `Lid` if its first LID is less, and else `Port`.
 fn lid_behind(number: usize, last: HeldLid, range: HeldRange) -> Result<HeldItem, TablesLineFault>
     ensures { result ≡ lid_behind number last range }
 {
@@ -152,8 +148,7 @@ fn lid_behind(number: usize, last: HeldLid, range: HeldRange) -> Result<HeldItem
 }
 
 /// Returns whether the LID or the node of `held` is greater than that of `last`, or the nodes are equal and the port
-/// of `held` is greater. If the LID of `held` is not less than that of `last`, this is whether `held` comes after
-/// `last`.
+/// is. If the LID is not less, this is whether `held` comes after `last`.
 fn is_behind(last: HeldLid, held: HeldLid) -> bool
     ensures { result ≡ is_behind last held }
 {
@@ -163,8 +158,8 @@ fn is_behind(last: HeldLid, held: HeldLid) -> bool
         || (is_same_node && last.port.port < held.port.port)
 }
 
-/// Returns what the `switch` line with the number `number` says. Returns `Lid` if the top is above 49,151. Otherwise
-/// returns `Switch` if there is a previous switch, with the GUID `last`, and the GUID is not greater than `last`.
+/// Returns what the `switch` line with the number `number` says. Fails with `Lid` if the top is above 49,151, and with
+/// `Switch` if the GUID is not greater than `last`, that of the previous switch.
 fn switch(number: usize, last: Option<Guid>, line: SwitchLine) -> Result<HeldItem, TablesLineFault>
     ensures { result ≡ switch_with number last line.guid line.top }
 {

@@ -98,7 +98,7 @@ fn lmc_line(line: &[u8]) -> Option<Option<Lmc>>
     Some(lmc_of(number))
 }
 
-/// Returns the LMC with the number `number`, which must be at most 7, or `None` if `number` is `None`.
+/// Returns the LMC with the number `number`, or `None` if `number` is `None`.
 fn lmc_of(number: Option<u16>) -> Option<Lmc>
     requires { IfSome number (λ n. n ≤ 7) }
     ensures { result ≡ number }

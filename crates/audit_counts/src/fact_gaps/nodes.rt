@@ -49,8 +49,7 @@ fn known_node(store: &Store, sighting: &Sighting) -> Option<Guid>
     }
 }
 
-/// Appends to `guids` the node that each cell of `store` is about, if that node is unusable. Each node in `known` must
-/// be known.
+/// Appends to `guids` the node that each cell of `store` is about, if that node is unusable.
 fn add_own_nodes(guids: &mut Vec<Guid>, store: &Store, known: &[Guid]) -> Result<(), AllocError>
     requires { AreKnownNodes (cells_of store.now) known.now }
     ensures { OnOk result (guids.new.items ≡ guids.old.items
@@ -64,8 +63,7 @@ fn add_own_nodes(guids: &mut Vec<Guid>, store: &Store, known: &[Guid]) -> Result
     Ok(())
 }
 
-/// Appends to `guids` the node at the far end of each link in `store`, if that node is unusable. Each node in `known`
-/// must be known.
+/// Appends to `guids` the node at the far end of each link in `store`, if that node is unusable.
 fn add_far_nodes(guids: &mut Vec<Guid>, store: &Store, known: &[Guid]) -> Result<(), AllocError>
     requires { AreKnownNodes (cells_of store.now) known.now }
     ensures { OnOk result (guids.new.items ≡ guids.old.items
@@ -79,8 +77,7 @@ fn add_far_nodes(guids: &mut Vec<Guid>, store: &Store, known: &[Guid]) -> Result
     Ok(())
 }
 
-/// Returns the node at the far end of the link that `sighting` reports. Returns `None` if `sighting` reports no far
-/// end, or if that node is not unusable. Each node in `known` must be known.
+/// Returns the node at the far end of the link that `sighting` reports, if there is one and it is unusable.
 fn unusable_far_node(store: &Store, known: &[Guid], sighting: &Sighting) -> Option<Guid>
     requires { AreKnownNodes (cells_of store.now) known.now }
     ensures { result ≡ kept (λ g. not (is_known_node (cells_of store.now) g)) far_node sighting.now }
@@ -89,7 +86,7 @@ fn unusable_far_node(store: &Store, known: &[Guid], sighting: &Sighting) -> Opti
     if_unusable(store, known, node)
 }
 
-/// Returns `node` if it is unusable, otherwise `None`. Each node in `known` must be known.
+/// Returns `node` if it is unusable, otherwise `None`.
 fn if_unusable(store: &Store, known: &[Guid], node: Guid) -> Option<Guid>
     requires { AreKnownNodes (cells_of store.now) known.now }
     ensures { result ≡ (if not (is_known_node (cells_of store.now) node) then Some node else None) }
@@ -101,8 +98,7 @@ fn if_unusable(store: &Store, known: &[Guid], node: Guid) -> Option<Guid>
     }
 }
 
-/// Returns whether `node` is known. Each node in `known` must be known. Does a binary search among `known`, and at most
-/// two searches of `store` if `known` lacks the node.
+/// Returns whether `node` is known. Does a binary search among `known`, and at most two of `store` if `known` lacks it.
 fn is_known_by(store: &Store, known: &[Guid], node: Guid) -> bool
     requires { AreKnownNodes (cells_of store.now) known.now }
     ensures { result ≡ is_known_node (cells_of store.now) node }
@@ -110,8 +106,7 @@ fn is_known_by(store: &Store, known: &[Guid], node: Guid) -> bool
     known.binary_search(&node).is_ok() || is_known_node(store, node)
 }
 
-/// Returns whether the type of `node` is known and, if `node` is a switch, its table room is known too. Searches
-/// `store` at most twice.
+/// Returns whether the type of `node` and, if it is a switch, its table room are known. Searches `store` at most twice.
 fn is_known_node(store: &Store, node: Guid) -> bool
     ensures { result ≡ is_known_node (cells_of store.now) node }
 {
@@ -122,8 +117,7 @@ fn is_known_node(store: &Store, node: Guid) -> bool
     }
 }
 
-/// Returns the port at the far end of the link that `sighting` reports. Returns `None` if `sighting` is not the cell of
-/// a link, or does not say where the link leads.
+/// Returns the port at the far end of the link that `sighting` reports, if it reports one.
 pub(crate) fn far_port(sighting: &Sighting) -> Option<(Guid, PortNum)>
     ensures { result ≡ far_port sighting.now }
 {

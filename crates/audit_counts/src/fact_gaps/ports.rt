@@ -43,8 +43,7 @@ fn known_ports(alloc: Global, wires: &Wires) -> Result<Vec<(Guid, PortNum)>, All
     Ok(known)
 }
 
-/// Returns the port that `sighting` is about if `sighting` is the cell of a link and the port is not unjoined,
-/// otherwise `None`.
+/// Returns the port that `sighting` is about if it is the cell of a link and the port is not unjoined.
 fn known_port(wires: &Wires, sighting: &Sighting) -> Option<(Guid, PortNum)>
     ensures { result ≡ kept (is_known_port (cells_of wires.now)) link_key sighting.now }
 {
@@ -72,7 +71,7 @@ fn end_port_at(port: &(Guid, PortNum)) -> EndPort
 }
 
 /// Appends to `ports` the port that each cell is about, if that port is unjoined. The cell of a known switch counts as
-/// about port 0 of the switch. No port in `known` may be unjoined.
+/// about port 0 of the switch.
 fn add_own_ports(
     ports: &mut Vec<(Guid, PortNum)>,
     wires: &Wires,
@@ -90,8 +89,7 @@ fn add_own_ports(
     Ok(())
 }
 
-/// Appends to `ports` the port at the far end of each link, if that port is unjoined. No port in `known` may be
-/// unjoined.
+/// Appends to `ports` the port at the far end of each link, if that port is unjoined.
 fn add_far_ports(
     ports: &mut Vec<(Guid, PortNum)>,
     wires: &Wires,
@@ -110,7 +108,7 @@ fn add_far_ports(
 }
 
 /// Returns the port that `sighting` is about if that port is unjoined, otherwise `None`. The cell of a known switch
-/// counts as about port 0 of the switch. No port in `known` may be unjoined.
+/// counts as about port 0 of the switch.
 fn unjoined_own_port(
     wires: &Wires,
     known: &[(Guid, PortNum)],
@@ -123,8 +121,7 @@ fn unjoined_own_port(
     if_unjoined(wires, known, node, port)
 }
 
-/// Returns the port at the far end of the link that `sighting` reports. Returns `None` if `sighting` reports no far
-/// end, or if that port is not unjoined. No port in `known` may be unjoined.
+/// Returns the port at the far end of the link that `sighting` reports, if there is one and it is unjoined.
 fn unjoined_far_port(
     wires: &Wires,
     known: &[(Guid, PortNum)],
@@ -154,8 +151,8 @@ fn if_unjoined(
     }
 }
 
-/// Returns whether `port` of `node` is not unjoined. No port in `known` may be unjoined. Does a binary search among
-/// `known`. If `known` lacks the port, also takes the time of `is_known_port`.
+/// Returns whether `port` of `node` is not unjoined. Does a binary search among `known`. If `known` lacks the port,
+/// also takes the time of `is_known_port`.
 fn is_known_by(wires: &Wires, known: &[(Guid, PortNum)], node: Guid, port: PortNum) -> bool
     requires { AreKnownPorts (cells_of wires.now) known.now }
     ensures { result ≡ is_known_port (cells_of wires.now) (node, port) }
@@ -191,8 +188,7 @@ fn is_switch_said(sighting: &Sighting) -> bool
     matches!(sighting.value(), Some(Value::Kind(NodeType::Switch, _)))
 }
 
-/// Returns whether `port` of `node` is known to be down or has a wire. For port 0, returns whether it is the end port
-/// of a switch.
+/// Returns whether `port` of `node` is down or has a wire or, for port 0, is the end port of a switch.
 fn is_known_port(wires: &Wires, node: Guid, port: PortNum) -> bool
     ensures { result ≡ is_known_port (cells_of wires.now) (node, port) }
 {
