@@ -64,8 +64,7 @@ struct Turn {
     next: usize,
 }
 
-/// Returns the channel that a packet takes from `vertex` along its edge in `before`, and the next one, along the next
-/// vertex's edge in `now`. Returns `None` if one of these edges is missing.
+/// Returns the channel that a packet takes from `vertex` by `before`, and its next one by `now`, if there are both.
 fn turn_at(before: &[Option<Edge>], now: &[Option<Edge>], vertex: usize) -> Option<Turn>
     requires before { 256 * length before.now < 2 ^ 64 }
     requires now { 256 * length now.now < 2 ^ 64 }

@@ -69,7 +69,7 @@ fn unowned_and_twice(
     Ok((unowned, twice))
 }
 
-/// Counts switches with tables that are not usable, and usable switches without. Keeps the first `most` of each kind.
+/// Counts the switches with tables that are not usable, and the usable ones without. Keeps `most` of each kind.
 fn unknown_and_tableless(
     alloc: Global,
     most: usize,

@@ -52,8 +52,7 @@ impl WayTally {
         Ok(())
     }
 
-    /// Adds the route via the switch at index `first`, `times` times: a wire to that switch, the channels along
-    /// `edges`, starting there, and a wire to an adapter.
+    /// Adds, `times` times, the route by the switch at index `first` along `edges`, with a wire at either end.
     fn add_from(
         &mut self,
         edges: &[Option<Edge>],

@@ -208,8 +208,7 @@ impl Balance {
         Ok(end)
     }
 
-    /// Makes the choices of `round` for the ends of `destination` from index `first` on, by the ways `ways` to its
-    /// position. Returns the index after the last of them.
+    /// Makes the choices of `round` for the ends of `destination` from `first` on, by `ways`. Returns the index after.
     fn choose_at(
         &mut self,
         alloc: Global,

@@ -128,8 +128,7 @@ fn repeat(list: &[usize], count: u16, copies: &mut Vec<usize>) -> Result<(), All
     Ok(())
 }
 
-/// Passes on, from `position`, the packets that `had` has for it, for each end of `destination`, and adds them to the
-/// loads of channels. Does nothing if `position` has no candidate.
+/// Passes the packets of `position` in `had` on for each end of `destination`, and adds them to the loads of channels.
 fn pass_on(
     ways: &Adjacency,
     digits: &[LevelDigit],

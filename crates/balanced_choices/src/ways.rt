@@ -53,8 +53,7 @@ fn edge_at(taken: &[Option<Edge>], position: usize) -> Option<Edge>
     }
 }
 
-/// Returns the number of the candidate of `position` whose way has the least peak load, the first of equals, or 0 if it
-/// has none. Only the first 256 candidates count. `taken` has the edge that is taken at each position.
+/// Returns the number, up to 255, of the candidate of `position` whose way by `taken` has the least peak load, or 0.
 pub(crate) fn lightest(
     ways: &Adjacency,
     taken: &[Option<Edge>],

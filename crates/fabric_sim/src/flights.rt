@@ -32,8 +32,7 @@ impl Fabric {
             .ok()
     }
 
-    /// Adds `packet`, which waits as `whereabouts` says, to those in flight, and returns its serial number. Fails with
-    /// `SerialsSpent` or `Memory`.
+    /// Adds `packet`, which waits as `whereabouts` says, to those in flight, and returns its serial number.
     pub(crate) fn enqueue(
         &mut self,
         whereabouts: Whereabouts,

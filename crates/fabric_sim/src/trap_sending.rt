@@ -98,7 +98,7 @@ impl Fabric {
         self.traps.has_room(node) && self.is_switch_at(node)
     }
 
-    /// Returns the port through which the trap of `node` leaves, if it has a LID, a table entry and a cable for it.
+    /// Returns the port by which the trap of `node` leaves, if it has a LID, a port for the manager's, and a cable.
     fn trap_out(&self, node: NodeId) -> Option<NodePort>
         ensures out { result ≡ trap_out self.now node }
         ensures port { IfSome result (λ out. is_cable_port self.now out ≡ true) }

@@ -35,8 +35,7 @@ impl Traps {
         }
     }
 
-    /// Lets switches send traps from now on, with a slot for one at each of `nodes` nodes. Does nothing if they do
-    /// already. Returns an error if memory runs out.
+    /// Lets switches send traps, unless they do already, with a slot for one at each of `nodes` nodes.
     pub(crate) fn begin(&mut self, alloc: Global, nodes: usize) -> Result<(), AllocError>
         ensures ok { OnOk result (self.new ≡ begun self.old nodes) }
         ensures err { OnErr result (self.new ≡ self.old) }

@@ -17,8 +17,7 @@ pub struct Chains {
 /// The number of values of a `u16`.
 const NUMBERS: usize = 0x1_0000;
 
-/// Returns the chains of `numbers`. Takes time linear in the length of `numbers`, plus 65,536 for the values of a
-/// `u16`.
+/// Returns the chains of `numbers`, in time linear in their length, plus 65,536 for the values of a `u16`.
 pub(crate) fn chains_of(alloc: Global, numbers: &[u16]) -> Result<Chains, AllocError>
     ensures { IfOk result (λ chains. AreChains numbers.now chains) }
 {

@@ -21,9 +21,8 @@ pub(crate) struct Next {
     adapter: usize,
 }
 
-/// Returns the end ports of `keepers`, in the order of `keepers`, each with its LID, or `None` if some end port finds
-/// no LID. The LID is the claim that the end port keeps, or else the least number whose range fits and has no number
-/// that is taken. The length of `taken` is the room.
+/// Returns the end ports of `keepers`, in their order, each with the claim that it keeps, or else the least LID whose
+/// range fits and has no number that is taken, or `None` if some end port finds none. `taken` is as long as the room.
 pub(crate) fn hand_out(
     alloc: Global,
     lmc: Lmc,

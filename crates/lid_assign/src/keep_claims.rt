@@ -66,8 +66,7 @@ pub(crate) fn keep(
     Some(lid)
 }
 
-/// Returns `claim` if its range of `width` numbers fits and has no mark in `claimed`, and otherwise `None`. Marks the
-/// range in `claimed` if the range fits.
+/// Returns `claim` as `keep` does, and marks its range in `claimed` if the range fits.
 pub(crate) fn claims_first(claim: Option<Lid>, width: usize, claimed: &mut [bool]) -> Option<Lid>
     requires some { 1 ≤ width }
     requires few { width ≤ 128 }

@@ -107,7 +107,7 @@ fn none_entered(alloc: Global, count: usize) -> Result<Vec<bool>, AllocError>
     vec![in alloc; false; count]
 }
 
-/// Sets the flag in `entered` of the switch to which that at `index` sends down by a held entry not the goal's.
+/// Sets, in `entered`, the flag of the switch that `index` sends down to by a held entry that is not the goal's.
 fn enter(
     entered: &mut [bool],
     positions: &[usize],

@@ -113,7 +113,7 @@ fn are_lids_taken(max_lmc: u8, info: &PortInfo) -> bool
     lmc.number() <= max_lmc && may_have(info.base_lid(), lmc)
 }
 
-/// Returns whether a port may have `base` with `lmc`: 0, for no LID, or a multiple of 2^LMC whose LIDs are unicast.
+/// Returns whether a port may have `base` with `lmc`: 0, for no LID, or a multiple of 2^LMC with 2^LMC unicast LIDs.
 fn may_have(base: Lid, lmc: Lmc) -> bool
     ensures { result ≡ may_have base lmc }
 {

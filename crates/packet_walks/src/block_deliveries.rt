@@ -120,8 +120,7 @@ impl BlockWalks {
         Ok(())
     }
 
-    /// Adds what the switch at index `switch` does with packets for the LID at `index` of the block `number`, if
-    /// exactly one end port holds the LID.
+    /// Adds what the switch at index `switch` does with packets for the LID at `index`, if one end port alone holds it.
     fn add_last(
         &mut self,
         nodes: &[AuditedSwitch],

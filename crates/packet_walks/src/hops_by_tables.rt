@@ -150,8 +150,7 @@ pub(crate) fn counted(lid: Lid, top: Lid, entry: u8) -> u8
     }
 }
 
-/// Returns, for each of `nodes`, the edge along which it forwards packets for `lid` to a usable switch, possibly
-/// itself, by the blocks `rows` of held switches.
+/// Returns, for each of `nodes`, the edge along which it forwards packets for `lid` to a usable switch, or `None`.
 pub(crate) fn edges(
     alloc: Global,
     nodes: &[AuditedSwitch],

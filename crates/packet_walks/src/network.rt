@@ -243,8 +243,7 @@ impl<'a> Network<'a> {
         }
     }
 
-    /// Returns, for each usable switch in ascending order of GUID, the edge along which it forwards packets for `lid`
-    /// to a usable switch, possibly itself.
+    /// Returns, for each usable switch, the edge along which it forwards packets for `lid` to one of them, or `None`.
     pub(crate) fn edges(
         &self,
         alloc: Global,

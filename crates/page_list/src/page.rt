@@ -20,8 +20,7 @@ pub(crate) fn insert_within<T>(page: &mut Vec<T>, index: usize, item: T)
     }
 }
 
-/// Moves the second half of the full page `page` to the empty page `tail`, and inserts `item` at `index`, counted
-/// across both pages. Returns the number of items that `page` has then.
+/// Moves the second half of `page` to `tail`, inserts `item` at `index` across both, and returns the length of `page`.
 pub(crate) fn insert_halved<T: Copy>(
     page: &mut Vec<T>,
     tail: &mut Vec<T>,

@@ -40,7 +40,7 @@ pub struct PortRead {
     pub far: Option<PortInfo>,
 }
 
-/// Returns the PortInfo that was read from `port` of `guid`, if it is kept, and that of the far end of its wire.
+/// Returns the PortInfo of `port` of `guid` that was read, with that of the far end of its wire, as far as kept.
 pub(crate) fn port_read(store: &Store, sweep: &Sweep, guid: Guid, port: PortNum) -> Option<PortRead>
     ensures { result ≡ port_read (cells_of store.now) sweep.now guid port }
 {

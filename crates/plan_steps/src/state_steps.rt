@@ -30,7 +30,7 @@ pub(crate) fn wired_ports(alloc: Global, store: &Store) -> Result<Vec<(Guid, Por
     Ok(ports)
 }
 
-/// If `sighting` is about the link of a port, and this port is on a wire, returns the port. Otherwise returns `None`.
+/// Returns the port whose link `sighting` is about, if this port is on a wire.
 fn wired_port(store: &Store, sighting: &Sighting) -> Option<(Guid, PortNum)>
     ensures { result ≡ wired_port (cells_of store.now) sighting.now }
 {

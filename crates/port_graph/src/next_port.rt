@@ -29,8 +29,7 @@ pub(crate) fn next_ports(
     Ok(ports)
 }
 
-/// Returns the next port of `vertex`, or `None` if no edge leads one nearer to the target. `distances` has the down
-/// distances of all vertices, and `costs` their costs.
+/// Returns the next port of `vertex` by the down distances `distances` and the `costs` of all vertices, or `None`.
 fn next_port(
     ups: &Adjacency,
     downs: &Adjacency,

@@ -55,8 +55,7 @@ fn absorb_report(bytes: &[u8], index: u64, store: &mut Store) -> Result<(), File
     }
 }
 
-/// Adds the cell that `bytes` spell, and returns its key. Fails with `BadCell`, with `CellOrder` if the key does not
-/// come after `last`, or with `Memory`.
+/// Adds the cell that `bytes` spell, and returns its key. Fails with `BadCell`, `CellOrder` or `Memory`.
 fn absorb_cell(
     floor: Option<Generation>,
     last: Option<Key>,

@@ -17,7 +17,7 @@ pub enum Context {
 impl Context {
     ghost use Rattle.reply_facts.specs.Report.{about_of, via_of};
 
-    /// Returns the last node of a `Via` context's path and the port by which the path leaves it, and otherwise `None`.
+    /// Returns the last node that the path of a `Via` context leaves, with the port, and otherwise `None`.
     pub(crate) fn via(&self) -> Option<(Guid, PortNum)>
         ensures parts { result ≡ via_of self.now }
         ensures in_range { IfSome result (λ via. IsTrue (is_guid via.0)) }

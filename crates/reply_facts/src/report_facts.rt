@@ -77,8 +77,7 @@ pub fn answer_fault(smp: &Smp) -> Option<ReportFault>
     }
 }
 
-/// Returns the facts in `smp`, according to the attribute that `smp` carries, or the first fault. Does not judge
-/// whether `smp` is an answer.
+/// Returns the facts in `smp`, by its attribute, or the first fault. Does not judge whether `smp` is an answer.
 fn sightings_by_packet(
     generation: Generation,
     context: &Context,

@@ -24,8 +24,7 @@ impl World<'_> {
         }
     }
 
-    /// Makes the request `what` to the manager at index `seat`, and sends the packets that the manager then has queued.
-    /// If the manager refuses the request, prints the refusal instead.
+    /// Makes the request `what` to the manager at `seat`, and sends what it then has queued, or prints its refusal.
     pub(crate) fn ask<W: Sink>(
         &mut self,
         seat: usize,
@@ -51,8 +50,7 @@ impl World<'_> {
         self.managers[seat].manager.raise_floor(floor);
     }
 
-    /// Times out each request of the manager at index `seat` that is outstanding when the call begins. Then sends the
-    /// packets that the manager has queued. Prints a line for each timeout that the manager refuses.
+    /// Times out each outstanding request of the manager at `seat`, prints refusals, and sends what it then has queued.
     pub(crate) fn time_out<W: Sink>(
         &mut self,
         alloc: Global,

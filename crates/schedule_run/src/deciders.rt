@@ -52,7 +52,7 @@ impl World<'_> {
         self.set_awake(index, true);
     }
 
-    /// Wakes the decider at `index` up, or lets it stand still unless `is_awake`, if there is such a decider.
+    /// Wakes the decider at `index` up if `is_awake`, or else lets it stand still, if there is such a decider.
     fn set_awake(&mut self, index: usize, is_awake: bool)
         ensures managers { self.new.managers ≡ self.old.managers }
         ensures leaves { value_of self.new ≡ (after_pause_line (value_of self.old) index is_awake).now }

@@ -44,7 +44,7 @@ fn said_by(line: &[u8]) -> Option<ServeLine>
     Some(ServeLine::Packet(bytes, from))
 }
 
-/// Parses `word`, `hex` and `between`, and then `rest`, as a packet and the LID that it came from, if they are so.
+/// Parses the words `word`, `hex`, `between` and `rest` as a packet and the LID that it came from, if they spell one.
 pub(crate) fn packet_behind(
     word: &[u8],
     hex: &[u8],

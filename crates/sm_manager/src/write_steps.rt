@@ -62,12 +62,8 @@ impl Manager {
         Ok(Writing::new(phases))
     }
 
-    /// Returns the last sweep.
-    ///
-    /// # Errors
-    ///
-    /// Returns the first of these that applies: `NotMaster` if the manager is not master or has begun no sweep;
-    /// `SweepRunning` if the last sweep is not done; `WritingRunning` if a step of a writing is outstanding.
+    /// Returns the last sweep. Fails with `NotMaster` if the manager is not master or has begun no sweep, else
+    /// `SweepRunning` if the last sweep is not done, else `WritingRunning` if a step of a writing is outstanding.
     fn last_sweep(&self) -> Result<&Sweep, ManagerFault>
         ensures judged { Judges result (write_fault self.now) }
         ensures sweep { IfOk result (λ s. self.now.sweep ≡ Some s.now) }
@@ -87,8 +83,7 @@ impl Manager {
         Ok(sweep)
     }
 
-    /// Ends the outstanding step at `index`, in ascending order of number, which was done if `was_done`. If no other
-    /// step is outstanding, queues the next phase, or fails with `SequenceSpent` or `Memory`.
+    /// Ends the step at `index`, which was done if `was_done`, and queues the next phase if no other is outstanding.
     pub(crate) fn end_step(&mut self, index: usize, was_done: bool) -> Result<(), ManagerFault>
         requires within { index < length self.old.pending }
         requires step { (p : Pending) → slice_get self.old.pending index ≡ Some p

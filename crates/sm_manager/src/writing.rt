@@ -59,8 +59,7 @@ impl Writing {
         self.has_failed = self.has_failed || (counts && !was_done);
     }
 
-    /// Removes the next phase from the writing and queues its steps, which are then outstanding. Does nothing if no
-    /// phase is left. Does not allocate.
+    /// Removes the next phase, if any, from the writing, and makes its steps outstanding ones. Does not allocate.
     pub(crate) fn send_next(
         &mut self,
         requests: &mut ManagerRequests,

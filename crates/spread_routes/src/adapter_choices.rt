@@ -176,8 +176,7 @@ fn sent(alloc: Global, adapters: &[u16]) -> Result<Vec<usize>, AllocError>
     Ok(sent)
 }
 
-/// Returns, as destinations, the positions that have adapters, with an end for each adapter. The number of the first
-/// end is the leaf number times the greatest number of adapters at any position.
+/// Returns the positions that have adapters as destinations, with an end for each adapter.
 fn destinations(
     alloc: Global,
     leaf_numbers: &[u16],

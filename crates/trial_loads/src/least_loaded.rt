@@ -86,8 +86,7 @@ fn least_loaded_among(
     Ok(best.keys)
 }
 
-/// Tries the order by depth in `direction` from each of `starts`. Returns whichever of `first` and these trials has the
-/// least load, the earliest of equals.
+/// Returns the trial of the least load among `first` and the orders by depth in `direction` from each of `starts`.
 fn try_by_depth(
     alloc: Global,
     edges: &Adjacency,

@@ -130,8 +130,7 @@ fn share_down(
     }
 }
 
-/// Shares out the packets of `position` evenly among its candidates towards target `k`: those of `edges` whose set in
-/// `sets` has it. The remainder of the division is dropped.
+/// Shares out the packets of `position` evenly among its candidates towards target `k`, and drops the remainder.
 fn share(
     edges: &[Edge],
     sets: &[TargetSet],

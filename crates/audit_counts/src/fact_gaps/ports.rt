@@ -70,8 +70,7 @@ fn end_port_at(port: &(Guid, PortNum)) -> EndPort
     }
 }
 
-/// Appends to `ports` the port that each cell is about, if that port is unjoined. The cell of a known switch counts as
-/// about port 0 of the switch.
+/// Appends to `ports` the port that each cell is about (`own_port`), if that port is unjoined.
 fn add_own_ports(
     ports: &mut Vec<(Guid, PortNum)>,
     wires: &Wires,
@@ -107,8 +106,7 @@ fn add_far_ports(
     Ok(())
 }
 
-/// Returns the port that `sighting` is about if that port is unjoined, otherwise `None`. The cell of a known switch
-/// counts as about port 0 of the switch.
+/// Returns the port that `sighting` is about (`own_port`) if that port is unjoined, otherwise `None`.
 fn unjoined_own_port(
     wires: &Wires,
     known: &[(Guid, PortNum)],
@@ -188,7 +186,7 @@ fn is_switch_said(sighting: &Sighting) -> bool
     matches!(sighting.value(), Some(Value::Kind(NodeType::Switch, _)))
 }
 
-/// Returns whether `port` of `node` is down or has a wire or, for port 0, is the end port of a switch.
+/// Returns whether `port` of `node` is known to be down or has a wire or, for port 0, is the end port of a switch.
 fn is_known_port(wires: &Wires, node: Guid, port: PortNum) -> bool
     ensures { result ≡ is_known_port (cells_of wires.now) (node, port) }
 {

@@ -85,17 +85,17 @@ pub fn heals_at_seat()
 /// A manager that decides by itself is master at some moment at most seventeen longest waits and `20 * (n + 4)` turns
 /// later, and from then on, whatever it is about at first, if four conditions hold: no packet that it is told is a word
 /// of another manager; no other manager has disabled it; a generation is left for each of its sweeps; its shell is at
-/// most two seconds late. A word is a Set of SMInfo, or an answer of SMInfo to a poll or a control, or one to a sweep by
-/// a manager that outranks this one. All else is as in `sweeps_again_in_time`.
+/// most two seconds late. A word is a Set of SMInfo, or an answer of SMInfo to a poll or a control, or one to a sweep
+/// by a manager that outranks this one. All else is as in `sweeps_again_in_time`.
 pub fn lone_managers_lead_in_time()
     ensures { LoneManagersLeadInTime }
 {}
 
 /// A manager that decides by itself has swept anew, and has its plan written, as in `heals_in_time`, after at most
 /// nineteen longest waits and `26 * (n + 4)` turns, whatever it is about at first, if four conditions hold: those of
-/// `lone_managers_lead_in_time`; each sweep that it begins meanwhile is whole; when a sweep is over, each end port finds
-/// a LID, and numbers are left for its Sets; when its writing is over, the plan counts as written. A sweep is whole if
-/// each of its requests was answered, but for those for SMInfo, and no path led too far.
+/// `lone_managers_lead_in_time`; each sweep that it begins meanwhile is whole; when a sweep is over, each end port
+/// finds a LID, and numbers are left for its Sets; when its writing is over, the plan counts as written. A sweep is
+/// whole if each of its requests was answered, but for those for SMInfo, and no path led too far.
 pub fn lone_managers_heal()
     ensures { LoneManagersHeal }
 {}
@@ -118,9 +118,9 @@ pub fn masters_give_way()
     ensures { MastersGiveWay }
 {}
 
-/// Of `heals_at_seat` and `lone_managers_heal_at_seat`, the condition on Sets that agents take holds, and so pings arrive
-/// at the moment that they tell of if the manager was strict, if all writings of the manager are of one plan, and other
-/// senders set only SMInfo, from the start.
+/// Of `heals_at_seat` and `lone_managers_heal_at_seat`, the condition on Sets that agents take holds, and so pings
+/// arrive at the moment that they tell of if the manager was strict, if all writings of the manager are of one plan,
+/// and other senders set only SMInfo, from the start.
 pub fn one_plan_serves()
     ensures { OnePlanServes }
 {}
@@ -132,14 +132,15 @@ pub fn turns_are_few()
     ensures { TurnsAreFew }
 {}
 
-/// There is a manager that is alone for as long as `lone_managers_lead_in_time` asks: a new one on an adapter with one port and
-/// no cable, which is told the time and its adapter's answers.
+/// There is a manager that is alone for as long as `lone_managers_lead_in_time` asks: a new one on an adapter with one
+/// port and no cable, which is told the time and its adapter's answers.
 pub fn some_lone_manager_leads()
     ensures { SomeLoneManagerLeads }
 {}
 
-/// There is a manager that is alone for as long as `lone_managers_heal` asks, whose sweeps are whole, and which has room for
-/// what it writes: a new one on an adapter with one port and no cable, which is told the time and its adapter's answers.
+/// There is a manager that is alone for as long as `lone_managers_heal` asks, whose sweeps are whole, and which has
+/// room for what it writes: a new one on an adapter with one port and no cable, which is told the time and its
+/// adapter's answers.
 pub fn some_lone_manager_heals()
     ensures { SomeLoneManagerHeals }
 {}

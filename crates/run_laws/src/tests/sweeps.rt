@@ -101,7 +101,7 @@ fn file(alloc: Global) -> Option<[u8; 280]> {
 }
 
 /// Returns the number of facts that are read from a file by at most `N` bytes at a time, and the number of facts of a
-/// copy of the store. `N` must be from 1 to 4096.
+/// copy of the store.
 fn told<const N: usize>(alloc: Global) -> Option<(usize, usize)>
     requires some { 0 < N }
     requires most { N ≤ 4096 }
