@@ -506,7 +506,7 @@ def hosts_refused(bench: Bench) -> None:
         is_up = seat.settles() and until(lambda: other.state() == "standby") is not None
         bench.check(is_up, "a seat is master, and another one stands by")
         text = held(bench, "asked", "H3")
-        asks = (["PR", "--src-to-dst", "1:2"], ["NR"], ["PIR"], ["-g"], ["-m"], ["SR"], ["-s"])
+        asks = (["NR"], ["PIR"], ["-g"], ["-m"], ["SR"], ["-s"])
         for words in asks:
             began = time.monotonic()
             status = bench.run("saquery", *words, simulated=True, seat="H3")
@@ -516,6 +516,9 @@ def hosts_refused(bench: Bench) -> None:
                 f"saquery {' '.join(words)} is refused after {took:.2f} s: {bench.said.strip()}",
             )
         bench.check(bench.run("saquery", "-c", simulated=True, seat="H3") == 0, "saquery -c tells what the class has")
+        for words in (["PR", "--src-to-dst", "1:2"], ["NR", 1]):
+            status = bench.run("saquery", *words, simulated=True, seat="H3")
+            bench.check(status == 0, f"saquery {' '.join(map(str, words))} gets one record: {bench.said.strip()}")
         status = bench.record("-g", 1, "-n", 1, "-L", "asked.lanes", "-S", "asked.reports", seat="H3")
         bench.check(status == 0 and "(0 sent again)" in bench.said, f"record --levels has paths: {bench.said.strip()}")
         lid_of = {guid: int(lid) for lid, guid in re.findall(r"^lid (\d+) (\w+)/1$", text, re.M)}

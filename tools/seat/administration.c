@@ -19,7 +19,8 @@ int open_administration(int umad)
 		1 << GET | 1 << SET | 1 << GET_TABLE | 1 << GET_TRACE_TABLE | 1 << GET_MULTI | 1 << DELETE
 	};
 
-	/* Without RMPP a request has one packet, whatever its sender says. */
+	/* Without RMPP a request has one packet, whatever its sender says. So has a table, whose RMPP fields the process
+	 * fills in. */
 	agent = umad_register(umad, ADMINISTRATION_CLASS, CLASS_VERSION, 0, methods);
 	return agent;
 }
@@ -62,8 +63,10 @@ static int may_be_answered(const uint8_t *packet)
 {
 	unsigned attribute = get(packet + 16, 2);
 
-	return packet[3] == GET && (attribute == CLASS_PORT_INFO || attribute == NODE_RECORD || attribute == PORT_INFO_RECORD
-				    || attribute == PATH_RECORD);
+	if (attribute == CLASS_PORT_INFO)
+		return packet[3] == GET;
+	return (packet[3] == GET || packet[3] == GET_TABLE)
+	       && (attribute == NODE_RECORD || attribute == PORT_INFO_RECORD || attribute == PATH_RECORD);
 }
 
 /* Says once, or with --verbose each time, that a host is refused. */

@@ -24,8 +24,9 @@ use Rattle.sa_answers.specs.Ends.{both_ends, end_asked, end_by_gid, end_by_guid,
 use Rattle.sa_answers.specs.PathReply.{gives, life_of, path_between, path_of, path_or_none, path_reply, path_with, reply_between, source_said, suits_path, target_said}
 use Rattle.sa_answers.specs.NodeReply.{description_bit, first_node, nodes_suited, only_node}
 use Rattle.sa_answers.specs.PortReply.{end_port_lid_bit, goes_by, most_of_mask, port_num_bit, port_told, port_with, reply_of_owner}
-use Rattle.sa_answers.specs.Reply.{record_reply, reply_to}
+use Rattle.sa_answers.specs.Reply.{as_table, record_reply, reply_to, reply_to_get}
 use Rattle.sa_answers.specs.Told.{Told}
+use Rattle.sa_answers.proofs.Gets.{table_path}
 use Rattle.sa_answers.specs.Way.{bound_of_way}
 use Rattle.sa_answers.specs.declared.bound.Bound.{Bound}
 use Rattle.sa_answers.specs.declared.ends.EndAsked.{EndAsked}
@@ -167,15 +168,23 @@ no_path told attribute request path e =
 asked_for : (told : Told) (request : List ℕ) (path : PathRecord) → reply_to told request ≡ Path path
     → path_reply told (number_in component_mask request) (path_record_in (bytes_in path_data request)) ≡ Path path
 asked_for told request path e =
-    get (number_in method request == 0x01) (number_in attribute_id request == 0x0001) (number_in attribute_id request == 0x0035) e
+    get (number_in method request == 0x01) (number_in method request == 0x12) e
   where
-    get : (a b c : Bool) → cond a (cond b Info (cond c (path_reply told (number_in component_mask request) (path_record_in (bytes_in path_data request)))
-        (record_reply told (number_in attribute_id request) request))) (Refused NotSupported) ≡ Path path
+    of_get : (b c : Bool) → cond b Info (cond c (path_reply told (number_in component_mask request) (path_record_in (bytes_in path_data request)))
+        (record_reply told (number_in attribute_id request) request)) ≡ Path path
         → path_reply told (number_in component_mask request) (path_record_in (bytes_in path_data request)) ≡ Path path
-    get true false true u = u
-    get true true c u = absurd (cc)
-    get true false false u = absurd (no_path told (number_in attribute_id request) request path u)
-    get false b c u = absurd (cc)
+    of_get false true u = u
+    of_get true c u = absurd (cc)
+    of_get false false u = absurd (no_path told (number_in attribute_id request) request path u)
+
+    get : (a t : Bool) → cond a (reply_to_get told (number_in attribute_id request) request)
+        (cond t (as_table (reply_to_get told (number_in attribute_id request) request)) (Refused NotSupported)) ≡ Path path
+        → path_reply told (number_in component_mask request) (path_record_in (bytes_in path_data request)) ≡ Path path
+    get true t u = of_get (number_in attribute_id request == 0x0001) (number_in attribute_id request == 0x0035) u
+    get false true u =
+        of_get (number_in attribute_id request == 0x0001) (number_in attribute_id request == 0x0035)
+        (table_path (reply_to_get told (number_in attribute_id request) request) path u)
+    get false false u = absurd (cc)
 
 pub told_between : (told : Told) (request : List ℕ) (path : PathRecord) → reply_to told request ≡ Path path
     → Between told (number_in component_mask request) (path_record_in (bytes_in path_data request)) path

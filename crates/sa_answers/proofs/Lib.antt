@@ -2,6 +2,7 @@ pub mod ArrivedWays
 pub mod Asked
 pub mod Choices
 pub mod Following
+pub mod Gets
 pub mod HeldPaths
 pub mod HeldWays
 pub mod Least

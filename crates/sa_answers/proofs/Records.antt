@@ -1,5 +1,5 @@
 -- Which nodes and ports are told.
-use Rattle.std.proofs.Common.{◌≡◌, ℕ, ◌+◌, Bool, true, false, not, cond, ◌==◌, ◌||◌, inl, inr, List, [], ◌∷◌, Option, None, Some, refl, sym, ap, ◌∙◌, subst, arith}
+use Rattle.std.proofs.Common.{◌≡◌, ◌⊎◌, inl, inr, ℕ, ◌+◌, Bool, true, false, not, cond, ◌==◌, ◌||◌, inl, inr, List, [], ◌∷◌, Option, None, Some, refl, sym, ap, ◌∙◌, subst, arith}
 use Rattle.std.proofs.lemmas.Bool.{and_parts, eq-eqb, eqb-true, true≢false}
 use Rattle.std.proofs.lemmas.List.Sums.{sum_by-cons}
 use Rattle.std.proofs.lemmas.Option.{same_Some}
@@ -15,7 +15,7 @@ use Rattle.subnet_view.specs.declared.end_port.EndPort.{EndPort}
 use Rattle.subnet_view.proofs.Apart.{found_there}
 use Rattle.lid_assign.specs.Lids.{lid_of, owner_of}
 use Rattle.sweep.specs.Images.{image_at}
-use Rattle.sa_bytes.specs.Numbers.{node_record, port_info_record, sa_get}
+use Rattle.sa_bytes.specs.Numbers.{node_record, port_info_record, sa_get, sa_get_table}
 use Rattle.sa_bytes.specs.PathRecord.{path_record_in}
 use Rattle.sa_bytes.specs.SaPacket.{attribute_data, component_mask, lid_data, path_data, port_data}
 use Rattle.sa_bytes.specs.declared.node_record.NodeRecord.{NodeRecord}
@@ -26,12 +26,12 @@ use Rattle.sa_answers.specs.PathReply.{gives, path_between, path_or_none, path_r
 use Rattle.sa_answers.specs.PortReply.{end_port_lid_bit, goes_by, most_of_mask, port_num_bit, info_at, port_reply, port_told, port_with, reply_at, reply_of_owner}
 use Rattle.sa_answers.specs.RecordLaws.{AsksForPort, IsPortOfOwner, NodesAreTold, NodesToldAreThePlans, PortsAreTold, PortsToldAreThePlans, suits_request}
 use Rattle.sa_answers.specs.Ends.{end_asked}
-use Rattle.sa_answers.specs.Reply.{record_reply, reply_to}
+use Rattle.sa_answers.specs.Reply.{as_table, record_reply, reply_to, reply_to_get}
 use Rattle.sa_answers.specs.Told.{Told}
 use Rattle.sa_answers.specs.declared.ends.EndAsked.{EndAsked}
 use Rattle.sa_answers.specs.declared.ends.EndAsked.TheVariants.{Nobody, Unknown, Known}
 use Rattle.sa_answers.specs.declared.reply.Reply.{Reply}
-use Rattle.sa_answers.specs.declared.reply.Reply.TheVariants.{Refused, Info, Path, Node, Port}
+use Rattle.sa_answers.specs.declared.reply.Reply.TheVariants.{Refused, Info, Path, Node, Port, Empty}
 use Rattle.sa_answers.specs.declared.reply.SaRefusal.{SaRefusal}
 use Rattle.sa_answers.specs.declared.reply.SaRefusal.TheVariants.{NotSupported, NoRecords, TooManyRecords, InsufficientComponents}
 
@@ -42,6 +42,7 @@ is_record Info = false
 is_record (Path path) = false
 is_record (Node r) = true
 is_record (Port r) = true
+is_record Empty = false
 
 -- a test that came out true
 yes : (m n : ℕ) → (m == n) ≡ true → m ≡ n
@@ -61,6 +62,18 @@ no_record_between told mask asked Nobody Nobody = refl
 no_record_between told mask asked Nobody (Known target dlid) = refl
 no_record_between told mask asked (Known source slid) Nobody = refl
 
+-- a record in a table is that of a Get
+table_record : (r s : Reply) → is_record s ≡ true → as_table r ≡ s → r ≡ s
+table_record (Refused NoRecords) s some e = absurd (true≢false (sym some ∙ ap is_record (sym e)))
+table_record (Refused NotSupported) s some e = absurd (true≢false (sym some ∙ ap is_record (sym e)))
+table_record (Refused TooManyRecords) s some e = absurd (true≢false (sym some ∙ ap is_record (sym e)))
+table_record (Refused InsufficientComponents) s some e = absurd (true≢false (sym some ∙ ap is_record (sym e)))
+table_record Info s some e = absurd (true≢false (sym some ∙ ap is_record (sym e)))
+table_record (Path path) s some e = absurd (true≢false (sym some ∙ ap is_record (sym e)))
+table_record (Node r) s some e = e
+table_record (Port r) s some e = e
+table_record Empty s some e = absurd (true≢false (sym some ∙ ap is_record (sym e)))
+
 -- the replies about paths and about ports
 abbrev paths_of : Told → List ℕ → Reply
 paths_of told request = path_reply told (number_in component_mask request) (path_record_in (bytes_in path_data request))
@@ -70,14 +83,13 @@ port_of told request = port_reply told (number_in component_mask request) (numbe
 
 -- a request whose reply is about a record is a Get of it
 record Asked (told : Told) (request : List ℕ) (r : Reply) : Type 0 where
-  is_get : (number_in method request == sa_get) ≡ true
+  asks : (number_in method request ≡ sa_get) ⊎ (number_in method request ≡ sa_get_table)
   not_info : (number_in attribute_id request == 0x0001) ≡ false
   not_path : (number_in attribute_id request == 0x0035) ≡ false
   its : record_reply told (number_in attribute_id request) request ≡ r
 
 asked_is : (told : Told) (request : List ℕ) (r : Reply) → is_record r ≡ true → reply_to told request ≡ r → Asked told request r
-asked_is told request r some e =
-    go (number_in method request == sa_get) (number_in attribute_id request == 0x0001) (number_in attribute_id request == 0x0035) refl refl refl e
+asked_is told request r some e = go (number_in method request == sa_get) (number_in method request == sa_get_table) refl refl e
   where
     no_path : is_record (paths_of told request) ≡ false
     no_path =
@@ -85,12 +97,22 @@ asked_is told request r some e =
         let asked = path_record_in (bytes_in path_data request) in
         no_record_between told mask asked (end_asked told (source_said mask asked)) (end_asked told (target_said mask asked))
 
-    go : (a b c : Bool) → (number_in method request == sa_get) ≡ a → (number_in attribute_id request == 0x0001) ≡ b → (number_in attribute_id request == 0x0035) ≡ c
-        → cond a (cond b Info (cond c (paths_of told request) (record_reply told (number_in attribute_id request) request))) (Refused NotSupported) ≡ r → Asked told request r
-    go true false false a b c u = record { is_get = a; not_info = b; not_path = c; its = u }
-    go true true c a b c' u = absurd (true≢false (sym some ∙ ap is_record (sym u)))
-    go true false true a b c u = absurd (true≢false (sym some ∙ ap is_record (sym u) ∙ no_path))
-    go false b c a b' c' u = absurd (true≢false (sym some ∙ ap is_record (sym u)))
+    of_get : (number_in method request ≡ sa_get) ⊎ (number_in method request ≡ sa_get_table) → (b c : Bool) → (number_in attribute_id request == 0x0001) ≡ b
+        → (number_in attribute_id request == 0x0035) ≡ c
+        → cond b Info (cond c (paths_of told request) (record_reply told (number_in attribute_id request) request)) ≡ r → Asked told request r
+    of_get asks false false b c u = record { asks = asks; not_info = b; not_path = c; its = u }
+    of_get asks true c b c' u = absurd (true≢false (sym some ∙ ap is_record (sym u)))
+    of_get asks false true b c u = absurd (true≢false (sym some ∙ ap is_record (sym u) ∙ no_path))
+
+    go : (a t : Bool) → (number_in method request == sa_get) ≡ a → (number_in method request == sa_get_table) ≡ t
+        → cond a (reply_to_get told (number_in attribute_id request) request)
+        (cond t (as_table (reply_to_get told (number_in attribute_id request) request)) (Refused NotSupported)) ≡ r → Asked told request r
+    go true t a_is t_is u =
+        of_get (inl (yes (number_in method request) sa_get a_is)) (number_in attribute_id request == 0x0001) (number_in attribute_id request == 0x0035) refl refl u
+    go false true a_is t_is u =
+        of_get (inr (yes (number_in method request) sa_get_table t_is)) (number_in attribute_id request == 0x0001) (number_in attribute_id request == 0x0035) refl refl
+        (table_record (reply_to_get told (number_in attribute_id request) request) r some u)
+    go false false a_is t_is u = absurd (true≢false (sym some ∙ ap is_record (sym u)))
 
 -- ports ----------------------------------------------------------------------------------------------------------
 
@@ -244,14 +266,20 @@ node_asked told request r e =
     go false true d a u = absurd (no_node u)
     go false false d a u = absurd (cc)
 
--- the reply to a Get of another record than a path
-gets : (told : Told) (request : List ℕ) → number_in method request ≡ sa_get → (number_in attribute_id request == 0x0001) ≡ false
-    → (number_in attribute_id request == 0x0035) ≡ false → reply_to told request ≡ record_reply told (number_in attribute_id request) request
-gets told request get no_info no_path =
-    let n = number_in attribute_id request in
-    let paths = path_reply told (number_in component_mask request) (path_record_in (bytes_in path_data request)) in
-    ap (λ b. cond b (cond (n == 0x0001) Info (cond (n == 0x0035) paths (record_reply told n request))) (Refused NotSupported)) (eq-eqb (number_in method request) sa_get get)
-    ∙ (λ i. cond (no_info i) Info (cond (no_path i) paths (record_reply told n request)))
+-- the reply to a request for another record than a path, if a table leaves it as it is
+gets : (told : Told) (request : List ℕ) (r : Reply) → (number_in method request ≡ sa_get) ⊎ (number_in method request ≡ sa_get_table)
+    → (number_in attribute_id request == 0x0001) ≡ false → (number_in attribute_id request == 0x0035) ≡ false
+    → record_reply told (number_in attribute_id request) request ≡ r → as_table r ≡ r → reply_to told request ≡ r
+gets told request r (inl get) no_info no_path e stays =
+    (λ i. cond (get i == 0x01) (reply_to_get told (number_in attribute_id request) request)
+    (cond (get i == 0x12) (as_table (reply_to_get told (number_in attribute_id request) request)) (Refused NotSupported)))
+    ∙ (λ i. cond (no_info i) Info (cond (no_path i) (paths_of told request) (record_reply told (number_in attribute_id request) request)))
+    ∙ e
+gets told request r (inr table) no_info no_path e stays =
+    (λ i. cond (table i == 0x01) (reply_to_get told (number_in attribute_id request) request)
+    (cond (table i == 0x12) (as_table (reply_to_get told (number_in attribute_id request) request)) (Refused NotSupported)))
+    ∙ (λ i. as_table (cond (no_info i) Info (cond (no_path i) (paths_of told request) (record_reply told (number_in attribute_id request) request))))
+    ∙ ap as_table e ∙ stays
 
 port_asked : (told : Told) (request : List ℕ) (r : PortInfoRecord) → record_reply told (number_in attribute_id request) request ≡ Port r
     → ((number_in attribute_id request == 0x0012) ≡ true)
@@ -299,7 +327,7 @@ nodes_of_plan told request r e =
     let (of_node, found) = node_asked told request r asked.its in
     let made = node_made told found.x r found.told_is in
     let there = found_there (suits_request told request) told.plan.given.ports found.x found.is in (
-      (yes (number_in method request) sa_get asked.is_get, yes (number_in attribute_id request) node_record of_node),
+      (asked.asks, yes (number_in attribute_id request) node_record of_node),
       record {
         end = found.x.0;
         lid = found.x.1;
@@ -357,13 +385,13 @@ nodes_told told request asks by_name one =
     ∙ ap (λ b. cond b (Refused NotSupported) (only_node (count_by (suits_request told request) told.plan.given.ports)
     (option_and_then (node_told told) (find (suits_request told request) told.plan.given.ports)))) by_name
     ∙ only in
-    (has.0, gets told request asks.0 (ap (λ k. k == 0x0001) asks.1) (ap (λ k. k == 0x0035) asks.1) ∙ told_node)
+    (has.0, gets told request (Node has.0) asks.0 (ap (λ k. k == 0x0001) asks.1) (ap (λ k. k == 0x0035) asks.1) told_node refl)
 
 pub ports_of_plan : PortsToldAreThePlans
 ports_of_plan told request r e =
     let asked = asked_is told request (Port r) refl e in
     let (of_port, told_port) = port_asked told request r asked.its in (
-      (yes (number_in method request) sa_get asked.is_get, yes (number_in attribute_id request) port_info_record of_port),
+      (asked.asks, yes (number_in attribute_id request) port_info_record of_port),
       port_owned told request (number_in component_mask request) (number_in lid_data request) (number_in port_data request) r refl told_port,
     )
 
@@ -373,7 +401,8 @@ ports_told told request e port lid image asks owns asks_port first kept =
     let told_port : port_told told e port ≡ Port (record { lid = lid; port = port; info = info_at told e lid port image }) =
     λ i. port_with told e port (first i) (kept i) in
     let made = of_owner told request e port owns asks_port in
-    gets told request asks.0 (ap (λ k. k == 0x0001) asks.1) (ap (λ k. k == 0x0035) asks.1)
-    ∙ ap (λ k. cond (k == 0x0011) (node_reply told (number_in component_mask request) (number_in lid_data request) (node_info_in (bytes_in attribute_data request)))
+    gets told request (Port (record { lid = lid; port = port; info = info_at told e lid port image })) asks.0 (ap (λ k. k == 0x0001) asks.1) (ap (λ k. k == 0x0035) asks.1)
+    (ap (λ k. cond (k == 0x0011) (node_reply told (number_in component_mask request) (number_in lid_data request) (node_info_in (bytes_in attribute_data request)))
     (cond (k == 0x0012) (port_reply told (number_in component_mask request) (number_in lid_data request) (number_in port_data request)) (Refused NotSupported))) asks.1
-    ∙ made ∙ told_port
+    ∙ made ∙ told_port)
+    refl

@@ -24,13 +24,13 @@ use Rattle.lft_blocks.proofs.Reached.{packets_arrive_where_covered}
 use Rattle.lft_blocks.proofs.RulesRoute.{lids_are_routed}
 use Rattle.packet_walks.proofs.Told.{joined_closed}
 use Rattle.plan_steps.specs.Carried.{link_local_prefix}
-use Rattle.sa_bytes.specs.Numbers.{class_port_info, path_record, sa_get}
+use Rattle.sa_bytes.specs.Numbers.{class_port_info, path_record, sa_get, sa_get_table}
 use Rattle.sa_bytes.specs.declared.path_record.PathRecord.{PathRecord}
 use Rattle.sa_answers.specs.AnsweredRequests.{AsksForPath, NamesEnd, PathAsked, PathsAreTold, asked_in, mask_of}
 use Rattle.sa_answers.specs.Bound.{bound_at, lesser}
 use Rattle.sa_answers.specs.Ends.{both_ends, end_asked, end_by_gid, end_by_guid, end_by_lid, end_of, has_guid, is_guid}
 use Rattle.sa_answers.specs.PathReply.{if_suited, life_of, path_between, path_of, path_or_none, path_reply, path_with, reply_between, source_said, suits_path, target_said}
-use Rattle.sa_answers.specs.Reply.{record_reply, reply_to, reply_to_get}
+use Rattle.sa_answers.specs.Reply.{as_table, record_reply, reply_to, reply_to_get}
 use Rattle.sa_answers.specs.Told.{Told}
 use Rattle.sa_answers.specs.Way.{bound_of_way, most_steps}
 use Rattle.sa_answers.specs.declared.bound.Bound.{Bound}
@@ -109,7 +109,8 @@ reply_made told request source slid target dlid asks from to path made =
     let between : path_between told mask asked source slid target dlid ≡ if_suited mask asked path =
     (λ i. path_with mask asked source slid target dlid (made.sgid_is i) (made.dgid_is i) (made.there_is i) (made.back_is i))
     ∙ ap (if_suited mask asked) (sym made.path_is) in
-    ap (λ t. cond t (reply_to_get told (number_in attribute_id request) request) (Refused NotSupported)) (eq-eqb (number_in method request) sa_get asks.is_get)
+    ap (λ t. cond t (reply_to_get told (number_in attribute_id request) request)
+    (cond (number_in method request == sa_get_table) (as_table (reply_to_get told (number_in attribute_id request) request)) (Refused NotSupported))) (eq-eqb (number_in method request) sa_get asks.is_get)
     ∙ ap (λ t. cond t Info (cond (number_in attribute_id request == path_record) (path_reply told mask asked) (record_reply told (number_in attribute_id request) request)))
     (ap (λ n. n == class_port_info) asks.of_path)
     ∙ ap (λ t. cond t (path_reply told mask asked) (record_reply told (number_in attribute_id request) request)) (eq-eqb (number_in attribute_id request) path_record asks.of_path)

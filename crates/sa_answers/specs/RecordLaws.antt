@@ -9,7 +9,7 @@ use Rattle.reply_facts.specs.Known.{node_of, port_guid_of}
 use Rattle.subnet_view.specs.declared.end_port.EndPort.{EndPort}
 use Rattle.lid_assign.specs.Lids.{lid_of, owner_of}
 use Rattle.sweep.specs.Images.{image_at}
-use Rattle.sa_bytes.specs.Numbers.{node_record, port_info_record, sa_get}
+use Rattle.sa_bytes.specs.Numbers.{node_record, port_info_record, sa_get, sa_get_table}
 use Rattle.sa_bytes.specs.SaPacket.{attribute_data, component_mask, lid_data, port_data}
 use Rattle.sa_bytes.specs.declared.node_record.NodeRecord.{NodeRecord}
 use Rattle.sa_bytes.specs.declared.port_info_record.PortInfoRecord.{PortInfoRecord}
@@ -20,9 +20,11 @@ use Rattle.sa_answers.specs.Reply.{reply_to}
 use Rattle.sa_answers.specs.Told.{Told}
 use Rattle.sa_answers.specs.declared.reply.Reply.TheVariants.{Node, Port}
 
--- the request is a Get of a record with the attribute `attribute`
-abbrev pub IsGetOf : ℕ → List ℕ → Type 0
-IsGetOf attribute request = (number_in method request ≡ sa_get) × (number_in attribute_id request ≡ attribute)
+-- the request is a Get or a GetTable of records with the attribute `attribute`
+abbrev pub AsksFor : ℕ → List ℕ → Type 0
+AsksFor attribute request =
+    ((number_in method request ≡ sa_get) ⊎ (number_in method request ≡ sa_get_table))
+    × (number_in attribute_id request ≡ attribute)
 
 -- whether an end port with its first LID has a record that is as a request asks
 abbrev pub suits_request : Told → List ℕ → EndPort × ℕ → Bool
@@ -49,7 +51,7 @@ pub record IsOnlyNode (told : Told) (request : List ℕ) (r : NodeRecord) : Type
 abbrev pub NodesToldAreThePlans : Type 0
 NodesToldAreThePlans =
     (told : Told) (request : List ℕ) (r : NodeRecord) → reply_to told request ≡ Node r
-    → IsGetOf node_record request × IsOnlyNode told request r
+    → AsksFor node_record request × IsOnlyNode told request r
 
 -- `r` is the record of a port of the owner of the LID in the request: the first LID of the owner, and the PortInfo that
 -- the sweep read of the port, as it is told (`info_at`)
@@ -68,13 +70,13 @@ pub record IsPortOfOwner (told : Told) (request : List ℕ) (r : PortInfoRecord)
 abbrev pub PortsToldAreThePlans : Type 0
 PortsToldAreThePlans =
     (told : Told) (request : List ℕ) (r : PortInfoRecord) → reply_to told request ≡ Port r
-    → IsGetOf port_info_record request × IsPortOfOwner told request r
+    → AsksFor port_info_record request × IsPortOfOwner told request r
 
 -- if exactly one end port has a record that is as the request asks, and the request does not ask for a NodeDescription,
 -- a node is told
 abbrev pub NodesAreTold : Type 0
 NodesAreTold =
-    (told : Told) (request : List ℕ) → IsGetOf node_record request
+    (told : Told) (request : List ℕ) → AsksFor node_record request
     → gives (number_in component_mask request) description_bit ≡ false
     → count_by (suits_request told request) told.plan.given.ports ≡ 1
     → (r : NodeRecord) × (reply_to told request ≡ Node r)
@@ -89,7 +91,7 @@ AsksForPort request e port =
 -- if the sweep kept the PortInfo of a port, a request for it by the LID of its end port is answered with it
 abbrev pub PortsAreTold : Type 0
 PortsAreTold =
-    (told : Told) (request : List ℕ) (e : EndPort) (port lid : ℕ) (image : List ℕ) → IsGetOf port_info_record request
+    (told : Told) (request : List ℕ) (e : EndPort) (port lid : ℕ) (image : List ℕ) → AsksFor port_info_record request
     → owner_of told.plan.given (number_in lid_data request) ≡ Some e → AsksForPort request e port
     → lid_of told.plan.given e ≡ Some lid → image_at told.images e.node port ≡ Some image
     → reply_to told request ≡ Port (record { lid = lid; port = port; info = info_at told e lid port image })

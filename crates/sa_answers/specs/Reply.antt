@@ -6,7 +6,7 @@ use Rattle.smp_bytes.specs.Packet.{attribute_id, method}
 use Rattle.attr_codec.specs.NodeInfo.{node_info_in}
 use Rattle.sa_bytes.specs.Answer.{sa_answer}
 use Rattle.sa_bytes.specs.ClassPortInfo.{class_port_info_bytes}
-use Rattle.sa_bytes.specs.Numbers.{class_port_info, insufficient_components, no_records, node_record, not_supported, path_record, port_info_record, sa_done, sa_get, too_many_records}
+use Rattle.sa_bytes.specs.Numbers.{class_port_info, insufficient_components, no_records, node_record, not_supported, path_record, port_info_record, sa_done, sa_get, sa_get_table, too_many_records}
 use Rattle.sa_bytes.specs.NodeRecord.{node_record_bytes}
 use Rattle.sa_bytes.specs.PathRecord.{path_record_bytes, path_record_in}
 use Rattle.sa_bytes.specs.PortInfoRecord.{port_info_record_bytes}
@@ -18,7 +18,7 @@ use Rattle.sa_answers.specs.Told.{Told}
 use Rattle.sa_answers.specs.declared.reply.SaRefusal.{SaRefusal}
 use Rattle.sa_answers.specs.declared.reply.SaRefusal.TheVariants.{NotSupported, NoRecords, TooManyRecords, InsufficientComponents}
 use Rattle.sa_answers.specs.declared.reply.Reply.{Reply}
-use Rattle.sa_answers.specs.declared.reply.Reply.TheVariants.{Refused, Info, Path, Node, Port}
+use Rattle.sa_answers.specs.declared.reply.Reply.TheVariants.{Refused, Info, Path, Node, Port, Empty}
 
 -- the status that says why a request is refused
 abbrev pub refusal_status : SaRefusal → ℕ
@@ -45,11 +45,26 @@ reply_to_get told attribute request =
     then path_reply told (number_in component_mask request) (path_record_in (bytes_in path_data request))
     else record_reply told attribute request)
 
--- the reply to a request: Get of ClassPortInfo, PathRecord, NodeRecord and PortInfoRecord is supported
+-- the reply to a request for a table, where a Get with the same components is replied to as given: a table of one record,
+-- or of none if no record is as the request asks. Other tables are not supported
+abbrev pub as_table : Reply → Reply
+as_table (Refused NoRecords) = Empty
+as_table (Refused NotSupported) = Refused NotSupported
+as_table (Refused TooManyRecords) = Refused NotSupported
+as_table (Refused InsufficientComponents) = Refused NotSupported
+as_table Info = Refused NotSupported
+as_table (Path path) = Path path
+as_table (Node r) = Node r
+as_table (Port r) = Port r
+as_table Empty = Empty
+
+-- the reply to a request: Get of ClassPortInfo, PathRecord, NodeRecord and PortInfoRecord is supported, and GetTable of
+-- these records where no more than one is as the request asks
 abbrev pub reply_to : Told → List ℕ → Reply
 reply_to told request =
     if number_in method request == sa_get then reply_to_get told (number_in attribute_id request) request
-    else Refused NotSupported
+    else (if number_in method request == sa_get_table
+    then as_table (reply_to_get told (number_in attribute_id request) request) else Refused NotSupported)
 
 -- the status of a reply
 abbrev pub status_of : Reply → ℕ
@@ -58,6 +73,7 @@ status_of Info = sa_done
 status_of (Path path) = sa_done
 status_of (Node r) = sa_done
 status_of (Port r) = sa_done
+status_of Empty = sa_done
 
 -- AttributeOffset of a reply, in units of 8 bytes: a path has 64 bytes, a node 112, a port 72; ClassPortInfo is no record
 abbrev pub offset_of : Reply → ℕ
@@ -66,16 +82,33 @@ offset_of Info = 0
 offset_of (Path path) = 8
 offset_of (Node r) = 14
 offset_of (Port r) = 9
+offset_of Empty = 0
 
--- the bytes of a reply; none if the request is refused
+-- the bytes of a reply; none if the request is refused, or the table has no record
 abbrev pub bytes_of : Reply → List ℕ
 bytes_of (Refused refusal) = []
 bytes_of Info = class_port_info_bytes
 bytes_of (Path path) = path_record_bytes path
 bytes_of (Node r) = node_record_bytes r
 bytes_of (Port r) = port_info_record_bytes r
+bytes_of Empty = []
+
+-- the number of bytes of a table from SM_Key to the end of its records; 0 for what is no table
+abbrev pub table_payload : Reply → ℕ
+table_payload (Refused refusal) = 0
+table_payload Info = 0
+table_payload (Path path) = 84
+table_payload (Node r) = 132
+table_payload (Port r) = 92
+table_payload Empty = 20
+
+-- the same for the reply to a request with the method `asked`
+abbrev pub payload_of : ℕ → Reply → ℕ
+payload_of asked reply = if asked == sa_get_table then table_payload reply else 0
 
 -- the packet that answers a request
 abbrev pub answer_to : Told → List ℕ → List ℕ
 answer_to told request =
-    sa_answer request (status_of (reply_to told request)) (offset_of (reply_to told request)) (bytes_of (reply_to told request))
+    sa_answer request (status_of (reply_to told request))
+    (payload_of (number_in method request) (reply_to told request)) (offset_of (reply_to told request))
+    (bytes_of (reply_to told request))

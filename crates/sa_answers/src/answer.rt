@@ -1,10 +1,11 @@
 //! The answer to a request.
 ghost use Rattle.std.specs.Prelude.{◌≡◌};
 ghost use Rattle.smp_bytes.specs.Field.{bytes_in, number_in};
-ghost use Rattle.smp_bytes.specs.Packet.{attribute_id};
+ghost use Rattle.smp_bytes.specs.Packet.{attribute_id, method};
 ghost use Rattle.sa_bytes.specs.Answer.{sa_answer};
 ghost use Rattle.sa_bytes.specs.PathRecord.{path_record_in};
-ghost use Rattle.sa_answers.specs.Reply.{answer_to, bytes_of, offset_of, record_reply, reply_to, reply_to_get, status_of};
+ghost use Rattle.sa_answers.specs.Reply.{answer_to, as_table, bytes_of, offset_of, payload_of, record_reply, reply_to};
+ghost use Rattle.sa_answers.specs.Reply.{reply_to_get, status_of, table_payload};
 ghost use Rattle.sa_answers.specs.Told.{value_of};
 
 use crate::node_reply::node_reply;
@@ -17,7 +18,8 @@ use sa_bytes::{PathRecord, SaAttributeId, SaMethod, SaRequest, SaStatus, sa_clas
 
 /// Returns the answer to `request` by what is told. Get of ClassPortInfo, PathRecord,
 /// NodeRecord and PortInfoRecord is supported. A path is told if packets arrive on it there and back, and if it is as the
-/// request asks; a node or a port, if no other is as the request asks. Does not allocate.
+/// request asks; a node or a port, if no other is as the request asks. GetTable of
+/// these records is supported if no more than one is as the request asks. Does not allocate.
 pub fn answer_of(told: &Told<'_>, request: &SaRequest) -> [u8; 256]
     ensures { result ≡ answer_to (value_of told.now) request.now }
 {
@@ -26,14 +28,41 @@ pub fn answer_of(told: &Told<'_>, request: &SaRequest) -> [u8; 256]
 
 /// Returns the packet that answers `request` with `reply`.
 fn answer_with(request: &SaRequest, reply: Reply) -> [u8; 256]
-    ensures { result ≡ sa_answer request.now (status_of reply) (offset_of reply) (bytes_of reply) }
+    ensures { result ≡ sa_answer request.now (status_of reply) (payload_of (number_in method request.now) reply)
+        (offset_of reply) (bytes_of reply) }
+{
+    let payload = payload_of(request.method(), &reply);
+    match reply {
+        Reply::Refused(refusal) => request.answer(refusal.status(), payload, 0, &[]),
+        Reply::Info => request.answer(SaStatus::DONE, payload, 0, &sa_class_port_info()),
+        Reply::Path(path) => request.answer(SaStatus::DONE, payload, 8, &path.encode()),
+        Reply::Node(record) => request.answer(SaStatus::DONE, payload, 14, &record.encode()),
+        Reply::Port(record) => request.answer(SaStatus::DONE, payload, 9, &record.encode()),
+        Reply::Empty => request.answer(SaStatus::DONE, payload, 0, &[]),
+    }
+}
+
+/// Returns the number of bytes of a table from SM_Key to the end of its records, or 0 if `reply` is no table.
+fn payload_of(method: SaMethod, reply: &Reply) -> u32
+    ensures { result ≡ payload_of method.0 reply.now }
+{
+    if method == SaMethod::GET_TABLE {
+        table_payload(reply)
+    } else {
+        0
+    }
+}
+
+/// Returns the number of bytes of a table from SM_Key to the end of its records.
+fn table_payload(reply: &Reply) -> u32
+    ensures { result ≡ table_payload reply.now }
 {
     match reply {
-        Reply::Refused(refusal) => request.answer(refusal.status(), 0, &[]),
-        Reply::Info => request.answer(SaStatus::DONE, 0, &sa_class_port_info()),
-        Reply::Path(path) => request.answer(SaStatus::DONE, 8, &path.encode()),
-        Reply::Node(record) => request.answer(SaStatus::DONE, 14, &record.encode()),
-        Reply::Port(record) => request.answer(SaStatus::DONE, 9, &record.encode()),
+        Reply::Refused(_) | Reply::Info => 0,
+        Reply::Path(_) => 84,
+        Reply::Node(_) => 132,
+        Reply::Port(_) => 92,
+        Reply::Empty => 20,
     }
 }
 
@@ -41,10 +70,24 @@ fn answer_with(request: &SaRequest, reply: Reply) -> [u8; 256]
 fn reply_to(told: &Told<'_>, request: &SaRequest) -> Reply
     ensures { result ≡ reply_to (value_of told.now) request.now }
 {
-    if request.method() == SaMethod::GET {
+    let method = request.method();
+    if method == SaMethod::GET {
         reply_to_get(told, request)
+    } else if method == SaMethod::GET_TABLE {
+        as_table(reply_to_get(told, request))
     } else {
         Reply::Refused(SaRefusal::NotSupported)
+    }
+}
+
+/// Returns the reply to a request for a table, where a Get with the same components is replied to with `reply`.
+fn as_table(reply: Reply) -> Reply
+    ensures { result ≡ as_table reply }
+{
+    match reply {
+        Reply::Refused(SaRefusal::NoRecords) => Reply::Empty,
+        Reply::Refused(_) | Reply::Info => Reply::Refused(SaRefusal::NotSupported),
+        other => other,
     }
 }
 

@@ -10,7 +10,8 @@ pub fn answers_are_the_requests()
     ensures { AnswersAreTheRequests }
 {}
 
-/// The status of an answer is 0 exactly if a record, or ClassPortInfo, is told.
+/// The status of an answer is 0 exactly if a record, or ClassPortInfo, is told, or a table without a record, since the
+/// request asks for a table, and no record is as it asks.
 pub fn done_if_told()
     ensures { DoneIfTold }
 {}

@@ -39,4 +39,6 @@ pub enum Reply {
     Path(PathRecord),
     Node(NodeRecord),
     Port(PortInfoRecord),
+    /// A table without a record.
+    Empty,
 }

@@ -13,7 +13,7 @@ use Rattle.attr_codec.specs.RoundTrip.{number_in-image}
 use Rattle.sa_bytes.specs.Answer.{answer_entries, sa_answer}
 use Rattle.sa_bytes.specs.PathRecord.{path_entries}
 use Rattle.sa_bytes.specs.ReadBack.{PathReadsBack, SaAnswerReadsBack}
-use Rattle.sa_bytes.specs.SaPacket.{component_mask, rmpp, sm_key}
+use Rattle.sa_bytes.specs.SaPacket.{component_mask, sm_key}
 
 pub path_back : PathReadsBack
 path_back path fits =
@@ -42,41 +42,50 @@ answering_small : (asked : ℕ) (b : Bool) → (if b then 0x81 else 0x80 + asked
 answering_small asked true = omega arith
 answering_small asked false = omega arith
 
+-- what a packet is in RMPP fits
+kind_fits : (b : Bool) → (if b then 0 else 0x0101FF00) < 256 ^ 4
+kind_fits true = omega arith
+kind_fits false = omega arith
+
+segment_fits : (b : Bool) → (if b then 0 else 1) < 256 ^ 4
+segment_fits true = omega arith
+segment_fits false = omega arith
+
 answering_answers : (asked : ℕ) (b : Bool) → ((if b then 0x81 else 0x80 + asked % 0x80) / 2 ^ 7 % 2 ^ 1 == 1) ≡ true
 answering_answers asked true = refl
 answering_answers asked false = let e : (0x80 + asked % 0x80) / 2 ^ 7 % 2 ^ 1 ≡ 1 = omega arith in ap (λ n. n == 1) e
 
-module _ (request : List ℕ) (status offset : ℕ) (bytes : List ℕ) (short : length bytes ≤ 200) where
+module _ (request : List ℕ) (status payload offset : ℕ) (bytes : List ℕ) (short : length bytes ≤ 200) where
   -- the answer before its record is written
   header : List ℕ
-  header = with_numbers (answer_entries request status offset) (replicate 256 0)
+  header = with_numbers (answer_entries request status payload offset) (replicate 256 0)
 
   length-header : length header ≡ 256
   unfolding header
-  length-header = length-with_numbers 256 (answer_entries request status offset) (replicate 256 0) refl refl
+  length-header = length-with_numbers 256 (answer_entries request status payload offset) (replicate 256 0) refl refl
 
   -- a field of the header is not touched by the record
-  in_header : (f : Field) → f.at + f.len ≤ 56 → number_in f (sa_answer request status offset bytes) ≡ number_in f header
+  in_header : (f : Field) → f.at + f.len ≤ 56 → number_in f (sa_answer request status payload offset bytes) ≡ number_in f header
   unfolding header
   in_header f before =
       let long = length-header in
       number_in-with_bytes f 56 bytes header (omega arith) (inl before)
 
   -- the i-th field that is written holds its number
-  written : (i : ℕ) (e : Entry) → e.field.at + e.field.len ≤ 56 → slice_get (answer_entries request status offset) i ≡ Some e
-      → e.number < 256 ^ e.field.len → number_in e.field (sa_answer request status offset bytes) ≡ e.number
+  written : (i : ℕ) (e : Entry) → e.field.at + e.field.len ≤ 56 → slice_get (answer_entries request status payload offset) i ≡ Some e
+      → e.number < 256 ^ e.field.len → number_in e.field (sa_answer request status payload offset bytes) ≡ e.number
   unfolding header
   written i e before there small =
       in_header e.field before
-      ∙ number_in-with_numbers 256 (answer_entries request status offset) (replicate 256 0) i e refl refl there small
+      ∙ number_in-with_numbers 256 (answer_entries request status payload offset) (replicate 256 0) i e refl refl there small
 
   -- a field apart from them is 0
-  not_written : (f : Field) → f.at + f.len ≤ 56 → is_apart_from 256 f (answer_entries request status offset) ≡ true
-      → number_in f (sa_answer request status offset bytes) ≡ number_in f (replicate 256 0)
+  not_written : (f : Field) → f.at + f.len ≤ 56 → is_apart_from 256 f (answer_entries request status payload offset) ≡ true
+      → number_in f (sa_answer request status payload offset bytes) ≡ number_in f (replicate 256 0)
   unfolding header
   not_written f before apart =
       in_header f before
-      ∙ number_in-with_numbers_apart 256 f (answer_entries request status offset) (replicate 256 0) refl apart
+      ∙ number_in-with_numbers_apart 256 f (answer_entries request status payload offset) (replicate 256 0) refl apart
 
 -- a number that was read fits in its field
 read_fits : (f : Field) (request : List ℕ) → All (λ byte. byte < 256) request → number_in f request < 256 ^ f.len
@@ -86,28 +95,30 @@ read_fits f request all =
 
 pub answer_back : SaAnswerReadsBack
 unfolding header
-answer_back request status offset bytes all status_fits offset_fits short =
-    let put = written request status offset bytes short in
-    let none = not_written request status offset bytes short in
-    let long = length-header request status offset bytes short in
+answer_back request status payload offset bytes all status_fits payload_fits offset_fits short =
+    let put = written request status payload offset bytes short in
+    let none = not_written request status payload offset bytes short in
+    let long = length-header request status payload offset bytes short in
     let asked = number_in method request in
     let method_is = put 3 _ (omega arith) refl (answering_small asked (asked == 0x02)) in
     record {
-      count = length-with_bytes 56 bytes (header request status offset bytes short) (omega arith) ∙ long;
+      count = length-with_bytes 56 bytes (header request status payload offset bytes short) (omega arith) ∙ long;
       base_version = put 0 _ (omega arith) refl (omega arith);
       class = put 1 _ (omega arith) refl (omega arith);
       class_version = put 2 _ (omega arith) refl (omega arith);
       method = method_is;
       response =
-          ap (λ n. n / 2 ^ 7 % 2 ^ 1 == 1) (sym (byte-number_in 3 (sa_answer request status offset bytes)) ∙ method_is)
+          ap (λ n. n / 2 ^ 7 % 2 ^ 1 == 1) (sym (byte-number_in 3 (sa_answer request status payload offset bytes)) ∙ method_is)
           ∙ answering_answers asked (asked == 0x02);
       status = put 4 _ (omega arith) refl status_fits;
       transaction_id = put 5 _ (omega arith) refl (read_fits transaction_id request all);
       attribute_id = put 6 _ (omega arith) refl (read_fits attribute_id request all);
       attribute_modifier = put 7 _ (omega arith) refl (read_fits attribute_modifier request all);
-      alone = none rmpp (omega arith) refl;
+      rmpp_kind = put 8 _ (omega arith) refl (kind_fits (payload == 0));
+      segment_number = put 9 _ (omega arith) refl (segment_fits (payload == 0));
+      payload_length = put 10 _ (omega arith) refl payload_fits;
       sm_key = none sm_key (omega arith) refl;
-      attribute_offset = put 8 _ (omega arith) refl offset_fits;
-      component_mask = put 9 _ (omega arith) refl (read_fits component_mask request all);
-      bytes = bytes_in-with_bytes 56 bytes (header request status offset bytes short) (omega arith);
+      attribute_offset = put 11 _ (omega arith) refl offset_fits;
+      component_mask = put 12 _ (omega arith) refl (read_fits component_mask request all);
+      bytes = bytes_in-with_bytes 56 bytes (header request status payload offset bytes short) (omega arith);
     }

@@ -18,6 +18,10 @@ sa_get = 0x01
 abbrev pub sa_set : ℕ
 sa_set = 0x02
 
+-- the method GetTable, a request for all records that are as it asks
+abbrev pub sa_get_table : ℕ
+sa_get_table = 0x12
+
 -- the method GetResp, the answer to Get and to Set
 abbrev pub sa_get_resp : ℕ
 sa_get_resp = 0x81

@@ -4,9 +4,9 @@ use Rattle.std.specs.Prelude.{◌≡◌, ℕ, ◌^◌, ◌<◌, ◌≤◌, List,
 use Rattle.smp_bytes.specs.Field.{bytes_in, number_in}
 use Rattle.smp_bytes.specs.Packet.{base_version, mgmt_class, class_version, method, status_word, transaction_id, attribute_id, attribute_modifier, is_response}
 use Rattle.sa_bytes.specs.Numbers.{sa_class, sa_version}
-use Rattle.sa_bytes.specs.SaPacket.{attribute_offset, component_mask, record_data, rmpp, sm_key}
+use Rattle.sa_bytes.specs.SaPacket.{attribute_offset, component_mask, payload_length, record_data, rmpp_kind, segment_number, sm_key}
 use Rattle.attr_codec.specs.NodeInfo.{node_info_bytes}
-use Rattle.sa_bytes.specs.Answer.{answering, sa_answer}
+use Rattle.sa_bytes.specs.Answer.{answering, kind_of, sa_answer, segment_of}
 use Rattle.sa_bytes.specs.NodeRecord.{node_info_data, node_lid, node_record_bytes}
 use Rattle.sa_bytes.specs.PathRecord.{FitsPathRecord, path_record_bytes, path_record_in}
 use Rattle.sa_bytes.specs.PortInfoRecord.{port_info_data, port_info_record_bytes, port_lid, port_number}
@@ -16,8 +16,9 @@ use Rattle.sa_bytes.specs.declared.path_record.PathRecord.{PathRecord}
 
 -- `answer` is a packet of subnet administration that answers `request`: it has the request's TransactionID, attribute,
 -- modifier and component mask, and the method that answers the request's. It has the status, the AttributeOffset and
--- the bytes that are given. It is alone, and names no SM_Key
-pub record HoldsSaAnswer (request answer : List ℕ) (given offset : ℕ) (written : List ℕ) : Type 0 where
+-- the bytes that are given. It is alone if it has no payload, and otherwise the only packet of a table (`kind_of`). It
+-- names no SM_Key
+pub record HoldsSaAnswer (request answer : List ℕ) (given payload offset : ℕ) (written : List ℕ) : Type 0 where
   pub count : length answer ≡ 256
   pub base_version : number_in base_version answer ≡ 1
   pub class : number_in mgmt_class answer ≡ sa_class
@@ -28,7 +29,9 @@ pub record HoldsSaAnswer (request answer : List ℕ) (given offset : ℕ) (writt
   pub transaction_id : number_in transaction_id answer ≡ number_in transaction_id request
   pub attribute_id : number_in attribute_id answer ≡ number_in attribute_id request
   pub attribute_modifier : number_in attribute_modifier answer ≡ number_in attribute_modifier request
-  pub alone : number_in rmpp answer ≡ 0
+  pub rmpp_kind : number_in rmpp_kind answer ≡ kind_of payload
+  pub segment_number : number_in segment_number answer ≡ segment_of payload
+  pub payload_length : number_in payload_length answer ≡ payload
   pub sm_key : number_in sm_key answer ≡ 0
   pub attribute_offset : number_in attribute_offset answer ≡ offset
   pub component_mask : number_in component_mask answer ≡ number_in component_mask request
@@ -38,9 +41,9 @@ pub record HoldsSaAnswer (request answer : List ℕ) (given offset : ℕ) (writt
 -- for the bytes
 abbrev pub SaAnswerReadsBack : Type 0
 SaAnswerReadsBack =
-    (request : List ℕ) (status offset : ℕ) (bytes : List ℕ) → All (λ byte. byte < 256) request
-    → status < 2 ^ 16 → offset < 2 ^ 16 → length bytes ≤ 200
-    → HoldsSaAnswer request (sa_answer request status offset bytes) status offset bytes
+    (request : List ℕ) (status payload offset : ℕ) (bytes : List ℕ) → All (λ byte. byte < 256) request
+    → status < 2 ^ 16 → payload < 2 ^ 32 → offset < 2 ^ 16 → length bytes ≤ 200
+    → HoldsSaAnswer request (sa_answer request status payload offset bytes) status payload offset bytes
 
 -- a path whose numbers fit in their fields is read back from the bytes that spell it
 abbrev pub PathReadsBack : Type 0

@@ -5,9 +5,18 @@ use Rattle.smp_bytes.specs.Field.{Field, number_in}
 use Rattle.smp_bytes.specs.Packet.{base_version, mgmt_class, class_version, is_response}
 use Rattle.sa_bytes.specs.Numbers.{sa_class, sa_version}
 
--- the fields of the reliable multi-packet protocol (RMPP); 0 in a packet that is alone
-abbrev pub rmpp : Field
-rmpp = record { at = 24; len = 12 }
+-- RMPPVersion, RMPPType, RRespTime with RMPPFlags, and RMPPStatus, a byte each: what a packet is in the reliable
+-- multi-packet protocol (RMPP); 0 in a packet that is alone
+abbrev pub rmpp_kind : Field
+rmpp_kind = record { at = 24; len = 4 }
+
+-- SegmentNumber of RMPP
+abbrev pub segment_number : Field
+segment_number = record { at = 28; len = 4 }
+
+-- PayloadLength of RMPP: the number of bytes from SM_Key to the end of the records
+abbrev pub payload_length : Field
+payload_length = record { at = 32; len = 4 }
 
 -- SM_Key
 abbrev pub sm_key : Field

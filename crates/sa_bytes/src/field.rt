@@ -20,6 +20,12 @@ pub const ATTRIBUTE_ID: usize = 16;
 
 pub const ATTRIBUTE_MODIFIER: usize = 20;
 
+pub const RMPP_KIND: usize = 24;
+
+pub const SEGMENT_NUMBER: usize = 28;
+
+pub const PAYLOAD_LENGTH: usize = 32;
+
 pub const ATTRIBUTE_OFFSET: usize = 44;
 
 pub const COMPONENT_MASK: usize = 48;

@@ -2,7 +2,8 @@
 ghost use Rattle.sa_bytes.specs.ReadBack.{NodeReadsBack, PathReadsBack, PortReadsBack, SaAnswerReadsBack};
 
 /// An answer has the request's TransactionID, attribute, modifier and component mask, and the method that answers the
-/// request's. It has the status, the AttributeOffset and the record that were given, if they fit.
+/// request's. It has the status, the AttributeOffset and the record that were given, if they fit, and is the only
+/// packet of a table if it has a payload.
 pub fn sa_answer_reads_back()
     ensures { SaAnswerReadsBack }
 {}

@@ -8,6 +8,9 @@ impl SaMethod {
 
     pub const SET: SaMethod = SaMethod(0x02);
 
+    /// A request for all records that are as it asks.
+    pub const GET_TABLE: SaMethod = SaMethod(0x12);
+
     /// The answer to a Get or a Set.
     pub const GET_RESP: SaMethod = SaMethod(0x81);
 }

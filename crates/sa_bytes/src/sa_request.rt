@@ -1,7 +1,7 @@
 ghost use Rattle.std.specs.Prelude.{◌≡◌, ◌≤◌, ◌<◌, ◌^◌, length, true, None, Some, if◌then◌else◌};
 ghost use Rattle.smp_bytes.specs.Field.{bytes_in, number_in};
 ghost use Rattle.smp_bytes.specs.Packet.{method, transaction_id, attribute_id, attribute_modifier};
-ghost use Rattle.sa_bytes.specs.Answer.{answering, sa_answer};
+ghost use Rattle.sa_bytes.specs.Answer.{answering, kind_of, sa_answer, segment_of};
 ghost use Rattle.sa_bytes.specs.SaPacket.{attribute_data, component_mask, is_sa_request, lid_data, path_data, port_data};
 
 use crate::field;
@@ -40,6 +40,9 @@ const SA_CLASS: u8 = 0x03;
 
 /// The value of ClassVersion.
 const SA_VERSION: u8 = 2;
+
+/// The first bytes of RMPP in the only packet of a table: version 1, data, no response time, active, first and last.
+const ONLY_SEGMENT: u32 = 0x0101_FF00;
 
 impl SaRequest {
     /// Parses 256 bytes as a request, and keeps them as they are. Returns `None` if they are none: another class or
@@ -128,11 +131,12 @@ impl SaRequest {
         data
     }
 
-    /// Returns the answer with the status `status` and with `body`, which may be empty. `offset` is AttributeOffset,
-    /// in units of 8 bytes. Everything that is not given is the request's or 0. `body` must have at most 200 bytes.
-    pub fn answer(&self, status: SaStatus, offset: u16, body: &[u8]) -> [u8; 256]
+    /// Returns the answer with the status `status` and with `body`, which may be empty. `payload` is the number of bytes
+    /// from SM_Key to the end of the records if the answer is a table, and otherwise 0; `offset` is AttributeOffset, in
+    /// units of 8 bytes. Everything that is not given is the request's or 0. `body` must have at most 200 bytes.
+    pub fn answer(&self, status: SaStatus, payload: u32, offset: u16, body: &[u8]) -> [u8; 256]
         requires { length body.now ≤ 200 }
-        ensures { result ≡ sa_answer self.now status.0 offset body.now }
+        ensures { result ≡ sa_answer self.now status.0 payload offset body.now }
     {
         let mut bytes = [0; 256];
         put_u8(&mut bytes, field::BASE_VERSION, BASE_VERSION);
@@ -147,6 +151,9 @@ impl SaRequest {
             field::ATTRIBUTE_MODIFIER,
             self.attribute_modifier(),
         );
+        put_u32(&mut bytes, field::RMPP_KIND, kind_of(payload));
+        put_u32(&mut bytes, field::SEGMENT_NUMBER, segment_of(payload));
+        put_u32(&mut bytes, field::PAYLOAD_LENGTH, payload);
         put_u16(&mut bytes, field::ATTRIBUTE_OFFSET, offset);
         put_u64(&mut bytes, field::COMPONENT_MASK, self.component_mask());
         put_bytes(&mut bytes, field::RECORD, body);
@@ -174,4 +181,18 @@ fn is_sa_request(bytes: &[u8; 256]) -> bool
         && u8_at(bytes, field::MGMT_CLASS) == SA_CLASS
         && u8_at(bytes, field::CLASS_VERSION) == SA_VERSION
         && bits_at(bytes, field::METHOD, field::RESPONSE_BIT, 1) != 1
+}
+
+/// Returns what a packet with a payload is in RMPP, or 0 if it has none.
+fn kind_of(payload: u32) -> u32
+    ensures { result ≡ kind_of payload }
+{
+    if payload == 0 { 0 } else { ONLY_SEGMENT }
+}
+
+/// Returns the number of the only segment of a payload, or 0 if there is none.
+fn segment_of(payload: u32) -> u32
+    ensures { result ≡ segment_of payload }
+{
+    if payload == 0 { 0 } else { 1 }
 }
