@@ -77,12 +77,7 @@ pub fn out_of_memory(store: &Store, lmc: Lmc) -> LidFault
     }
 }
 
-<<<<<<< ours
-/// Returns the end ports, each with its LID, or `None` if some end port finds no LID. `ports` must be the end ports of
-/// `store`, in the order of `end_ports`. Returns an error if memory runs out.
-=======
-/// Returns the end ports in the order of `end_ports`, each with its LID, or `None` if some end port finds no LID.
->>>>>>> theirs
+/// Returns `ports`, each with its LID, or `None` if some end port finds no LID.
 fn handed_out(
     alloc: Global,
     store: &Store,
