@@ -147,8 +147,7 @@ impl Plan {
     }
 }
 
-/// Returns the table of each usable switch under `rule`, in ascending order of GUID. `graph` must be the graph of
-/// `wires`.
+/// Returns the table of each usable switch under `rule`, in ascending order of GUID.
 fn tables_of(
     alloc: Global,
     wires: &Wires,
@@ -168,8 +167,7 @@ fn tables_of(
     }
 }
 
-/// Returns the table of each usable switch under the rule that spreads by `order`, in ascending order of GUID. `graph`
-/// must be the graph of `wires`.
+/// Returns the table of each usable switch under the rule that spreads by `order`, in ascending order of GUID.
 fn by_spread(
     alloc: Global,
     wires: &Wires,
@@ -188,8 +186,7 @@ fn by_spread(
     Ok(spread_tables(alloc, wires, graph, &attachments, lmc, order, count)?)
 }
 
-/// Returns the table of each usable switch under up/down routing, in ascending order of GUID. `graph` must be the graph
-/// of `wires`.
+/// Returns the table of each usable switch under up/down routing, in ascending order of GUID.
 fn by_updown(
     alloc: Global,
     wires: &Wires,

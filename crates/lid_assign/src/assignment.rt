@@ -52,8 +52,7 @@ pub fn assign_in(alloc: Global, subnet: &Subnet, lmc: Lmc) -> Result<LidMap, Lid
     assign_to(alloc, subnet.store(), lmc, subnet.end_ports())
 }
 
-/// Assigns a LID to each of `ports`, as `assign` does. `ports` must be the end ports of `store`, in the order of
-/// `end_ports`.
+/// Assigns a LID to each of `ports`, as `assign` does.
 fn assign_to(alloc: Global, store: &Store, lmc: Lmc, ports: &[EndPort]) -> Result<LidMap, LidFault>
     requires { ports.now ≡ end_ports (cells_of store.now) }
     ensures judged { JudgesButFor is_memory result (lid_fault (no_room lmc (cells_of store.now))) }

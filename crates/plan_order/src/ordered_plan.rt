@@ -116,7 +116,7 @@ fn by_spread(
 }
 
 /// Returns the usable switches in the order of the rule that spreads by `order`, and an order that names them so. Loads
-/// are balanced in that order exactly if they are in `order`. `graph` must be the graph of `wires`.
+/// are balanced in that order exactly if they are in `order`.
 fn named(
     alloc: Global,
     wires: &Wires,

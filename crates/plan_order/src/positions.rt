@@ -44,8 +44,7 @@ fn by_rank(alloc: Global, graph: &SwitchGraph) -> Result<Vec<usize>, AllocError>
     Ok(positions)
 }
 
-/// Returns the position of each usable switch, in ascending order of GUID, in the order of the rule that spreads by
-/// `order`. `graph` must be the graph of `wires`.
+/// Returns the position of each usable switch, by ascending GUID, in the order of the rule that spreads by `order`.
 fn by_spread(
     alloc: Global,
     wires: &Wires,
