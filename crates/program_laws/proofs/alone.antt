@@ -8,6 +8,8 @@ pub mod Leading
 pub mod LoneAtSeat
 pub mod LoneExample
 pub mod LoneHealing
+pub mod LoneLines
+pub mod LoneTurns
 pub mod Moves
 pub mod Needs
 pub mod OtherMasters
