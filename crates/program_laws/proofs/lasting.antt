@@ -6,6 +6,7 @@ pub mod Counted
 pub mod EventLines
 pub mod FirstPlans
 pub mod GoodLines
+pub mod GoesWell
 pub mod Healing
 pub mod HealingAtSeat
 pub mod HealingExample

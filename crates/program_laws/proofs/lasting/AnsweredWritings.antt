@@ -1,18 +1,17 @@
 -- A writing of which nothing was given up, and each answer to which had status 0, is written.
-use Rattle.std.proofs.Common.{◌≡◌, ◌∙◌, ◌⊎◌, inl, inr, ℕ, zero, suc, ◌<◌, ◌≤◌, ◌^◌, Bool, true, false, cond, ◌&&◌, not, List, [], ◌∷◌, ◌++◌, length, refl, sym, ap, subst}
+use Rattle.std.proofs.Common.{◌≡◌, ◌∙◌, ◌⊎◌, inl, inr, ℕ, zero, suc, ◌<◌, ◌^◌, Bool, true, false, cond, ◌&&◌, List, [], ◌∷◌, ◌++◌, length, refl, sym, ap, subst}
 use Rattle.std.proofs.lemmas.Bool.{both_ways, cond_both, cond-false, cond-true, or_parts}
 use Rattle.std.proofs.lemmas.Option.{same_Some}
 use Rattle.std.specs.List.{list_any}
 use Rattle.std.specs.Prelude.{◌==◌, Contains, Option, Some, None, is_none, max}
 use Rattle.smp_bytes.specs.Field.{number_in}
-use Rattle.smp_bytes.specs.Header.{done}
 use Rattle.smp_bytes.specs.Packet.{fault_of, is_directed, is_response, transaction_id}
 use Rattle.smp_bytes.specs.declared.smp_fault.SmpFault.{SmpFault}
 use Rattle.plan_steps.specs.Phase.{Phase}
 use Rattle.plan_steps.specs.declared.step.Step.{Step}
 use Rattle.sm_manager.specs.CallLists.{Call, after_call}
 use Rattle.sm_manager.specs.Manager.{Manager, Writing, emptied}
-use Rattle.sm_manager.specs.ManagerRequests.{counts, is_step}
+use Rattle.sm_manager.specs.ManagerRequests.{is_step}
 use Rattle.sm_manager.specs.Packets.{after_packet}
 use Rattle.sm_manager.specs.Writing.{after_write_steps, is_written}
 use Rattle.sm_manager.specs.declared.outgoing.Outgoing.{Outgoing}
@@ -33,16 +32,15 @@ use Rattle.acting_manager.specs.Working.{Told, acted_if_idle, all_overdue, all_s
 use Rattle.acting_manager.specs.Working.{paused_until, repeated, sent, sent_one, stood_still, stopped, taken, told_time, wake_of}
 use Rattle.acting_manager.specs.declared.note.Note.{Note}
 use Rattle.acting_manager.specs.declared.note.Note.TheVariants as note
-use Rattle.manager_laws.specs.WritingEnds.{IsEndOf, steps_of}
-use Rattle.manager_laws.proofs.own_sets.Unfailed.{IsUnfailed, call_unfailed}
+use Rattle.manager_laws.specs.WritingEnds.{steps_of}
 use Rattle.manager_laws.proofs.writing_ends.Begun.{begun_goes, no_step_before}
-use Rattle.manager_laws.proofs.writing_ends.Effects.{Says}
-use Rattle.manager_laws.proofs.writing_ends.Turns.{Running, call_goes}
+use Rattle.manager_laws.proofs.writing_ends.Turns.{Running}
 use Rattle.program_laws.specs.AnsweredWritings.{AllAnswerWell, AnsweredWritingsAreWritten, AnswersWell, KeepsWriting, gives_up_writing}
 use Rattle.program_laws.specs.ManagedEnds.{StaysAbout}
 use Rattle.program_laws.specs.StandingPlans.{KeepsWritten}
 use Rattle.program_laws.specs.Wakes.{AtEachLine, HasDecided, IsNoLeave, Line, NoneLeaves, after_line, after_lines, before_deciding}
 use Rattle.program_laws.specs.WholeSweeps.{NothingGivenUp, tells_loss}
+use Rattle.program_laws.proofs.lasting.GoesWell.{GoesWell, heard_well, more_wait, told_done}
 use Rattle.program_laws.proofs.lasting.Answered.{given_parts, none_both, noted_before}
 use Rattle.program_laws.proofs.lasting.Counted.{all_none, done_all}
 use Rattle.program_laws.proofs.lasting.Notes.{any_last}
@@ -62,55 +60,6 @@ use Rattle.program_laws.proofs.wakes.Sweeping.{acts_leaving, looked_leaving}
 use Rattle.program_laws.proofs.wakes.Turns.{Heard, IsOther, Refuses, Takes, Turn, asked_turn, heard}
 use Rattle.program_laws.proofs.wakes.Waking.{looked_manager}
 use Rattle.program_laws.proofs.wakes.Writing.{WritesNow, acted_writes}
-
--- a writing that goes well --------------------------------------------------------------------------------
-
--- a writing runs, or is over; no step that counts has failed, and each step that waits has the property W, by its number
-record GoesWell (W : ℕ → Type 0) (m : Manager) : Type 0 where
-  writing : Writing
-  running : Running writing m
-  unfailed : writing.has_failed ≡ false
-  waits : (p : Pending) → Contains m.pending p → is_step p ≡ true → W p.number
-
-more_wait : (W V : ℕ → Type 0) (m : Manager) → ((t : ℕ) → W t → V t) → GoesWell W m → GoesWell V m
-more_wait W V m more g =
-    record {
-      writing = g.writing;
-      running = g.running;
-      unfailed = g.unfailed;
-      waits = λ p there step. more p.number (g.waits p there step);
-    }
-
-none_failed : (W : ℕ → Type 0) (m : Manager) → GoesWell W m → IsUnfailed m.writing
-none_failed W m g v e = ap (λ (w : Writing). w.has_failed) (sym (same_Some g.writing v (sym g.running.writing ∙ e))) ∙ g.unfailed
-
--- the answer to a step that counts has status 0
-abbrev EndsDone : Manager → Call → Type 0
-EndsDone m call =
-    (p : Pending) → Contains m.pending p → is_step p ≡ true → IsEndOf p call → (was_done : Bool) → Says call was_done
-    → (counts p && not was_done) ≡ false
-
-told_done : (m : Manager) (bytes : List ℕ) (from : Option ℕ) → AnswersWell (Told.Packet bytes from) m → EndsDone m (Call.Packet bytes from)
-told_done m bytes from well p there step ends was_done says = by_counts (counts p) refl
-  where
-    by_counts : (b : Bool) → counts p ≡ b → (b && not was_done) ≡ false
-    by_counts false e = refl
-    by_counts true e = ap not (says.0 ∙ ap (λ s. s == done) (well p there step e ends says.1))
-
--- a packet comes
-heard_well : (W P : ℕ → Type 0) (m : Manager) (bytes : List ℕ) (from : Option ℕ) → m.counter ≤ 2 ^ 32 → EndsDone m (Call.Packet bytes from)
-    → ((p : Pending) → Contains m.pending p → is_step p ≡ true → Contains (after_call m (Call.Packet bytes from)).pending p → P p.number)
-    → GoesWell W m
-    → GoesWell (λ t. (W t × P t) ⊎ AnyAsks t (after_call m (Call.Packet bytes from)).outgoing) (after_call m (Call.Packet bytes from))
-heard_well W P m bytes from few each still g =
-    let call = Call.Packet bytes from in
-    let goes = call_goes g.writing m g.running call tt in
-    record {
-      writing = goes.going;
-      running = goes.running;
-      unfailed = call_unfailed m call tt each (none_failed W m g) goes.going goes.running.writing;
-      waits = waits_turn W P m call g.running.rising few (inr (g.writing, g.running)) g.waits still;
-    }
 
 -- while it writes --------------------------------------------------------------------------------------------
 
