@@ -1,4 +1,4 @@
--- What is told of nodes and ports. InfiniBand Architecture Specification, Volume 1: subnet administration, NodeRecord and
+-- What is told of nodes and ports. InfiniBand Architecture Specification, Volume 1: subnet administration, NodeRecord,
 -- PortInfoRecord.
 use Rattle.std.specs.Prelude.{◌≡◌, ◌⊎◌, ℕ, Bool, ◌==◌, List, Contains, Some, true, false, count_by}
 use Rattle.smp_bytes.specs.Field.{bytes_in, number_in}
@@ -32,8 +32,8 @@ suits_request told request =
     suits_node told (number_in component_mask request) (number_in lid_data request)
     (node_info_in (bytes_in attribute_data request))
 
--- `r` is the record of an end port to which the plan gives a LID: its first LID, and by the facts its port GUID, and the
--- type and the number of ports of its node. It is as the request asks, and no other end port has a record that is
+-- `r` is the record of an end port to which the plan gives a LID: its first LID, and by the facts its port GUID, and
+-- the type and the number of ports of its node. It is as the request asks, and no other end port has a record that is
 pub record IsOnlyNode (told : Told) (request : List ℕ) (r : NodeRecord) : Type 0 where
   pub end : EndPort
   pub lid : ℕ

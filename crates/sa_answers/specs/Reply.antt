@@ -45,8 +45,8 @@ reply_to_get told attribute request =
     then path_reply told (number_in component_mask request) (path_record_in (bytes_in path_data request))
     else record_reply told attribute request)
 
--- the reply to a request for a table, where a Get with the same components is replied to as given: a table of one record,
--- or of none if no record is as the request asks. Other tables are not supported
+-- the reply to a request for a table, where a Get with the same components is replied to as given: a table of one
+-- record, or of none if no record is as the request asks. Other tables are not supported
 abbrev pub as_table : Reply → Reply
 as_table (Refused NoRecords) = Empty
 as_table (Refused NotSupported) = Refused NotSupported
@@ -75,7 +75,8 @@ status_of (Node r) = sa_done
 status_of (Port r) = sa_done
 status_of Empty = sa_done
 
--- AttributeOffset of a reply, in units of 8 bytes: a path has 64 bytes, a node 112, a port 72; ClassPortInfo is no record
+-- AttributeOffset of a reply, in units of 8 bytes: a path has 64 bytes, a node 112, a port 72. ClassPortInfo is no
+-- record
 abbrev pub offset_of : Reply → ℕ
 offset_of (Refused refusal) = 0
 offset_of Info = 0

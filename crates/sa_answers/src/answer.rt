@@ -16,10 +16,10 @@ use crate::told::Told;
 use attr_codec::{Attribute, NodeInfo};
 use sa_bytes::{PathRecord, SaAttributeId, SaMethod, SaRequest, SaStatus, sa_class_port_info};
 
-/// Returns the answer to `request` by what is told. Get of ClassPortInfo, PathRecord,
-/// NodeRecord and PortInfoRecord is supported. A path is told if packets arrive on it there and back, and if it is as the
-/// request asks; a node or a port, if no other is as the request asks. GetTable of
-/// these records is supported if no more than one is as the request asks. Does not allocate.
+/// Returns the answer to `request` by what is told. Get of ClassPortInfo, PathRecord, NodeRecord and PortInfoRecord is
+/// supported. A path is told if packets arrive on it there and back, and if it is as the request asks; a node or a
+/// port, if no other is as the request asks. GetTable of these records is supported if no more than one is as the
+/// request asks. Does not allocate.
 pub fn answer_of(told: &Told<'_>, request: &SaRequest) -> [u8; 256]
     ensures { result ≡ answer_to (value_of told.now) request.now }
 {

@@ -47,8 +47,8 @@ pub fn nodes_are_told()
     ensures { NodesAreTold }
 {}
 
-/// A port that is told is one of the owner of the LID in the request. It has the PortInfo that the sweep read, with LID,
-/// LMC and MasterSMLID as the plan writes them, and without the M_Key.
+/// A port that is told is one of the owner of the LID in the request. It has the PortInfo that the sweep read, with
+/// LID, LMC and MasterSMLID as the plan writes them, and without the M_Key.
 pub fn ports_told_are_the_plans()
     ensures { PortsToldAreThePlans }
 {}

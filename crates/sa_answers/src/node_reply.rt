@@ -2,7 +2,8 @@
 ghost use Rattle.std.specs.Prelude.{◌≡◌, ◌<◌, false};
 ghost use Rattle.std.specs.Option.{option_map_or};
 ghost use Rattle.sa_answers.specs.NodeReply.{asks, first_node, first_suited, info_of, is_owner, node_reply, node_told};
-ghost use Rattle.sa_answers.specs.NodeReply.{nodes_suited, only_node, suits_device, suits_guids, suits_info, suits_kind, suits_node};
+ghost use Rattle.sa_answers.specs.NodeReply.{nodes_suited, only_node, suits_device, suits_guids, suits_info};
+ghost use Rattle.sa_answers.specs.NodeReply.{suits_kind, suits_node};
 ghost use Rattle.sa_answers.specs.Told.{value_of};
 
 use crate::path_reply::gives;
@@ -114,7 +115,8 @@ fn suits_node(told: &Told<'_>, mask: u64, lid: Lid, asked: &NodeInfo, x: &(EndPo
 
 /// Returns whether the end port has a record whose NodeInfo is as the request asks.
 fn suits_told(told: &Told<'_>, mask: u64, asked: &NodeInfo, x: &(EndPort, Lid)) -> bool
-    ensures { result ≡ option_map_or (λ r. suits_info mask asked.now r.info) (node_told (value_of told.now) x.now) false }
+    ensures { result ≡ option_map_or (λ r. suits_info mask asked.now r.info) (node_told (value_of told.now) x.now)
+        false }
 {
     match node_told(told, x) {
         None => false,

@@ -22,8 +22,8 @@ const PORT_NUM: u32 = 1;
 /// The greatest component mask that has no other bits.
 const MOST_OF_MASK: u64 = 3;
 
-/// Returns the reply to a request for a port, whose component mask is `mask`, and whose record has the LID `lid` and the
-/// port number `port`.
+/// Returns the reply to a request for a port, whose component mask is `mask`, and whose record has the LID `lid` and
+/// the port number `port`.
 pub(crate) fn port_reply(told: &Told<'_>, mask: u64, lid: Lid, port: PortNum) -> Reply
     ensures { result ≡ port_reply (value_of told.now) mask lid port }
 {
@@ -41,8 +41,8 @@ pub(crate) fn port_reply(told: &Told<'_>, mask: u64, lid: Lid, port: PortNum) ->
     }
 }
 
-/// Returns the reply to a request for a port of the owner of a LID, if there is one. `is_named` says whether the request
-/// names the port `port`.
+/// Returns the reply to a request for a port of the owner of a LID, if there is one. `is_named` says whether the
+/// request names the port `port`.
 fn reply_of_owner(told: &Told<'_>, is_named: bool, port: PortNum, owner: Option<EndPort>) -> Reply
     ensures { result ≡ reply_of_owner (value_of told.now) is_named port owner }
 {

@@ -3,8 +3,8 @@ use lft_blocks::Plan;
 use smp_bytes::Guid;
 use sweep::Sweep;
 
-/// What subnet administration tells of: the facts, the plan that was written, the sweep that kept the PortInfo of ports,
-/// and the manager.
+/// What subnet administration tells of: the facts, the plan that was written, the sweep that kept the PortInfo of
+/// ports, and the manager.
 #[derive(Drop)]
 pub struct Told<'t> {
     pub store: &'t Store,

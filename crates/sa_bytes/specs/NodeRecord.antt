@@ -1,5 +1,5 @@
--- NodeRecord, a node at one of its end ports: its fields and its spelling. InfiniBand Architecture Specification, Volume
--- 1: subnet administration, NodeRecord.
+-- NodeRecord, a node at one of its end ports: its fields and its spelling. InfiniBand Architecture Specification,
+-- Volume 1: subnet administration, NodeRecord.
 use Rattle.std.specs.Prelude.{ℕ, List, replicate}
 use Rattle.smp_bytes.specs.Field.{Field, with_bytes, with_number}
 use Rattle.attr_codec.specs.NodeInfo.{node_info_bytes}

@@ -60,5 +60,6 @@ NodeReadsBack =
 abbrev pub PortReadsBack : Type 0
 PortReadsBack =
     (r : PortInfoRecord) → r.lid < 2 ^ 16 → r.port < 2 ^ 8 → length r.info ≡ 64
-    → (number_in port_lid (port_info_record_bytes r) ≡ r.lid) × (number_in port_number (port_info_record_bytes r) ≡ r.port)
+    → (number_in port_lid (port_info_record_bytes r) ≡ r.lid)
+    × (number_in port_number (port_info_record_bytes r) ≡ r.port)
     × (bytes_in port_info_data (port_info_record_bytes r) ≡ r.info)

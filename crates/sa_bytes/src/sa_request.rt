@@ -2,7 +2,8 @@ ghost use Rattle.std.specs.Prelude.{◌≡◌, ◌≤◌, ◌<◌, ◌^◌, leng
 ghost use Rattle.smp_bytes.specs.Field.{bytes_in, number_in};
 ghost use Rattle.smp_bytes.specs.Packet.{method, transaction_id, attribute_id, attribute_modifier};
 ghost use Rattle.sa_bytes.specs.Answer.{answering, kind_of, sa_answer, segment_of};
-ghost use Rattle.sa_bytes.specs.SaPacket.{attribute_data, component_mask, is_sa_request, lid_data, path_data, port_data};
+ghost use Rattle.sa_bytes.specs.SaPacket.{attribute_data, component_mask, is_sa_request, lid_data, path_data};
+ghost use Rattle.sa_bytes.specs.SaPacket.{port_data};
 
 use crate::field;
 use crate::numbers::{SaAttributeId, SaMethod, SaStatus};
@@ -131,9 +132,10 @@ impl SaRequest {
         data
     }
 
-    /// Returns the answer with the status `status` and with `body`, which may be empty. `payload` is the number of bytes
-    /// from SM_Key to the end of the records if the answer is a table, and otherwise 0; `offset` is AttributeOffset, in
-    /// units of 8 bytes. Everything that is not given is the request's or 0. `body` must have at most 200 bytes.
+    /// Returns the answer with the status `status` and with `body`, which may be empty. `payload` is the number of
+    /// bytes from SM_Key to the end of the records if the answer is a table, and otherwise 0; `offset` is
+    /// AttributeOffset, in units of 8 bytes. Everything that is not given is the request's or 0. `body` must have at
+    /// most 200 bytes.
     pub fn answer(&self, status: SaStatus, payload: u32, offset: u16, body: &[u8]) -> [u8; 256]
         requires { length body.now ≤ 200 }
         ensures { result ≡ sa_answer self.now status.0 payload offset body.now }
