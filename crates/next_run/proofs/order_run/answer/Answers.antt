@@ -8,8 +8,10 @@ use Rattle.fact_store.specs.View.{Facts, cells_of}
 use Rattle.subnet_view.specs.Reading.{switches}
 use Rattle.held_tables.specs.Held.{HeldPlan}
 use Rattle.held_order.specs.ToldOrder.{IsImpliedOrder}
+use Rattle.sm_cli.specs.Fault.{IsOutputFault}
 use Rattle.sm_cli.specs.OrderText.{order_text}
 use Rattle.next_run.specs.OrderRun.{told_switches}
+use Rattle.next_run.proofs.StepIs.{stops}
 use Rattle.next_run.proofs.order_run.answer.Goals as goal
 
 -- an option is there if what it is mapped to is
@@ -31,3 +33,8 @@ returns-clause-told g c =
           ∙ ap (λ (f : Facts). told_switches (cells_of f) order) facts_are)) c.in_ok-write_order.ensures.writes.ok;
       judged = c.is_some.ensures ∙ map_there (λ taken. taken.items) c.in_ok-order.order;
     }
+
+pub returns-in_err-write_order-clause-refused : goal.returns-in_err-write_order-clause-refused
+returns-in_err-write_order-clause-refused g c =
+    stops c.from_residual-in_err-write_order.result (IsOutputFault (g.W.Sink.has_failed c.write_order.new.sink))
+    c.from_residual-in_err-write_order.ensures.1 (c.in_err-write_order.ensures.writes.failed.0 refl)
