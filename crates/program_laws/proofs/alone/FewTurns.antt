@@ -313,8 +313,6 @@ next_few : (asked sets : ℕ) (some rest : List Line) (a : Acting) → AtEachLin
 next_few asked sets [] rest a all first = first
 next_few asked sets (line ∷ some) rest a all first = next_few asked sets some rest (after_line line a) all.1 all.0.few
 
-
-
 no_controls : (asked sets : ℕ) (some rest : List Line) (a : Acting) → AtEachLine (AsksLittle asked sets) (some ++ rest) a → controls_in some ≡ 0
 no_controls asked sets [] rest a all = refl
 no_controls asked sets (line ∷ some) rest a all =
