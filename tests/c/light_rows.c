@@ -64,6 +64,11 @@ void put(uint8_t *bytes, int count, uint64_t value)
 	}
 }
 
+void heard_light(void)
+{
+	act("it is counted");
+}
+
 int rests(void)
 {
 	return is_resting;

@@ -8,7 +8,7 @@ from tool_room import Room
 
 SEAT = r"""{"version": "0.1.0", "state": "master", "since": 1700000000,
  "port": "mlx5_\"0 port 1", "guid": "0000000000000101", "priority": 8,
- "sweep": {"count": 7, "generation": 1700000100, "began": 1700000100, "ended": 1700000101, "whole": true,
+ "sweep": {"count": 7, "light": 9, "generation": 1700000100, "began": 1700000100, "ended": 1700000101, "whole": true,
   "unanswered": 1, "managers_silent": 1, "too_far": 0},
  "silent": ["path 0,1 Get 0x0020 modifier 0"],
  "writing": {"count": 2, "ended": null, "written": false, "settled": false, "lids": 5, "switches": 3},
@@ -27,6 +27,7 @@ OF_SEAT = {
     "state_since_seconds": ("gauge", [f"{{{OWN}}} 1700000000"]),
     "priority": ("gauge", [f"{{{OWN}}} 8"]),
     "sweeps_total": ("counter", [f"{{{OWN}}} 7"]),
+    "light_sweeps_total": ("counter", [f"{{{OWN}}} 9"]),
     "sweep_ended_seconds": ("gauge", [f"{{{OWN}}} 1700000101"]),
     "sweep_whole": ("gauge", [f"{{{OWN}}} 1"]),
     "sweep_unanswered": ("gauge", [f"{{{OWN}}} 1"]),

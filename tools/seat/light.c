@@ -141,6 +141,7 @@ int take_light(uint8_t *packet)
 		if (options.verbose)
 			note(INFO, "a light sweep: %zu switches are as they were", count);
 		forget_lights();
+		heard_light();
 	}
 	return 1;
 }

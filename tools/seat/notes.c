@@ -171,6 +171,12 @@ static void heard_sweep(void)
 	begin_silent();
 }
 
+void heard_light(void)
+{
+	status.light_sweeps++;
+	write_status(&status);
+}
+
 static void read_progress(void)
 {
 	status.unanswered = status.too_far = status.silent = 0;

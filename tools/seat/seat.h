@@ -133,6 +133,8 @@ int rests(void);
 int status_of_once(void);
 /* Notes a trap. */
 void heard_trap(unsigned number, unsigned lid);
+/* Counts a light sweep that found each switch as it was. */
+void heard_light(void);
 /* Looks, with --once, whether the master is waited for in vain. */
 void look_at_time(void);
 /* As master, hands over to the greatest master or standby that the last sweep saw, and waits until it takes over, but not
@@ -180,7 +182,7 @@ struct standing {
 	const char *state;
 	uint32_t generation;
 	time_t sweep_began, sweep_ended, written_at, state_since;
-	unsigned long unanswered, silent, too_far, sweeps, writings;
+	unsigned long unanswered, silent, too_far, sweeps, light_sweeps, writings;
 	int is_whole, is_written, is_settled;
 	size_t lids, switches;
 };

@@ -17,7 +17,8 @@ static void print_sweep(FILE *file, const struct standing *status)
 {
 	size_t i;
 
-	fprintf(file, " \"sweep\": {\"count\": %lu, \"generation\": %u, ", status->sweeps, status->generation);
+	fprintf(file, " \"sweep\": {\"count\": %lu, \"light\": %lu, \"generation\": %u, ", status->sweeps,
+		status->light_sweeps, status->generation);
 	print_time(file, "began", status->sweep_began);
 	fprintf(file, ", ");
 	print_time(file, "ended", status->sweep_ended);
