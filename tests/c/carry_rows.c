@@ -9,7 +9,7 @@
 #include <infiniband/umad.h>
 #include "../../tools/seat/seat.h"
 
-enum { LONGEST = 4096, HEAD = 64, STATUS = 4, MOST_QUEUED = 128, CLOCK = 1700000000, TID = 8, KEY = 24 };
+enum { LONGEST = 4096, HEAD = 64, STATUS = 4, MOST_QUEUED = 128, CLOCK = 1700000000, TID = 8, KEY = 24, RMPP = 24 };
 /* The number that the first request gets: that of the clock. */
 #define FIRST (((uint32_t) CLOCK << 12) | 1)
 
@@ -25,7 +25,7 @@ struct options options = { .timeout_ms = 200 };
 struct own_port own_port = { .guid = 0x101, .number = 1, .name = "port 1", .adapter = "mlx" };
 struct carried carried;
 static struct waiting queue[MOST_QUEUED];
-static int queued, taken, send_fault, receive_fault, master, ended, is_hushed;
+static int queued, taken, send_fault, receive_fault, master, ended, is_hushed, runs_light;
 static int sa_status = -1;	/* of an answer to a host, if there is one */
 static uint8_t given[PACKET];	/* the packet that the process printed last, or that came last */
 static ib_mad_addr_t address;	/* to which a packet goes */
@@ -220,10 +220,12 @@ const char *shown(const char *word)
 	return line;
 }
 
-/* A light sweep, which has no answer here. */
+/* A light sweep, which takes answers if it runs. */
 int take_light(uint8_t *packet)
 {
-	return !packet;
+	if (runs_light)
+		act("the light sweep takes tid %u", (unsigned) (get(packet + TID, 8) - FIRST));
+	return runs_light;
 }
 
 /* The port. */
@@ -372,6 +374,7 @@ static unsigned packet_in(char *words, struct waiting *packet)
 		bytes[i] = 7 * i + 3;
 	memset(packet->bytes, 0, 8);
 	bytes[0] = bytes[2] = 1;
+	bytes[RMPP + 2] &= ~1;
 	packet->status = 0;
 	packet->from = (ib_mad_addr_t) { .qpn = htonl(1), .sl = 6, .pkey_index = 5 };
 	for (word = strtok_r(words, " ", &at); word; word = strtok_r(NULL, " ", &at)) {
@@ -399,6 +402,8 @@ static unsigned packet_in(char *words, struct waiting *packet)
 			put(bytes + 16, 2, atoi(value));
 		else if (!strcmp(word, "modifier"))
 			put(bytes + 20, 4, strtoul(value, NULL, 10));
+		else if (!strcmp(word, "rmpp"))
+			bytes[RMPP + 1] = atoi(value), bytes[RMPP + 2] |= 1;
 		else if (!strcmp(word, "key"))
 			put(bytes + KEY, 8, atoi(value));
 		else
@@ -440,6 +445,8 @@ static void set_number(const char *name, int value)
 		master = value;
 	else if (!strcmp(name, "sa"))
 		sa_status = value;
+	else if (!strcmp(name, "light"))
+		runs_light = value;
 	else if (!strcmp(name, "hush"))
 		is_hushed = value;
 	else if (!strcmp(name, "send-fails"))

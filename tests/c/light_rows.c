@@ -15,7 +15,7 @@ struct options options = { .timeout_ms = 200, .tries = 2, .outstanding = 16 };
 struct carried carried;
 static unsigned asked[MOST_ASKED];	/* the last port of the path to each switch that the process asks next */
 static struct packet went[MOST_ASKED];	/* the requests that went out, each once */
-static int asked_count, went_count, is_resting, is_gone, says_same = 1;
+static int asked_count, went_count, taken, is_resting, is_gone, is_hushed, says_same = 1;
 static double clock_now;
 static uint32_t next_number = FIRST_NUMBER;
 
@@ -25,6 +25,8 @@ static void act(const char *format, ...)
 {
 	va_list values;
 
+	if (is_hushed)
+		return;
 	va_start(values, format);
 	vprintf(format, values);
 	va_end(values);
@@ -205,6 +207,8 @@ static void set_number(const char *name, int value)
 		is_resting = value;
 	else if (!strcmp(name, "gone"))
 		is_gone = value;
+	else if (!strcmp(name, "hush"))
+		is_hushed = value;
 	else
 		abort();
 }
@@ -224,6 +228,11 @@ static void take(char *line)
 		clock_now += seconds;
 	else if (sscanf(line, "answer %u %31s", &number, how) >= 1)
 		answer(number, how);
+	else if (sscanf(line, "many %d", &asked_count) == 1)
+		memset(asked, 0, sizeof asked);
+	else if (!strcmp(line, "all"))
+		for (; taken < went_count; taken++)
+			answer(FIRST_NUMBER + taken, "same");
 	else if (!strcmp(line, "turn"))
 		sweep_lightly();
 	else if (!strcmp(line, "counts"))

@@ -42,7 +42,7 @@ def series_of_seat(seat: dict[str, Any]) -> Iterator[Series]:
     yield one("state_since_seconds", "when that state began, in seconds since 1970", seat["since"])
     yield one("priority", "the manager's priority", seat["priority"])
     yield one("sweeps_total", "sweeps since the start", sweep["count"], "counter")
-    yield one("light_sweeps_total", "light sweeps that found each switch as it was", sweep["light"], "counter")
+    yield one("light_sweeps_total", "light sweeps that found each switch as it was", sweep.get("light", 0), "counter")
     yield one("sweep_ended_seconds", "when the last sweep ended, in seconds since 1970", sweep["ended"])
     yield one("sweep_whole", "whether it had every answer but those of managers", sweep["whole"])
     yield one("sweep_unanswered", "its requests without an answer", sweep["unanswered"])

@@ -7,7 +7,8 @@
 #include <infiniband/umad.h>
 #include "seat.h"
 
-enum { CLASS_VERSION = 2, SA_KEY = 36, OFFSET = 44, RMPP_FLAGS = 26, NOT_SUPPORTED = 0x000c };
+enum { CLASS_VERSION = 2, SA_KEY = 36, OFFSET = 44, RMPP_TYPE = 25, RMPP_FLAGS = 26, NOT_SUPPORTED = 0x000c };
+enum { RMPP_DATA = 1, RMPP_ACTIVE = 1 };
 enum { CLASS_PORT_INFO = 0x01, NODE_RECORD = 0x11, PORT_INFO_RECORD = 0x12, PATH_RECORD = 0x35 };
 #define Q_KEY 0x80010000	/* of queue pair 1, to which answers go */
 
@@ -80,6 +81,13 @@ static void note_refusal(const uint8_t *packet, unsigned lid)
 	is_said = 1;
 }
 
+/* Returns whether a packet is none of RMPP, or has data. A host acknowledges a table by a packet with the table's method
+   and no R bit, which is no request. */
+static int has_data(const uint8_t *packet)
+{
+	return !(packet[RMPP_FLAGS] & RMPP_ACTIVE) || packet[RMPP_TYPE] == RMPP_DATA;
+}
+
 void administer(int umad, uint8_t *buffer)
 {
 	static uint8_t answer[512];
@@ -88,7 +96,7 @@ void administer(int umad, uint8_t *buffer)
 	int is_refused;
 
 	memcpy(packet, umad_get_mad(buffer), PACKET);
-	if (packet[3] & RESPONSE || seat.dry_run || !is_master())
+	if (packet[3] & RESPONSE || !has_data(packet) || seat.dry_run || !is_master())
 		return;
 	if (!is_answered(packet, ntohs(host.lid))) {
 		if (may_be_answered(packet))

@@ -1,7 +1,8 @@
 /*
  * Packets between the port and the process that decides: byte for byte as printed and as received, except for the
  * TransactionID of a request. Linux keeps only half of that, so requests are numbered here, and answers get their own
- * numbers back. Which requests go out when, and which are sent again, the process says.
+ * numbers back. Which requests go out when, and which are sent again, the process says,
+ * but for those of light sweeps (light.c).
  */
 #include <errno.h>
 #include <fcntl.h>

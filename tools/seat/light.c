@@ -132,6 +132,10 @@ int take_light(uint8_t *packet)
 	if (!it)
 		return 0;
 	carried.answered++;
+	if (!rests()) {
+		forget_lights();
+		return 1;
+	}
 	it->is_answered = 1;
 	out--;
 	memcpy(packet + 8, it->tid, sizeof it->tid);

@@ -82,7 +82,7 @@ static void add_number(char **words, int *count, char *name, unsigned long value
 void start_manager(uint32_t newest)
 {
 	char guid[17], port[12], priority[12], numbers[6][24], *words[MOST_WORDS] = { seat.program, "manage" };
-	int in[2], out[2], count = 2;
+	int in[2], out[2], count = 2, period = seat.heavy_seconds ? seat.heavy_seconds : seat.sweep_seconds;
 
 	snprintf(guid, sizeof guid, "%016llx", (unsigned long long) own_port.guid);
 	snprintf(port, sizeof port, "%d", own_port.number);
@@ -92,7 +92,7 @@ void start_manager(uint32_t newest)
 	add_option(words, &count, "--routing", seat.routing);
 	add_option(words, &count, "--roots", seat.roots);
 	add_option(words, &count, "--order", seat.order);
-	add_number(words, &count, "--every", 1000UL * (seat.heavy_seconds ? seat.heavy_seconds : seat.sweep_seconds), numbers[0], sizeof numbers[0]);
+	add_number(words, &count, "--every", 1000UL * period, numbers[0], sizeof numbers[0]);
 	add_number(words, &count, "--poll", seat.poll_ms, numbers[1], sizeof numbers[1]);
 	add_number(words, &count, "--timeout", options.timeout_ms, numbers[2], sizeof numbers[2]);
 	add_number(words, &count, "--tries", options.tries, numbers[3], sizeof numbers[3]);

@@ -1,5 +1,5 @@
 /* What the process says that it did, for the log, the status file and --once. Nothing is decided here but when a seat with
-   --once ends. */
+   --once ends, and whether a light sweep may come. */
 #include <stdlib.h>
 #include <string.h>
 #include <unistd.h>
@@ -468,6 +468,7 @@ void leave(void)
 
 	if (!is_master() || manager_is_gone())
 		return;
+	status.is_settled = 0;
 	drop_all();	/* the heir writes anew */
 	be_no_manager();	/* or else its first sweep would find a master here, and it would stand by again */
 	has_handed_over = 0;

@@ -2,7 +2,7 @@
  * seat: the port and the clock of a subnet manager whose decisions are those of `ibsm manage`.
  *
  * It carries packets between the two, byte for byte, and tells the process the time. The only packets that it makes itself
- * are refusals of requests for subnet administration: it is none, and while it is master no host has one.
+ * are refusals of what hosts ask and the process does not have.
  * The manual page, seat.1, has the options and exit statuses.
  */
 #include <errno.h>

@@ -1,6 +1,6 @@
 -- A light sweep: in place of a sweep, each switch that the last sweep reached is asked for SwitchInfo alone. PortStateChange
--- there is 1 if a port of the switch has changed its state since a Set cleared it. InfiniBand Architecture Specification,
--- Volume 1: subnet management, SwitchInfo.
+-- there is 1 if a port of the switch has changed its state by itself since a Set cleared the bit. InfiniBand Architecture
+-- Specification, Volume 1: subnet management, SwitchInfo.
 use Rattle.std.specs.Prelude.{ℕ, ◌%◌, ◌/◌, ◌^◌, Bool, false, ◌&&◌, List, ◌==◌, if◌then◌else◌}
 use Rattle.std.specs.Prelude.{Option, None, Some, is_none, option_and_then, replicate, slice_get}
 use Rattle.std.specs.Option.{option_map_or}

@@ -10,8 +10,8 @@ pub fn answers_are_the_requests()
     ensures { AnswersAreTheRequests }
 {}
 
-/// The status of an answer is 0 exactly if a record, or ClassPortInfo, is told, or a table without a record, since the
-/// request asks for a table, and no record is as it asks.
+/// The status of an answer is 0 exactly if a record, or ClassPortInfo, is told, or, for a request for a table, if no
+/// record is as it asks.
 pub fn done_if_told()
     ensures { DoneIfTold }
 {}
@@ -36,24 +36,26 @@ pub fn some_path_is_told()
     ensures { SomePathIsTold }
 {}
 
-/// A node that is told is that of the only end port that is as the request asks: with its first LID by the plan, and by
-/// the facts its port GUID, and the type and the number of ports of its node.
+/// A node that is told is that of the only end port with a LID of the plan that is as the request asks: with its first
+/// LID by the plan, and by the facts its port GUID, and the type and the number of ports of its node.
 pub fn nodes_told_are_the_plans()
     ensures { NodesToldAreThePlans }
 {}
 
-/// If exactly one end port is as a request for a node asks, a node is told.
+/// If exactly one end port with a LID of the plan is as a request for a node asks, and the request does not ask for a
+/// NodeDescription, a node is told.
 pub fn nodes_are_told()
     ensures { NodesAreTold }
 {}
 
 /// A port that is told is one of the owner of the LID in the request. It has the PortInfo that the sweep read, with
-/// LID, LMC and MasterSMLID as the plan writes them, and without the M_Key.
+/// LID, LMC and MasterSMLID as the plan writes them, without the M_Key, and with the link-local prefix if it had none.
 pub fn ports_told_are_the_plans()
     ensures { PortsToldAreThePlans }
 {}
 
-/// If the sweep kept the PortInfo of a port, a request for it by the LID of its end port is answered with it.
+/// If the sweep kept the PortInfo of a port, a request for it, by a LID of its end port and by its number alone, is
+/// answered with that port. A request for the port of an adapter may leave out the number.
 pub fn ports_are_told()
     ensures { PortsAreTold }
 {}

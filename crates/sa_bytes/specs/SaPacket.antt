@@ -1,7 +1,7 @@
 -- A packet of subnet administration (SA), a list of 256 bytes: its fields, and when it is a request. InfiniBand
 -- Architecture Specification, Volume 1: management datagram header; subnet administration, SA management datagrams.
-use Rattle.std.specs.Prelude.{ℕ, Bool, ◌&&◌, not, List, ◌==◌}
-use Rattle.smp_bytes.specs.Field.{Field, number_in}
+use Rattle.std.specs.Prelude.{ℕ, Bool, ◌&&◌, ◌||◌, not, List, ◌==◌}
+use Rattle.smp_bytes.specs.Field.{Bits, Field, bits_in, number_in}
 use Rattle.smp_bytes.specs.Packet.{base_version, mgmt_class, class_version, is_response}
 use Rattle.sa_bytes.specs.Numbers.{sa_class, sa_version}
 
@@ -50,10 +50,23 @@ port_data = record { at = 58; len = 1 }
 abbrev pub attribute_data : Field
 attribute_data = record { at = 60; len = 64 }
 
--- whether 256 bytes are a request of subnet administration: they have its class and its version, and the R bit is not
--- set
+-- RMPPType
+abbrev pub rmpp_type : Field
+rmpp_type = record { at = 25; len = 1 }
+
+-- Active, a flag of RMPPFlags: whether the packet is one of RMPP
+abbrev pub rmpp_active : Bits
+rmpp_active = record { at = 26; shift = 0; width = 1 }
+
+-- whether a packet is none of RMPP, or has data. Others acknowledge, stop or abort: they have the method of a request,
+-- and answer a table
+abbrev pub has_data : List ℕ → Bool
+has_data packet = bits_in rmpp_active packet == 0 || number_in rmpp_type packet == 1
+
+-- whether 256 bytes are a request of subnet administration: they have its class and its version, the R bit is not set,
+-- and they are no other packet of RMPP than one with data
 abbrev pub is_sa_request : List ℕ → Bool
 is_sa_request packet =
     number_in base_version packet == 1
     && (number_in mgmt_class packet == sa_class
-    && (number_in class_version packet == sa_version && not (is_response packet)))
+    && (number_in class_version packet == sa_version && (not (is_response packet) && has_data packet)))

@@ -22,6 +22,10 @@ pub const ATTRIBUTE_MODIFIER: usize = 20;
 
 pub const RMPP_KIND: usize = 24;
 
+pub const RMPP_TYPE: usize = 25;
+
+pub const RMPP_FLAGS: usize = 26;
+
 pub const SEGMENT_NUMBER: usize = 28;
 
 pub const PAYLOAD_LENGTH: usize = 32;

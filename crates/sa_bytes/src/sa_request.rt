@@ -2,8 +2,8 @@ ghost use Rattle.std.specs.Prelude.{◌≡◌, ◌≤◌, ◌<◌, ◌^◌, leng
 ghost use Rattle.smp_bytes.specs.Field.{bytes_in, number_in};
 ghost use Rattle.smp_bytes.specs.Packet.{method, transaction_id, attribute_id, attribute_modifier};
 ghost use Rattle.sa_bytes.specs.Answer.{answering, kind_of, sa_answer, segment_of};
-ghost use Rattle.sa_bytes.specs.SaPacket.{attribute_data, component_mask, is_sa_request, lid_data, path_data};
-ghost use Rattle.sa_bytes.specs.SaPacket.{port_data};
+ghost use Rattle.sa_bytes.specs.SaPacket.{attribute_data, component_mask, has_data, is_sa_request, lid_data};
+ghost use Rattle.sa_bytes.specs.SaPacket.{path_data, port_data};
 
 use crate::field;
 use crate::numbers::{SaAttributeId, SaMethod, SaStatus};
@@ -13,8 +13,8 @@ use smp_bytes::wire::{
 use smp_bytes::{Lid, PortNum};
 use std::marker::Model;
 
-/// A request of subnet administration: 256 bytes of its class and version whose R bit is not set. Contracts see the
-/// bytes.
+/// A request of subnet administration: 256 bytes of its class and version whose R bit is not set, and which do not
+/// acknowledge, stop or abort what RMPP carries. Contracts see the bytes.
 #[derive(Clone, Copy, Debug)]
 pub struct SaRequest {
     bytes: [u8; 256],
@@ -41,6 +41,9 @@ const SA_CLASS: u8 = 0x03;
 
 /// The value of ClassVersion.
 const SA_VERSION: u8 = 2;
+
+/// The RMPPType of a packet with data.
+const RMPP_DATA: u8 = 1;
 
 /// The first bytes of RMPP in the only packet of a table: version 1, data, no response time, active, first and last.
 const ONLY_SEGMENT: u32 = 0x0101_FF00;
@@ -183,6 +186,14 @@ fn is_sa_request(bytes: &[u8; 256]) -> bool
         && u8_at(bytes, field::MGMT_CLASS) == SA_CLASS
         && u8_at(bytes, field::CLASS_VERSION) == SA_VERSION
         && bits_at(bytes, field::METHOD, field::RESPONSE_BIT, 1) != 1
+        && has_data(bytes)
+}
+
+/// Returns whether `bytes` are no packet of RMPP, or one with data.
+fn has_data(bytes: &[u8; 256]) -> bool
+    ensures { result ≡ has_data bytes.now }
+{
+    bits_at(bytes, field::RMPP_FLAGS, 0, 1) == 0 || u8_at(bytes, field::RMPP_TYPE) == RMPP_DATA
 }
 
 /// Returns what a packet with a payload is in RMPP, or 0 if it has none.
