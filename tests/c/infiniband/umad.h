@@ -1,5 +1,5 @@
-/* A stand-in for libibumad's header, with what record, send and seat use: tests/c/umad.c has the port for record
-   and send, and tests/c/carry_rows.c the one for seat. */
+/* A stand-in for libibumad's header, with what record, send and seat use: tests/c/umad.c has the port for whole tools,
+   and tests/c/carry_rows.c the one for a part of seat. */
 #ifndef STAND_IN_UMAD_H
 #define STAND_IN_UMAD_H
 
