@@ -1,4 +1,4 @@
-"""Rows for `seat` whole, with its process, in place of whose library for ports stands one that asks agents of the test."""
+"""Rows for a whole `seat` with its process; in place of its library for ports stands one that asks agents of the test."""
 from __future__ import annotations
 
 import json
@@ -110,7 +110,7 @@ def swept_lightly(folder: pathlib.Path, program: str) -> list[tuple[bool, str]]:
         found.append((seat.until(lambda it: it["sweep"]["count"] > sweeps), f"it sweeps, since a switch {change}"))
         setattr(seat.agents, change, False)
         light = seat.status()["sweep"]["light"]
-        found.append((seat.until(lambda it: it["sweep"]["light"] > light), f"no switch {change}: it sweeps lightly again"))
+        found.append((seat.until(lambda it: it["sweep"]["light"] > light), f"it sweeps lightly once none {change}"))
         sweeps = seat.status()["sweep"]["count"]
     status, said = seat.end()
     found.append((status == 0 and "SUBNET UP" in said, f"seat ends with {status}: {said[-2000:]}"))
