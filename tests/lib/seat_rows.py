@@ -1,4 +1,4 @@
-"""Rows for a whole `seat` with its process; in place of its library for ports stands one that asks agents of the test."""
+"""Rows for a whole `seat` with its process: in place of its library for ports stands one that asks agents of a test."""
 from __future__ import annotations
 
 import json
@@ -96,9 +96,10 @@ def swept_lightly(folder: pathlib.Path, program: str) -> list[tuple[bool, str]]:
     port has changed its state, or does not answer."""
     fabric, found = sample_fabrics.two_levels(2, 3, 4), []
     seat = Seat(folder, program, fabric, "--sweep", 1, "--heavy", 3600, "--timeout", 100, "--retries", 1)
-    found.append((seat.until(lambda it: it["sweep"]["light"] == 1), "a light sweep is counted"))
-    sweeps, asked = seat.status()["sweep"]["count"], len(seat.asked)
-    found.append((seat.until(lambda it: it["sweep"]["light"] >= 3), "and then one each second"))
+    found.append((seat.until(lambda it: it["sweep"]["light"] >= 1), "a light sweep is counted"))
+    sweep, asked = seat.status()["sweep"], len(seat.asked)
+    sweeps, first = sweep["count"], sweep["light"]
+    found.append((seat.until(lambda it: it["sweep"]["light"] >= first + 2), "and then one each second"))
     since = seat.asked[asked:]
     only = {(it[3], field(it, 16, 2)) for it in since}
     found.append((only == {(GET, SWITCH_INFO)}, f"light sweeps ask for SwitchInfo alone: {only}"))
