@@ -391,6 +391,7 @@ def brought_up(costs: Costs, command: str, hosts: int, line: str, times: int, op
     ))
     for word, told in (
         ("PACKET", served_lines.ASKED), ("TRAP", served_lines.TRAPPED), ("PATH", served_lines.asked_path(fabric)),
+        ("HEX", served_lines.ASKS),
     ):
         line = line.replace(word, told)
     text = "".join(f"{it}\n" for it in line.split("/") * times)
@@ -434,7 +435,7 @@ def from_roots(costs: Costs, switches: int) -> Words:
 LIVE = " live 1"
 TRAPS = "traps/CUT/drain 100/PLUG/drain 100/resend"
 SHOWS = "state/progress/silent/written/managers/floor 1/timeout/poll/handover/yield/rediscover/PACKET/TRAP"
-MANAGED_SHOWS = "0/0 state/0 progress/0 silent/0 written/0 managers/0 look/0 PACKET/0 TRAP"
+MANAGED_SHOWS = "0/0 state/0 progress/0 silent/0 written/0 managers/0 look/0 light HEX/0 PACKET/0 TRAP"
 MANAGED_OPTIONS = (
     "--sm-key", "5", "--lmc", "1", "--every", "60000", "--poll", "1", "--strict", "--timeout", "200", "--tries", "2",
     "--outstanding", "16", "--newest", "1000",
@@ -567,6 +568,8 @@ GROWING = (
         lambda c, n: managed(c, n, "0", 1, *MANAGED_OPTIONS, *SPREAD, "--order", served_order(c, 6)), 30, LINEAR),
     Row("manage by paths for hosts", lambda c, n: managed(c, 5, "0 PATH", n), 500, LINEAR),
     Row("manage by adapters, paths for hosts", lambda c, n: managed(c, n, "0 PATH", 100), 30, LINEAR),
+    Row("manage by light sweeps", lambda c, n: managed(c, 5, "0 light", n), 500, LINEAR),
+    Row("manage by adapters, light sweeps", lambda c, n: managed(c, n, "0 light", 100), 30, LINEAR),
     Row("manage by lines",
         lambda c, n: managed(c, 5, MANAGED_SHOWS, n, *SPREAD, "--roots", served_order(c, 2)), 500, LINEAR),
 )
