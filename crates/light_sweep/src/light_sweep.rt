@@ -7,9 +7,9 @@ use attr_codec::{Attribute, SwitchInfo};
 use smp_bytes::{AttributeId, Generation, Method, Smp, Status};
 use sweep::{Sweep, Vertex};
 
-/// Returns the request of a light sweep to the vertex at index `i` of those that `sweep` reached: a Get of SwitchInfo along
-/// the path by which the vertex was reached (subnet management, SwitchInfo). Its TransactionID has the generation of `sweep`
-/// in its high half and `i` in its low half. Returns `None` if the vertex is no switch, or if there is none.
+/// Returns the request of a light sweep to the vertex at index `i` of those that `sweep` reached: a Get of SwitchInfo,
+/// along the path that reached the vertex (subnet management, SwitchInfo). Its TransactionID has the generation of
+/// `sweep` in its high half and `i` in its low half. Returns `None` if the vertex is no switch, or if there is none.
 pub fn light_request(sweep: &Sweep, i: usize) -> Option<Smp>
     ensures { result ≡ light_request sweep.now i }
 {

@@ -118,7 +118,13 @@ pub turn2 : Turn 2 1000 0 true
 unfolding after_answer get_of set_of changed_port with_bytes
 turn2 =
     record {
-      start = λ f s. record { before = refl; due = refl; next = refl; some = omega arith; begins = record { prompt = omega arith; few = refl; quiet = refl; at = refl } };
+      start = λ f s. record {
+        before = refl;
+        due = refl;
+        next = refl;
+        some = omega arith;
+        begins = record { prompt = omega arith; few = refl; quiet = refl; at = refl };
+      };
       at_node = record { prompt = omega arith; no_word = refl; no_control = refl; few = refl; busy = refl };
       at_port = record { prompt = omega arith; no_word = refl; no_control = refl; awake = refl; whole = refl; not_writing = refl };
       swept = record { swept = refl; planning_is = refl; store_is = refl; no_fault = refl; has_plan = refl; some = omega arith };
@@ -131,7 +137,13 @@ pub turn3 : Turn 3 11000 1000 false
 unfolding after_answer get_of set_of changed_port with_bytes
 turn3 =
     record {
-      start = λ f s. record { before = refl; due = refl; next = refl; some = omega arith; begins = record { prompt = omega arith; few = refl; quiet = refl; at = refl } };
+      start = λ f s. record {
+        before = refl;
+        due = refl;
+        next = refl;
+        some = omega arith;
+        begins = record { prompt = omega arith; few = refl; quiet = refl; at = refl };
+      };
       at_node = record { prompt = omega arith; no_word = refl; no_control = refl; few = refl; busy = refl };
       at_port = record { prompt = omega arith; no_word = refl; no_control = refl; awake = refl; whole = refl; not_writing = refl };
       swept = record { swept = refl; planning_is = refl; store_is = refl; no_fault = refl; has_plan = refl; some = omega arith };
@@ -144,7 +156,13 @@ pub turn4 : Turn 4 21000 11000 false
 unfolding after_answer get_of set_of changed_port with_bytes
 turn4 =
     record {
-      start = λ f s. record { before = refl; due = refl; next = refl; some = omega arith; begins = record { prompt = omega arith; few = refl; quiet = refl; at = refl } };
+      start = λ f s. record {
+        before = refl;
+        due = refl;
+        next = refl;
+        some = omega arith;
+        begins = record { prompt = omega arith; few = refl; quiet = refl; at = refl };
+      };
       at_node = record { prompt = omega arith; no_word = refl; no_control = refl; few = refl; busy = refl };
       at_port = record { prompt = omega arith; no_word = refl; no_control = refl; awake = refl; whole = refl; not_writing = refl };
       swept = record { swept = refl; planning_is = refl; store_is = refl; no_fault = refl; has_plan = refl; some = omega arith };
@@ -157,7 +175,13 @@ pub turn5 : Turn 5 31000 21000 false
 unfolding after_answer get_of set_of changed_port with_bytes
 turn5 =
     record {
-      start = λ f s. record { before = refl; due = refl; next = refl; some = omega arith; begins = record { prompt = omega arith; few = refl; quiet = refl; at = refl } };
+      start = λ f s. record {
+        before = refl;
+        due = refl;
+        next = refl;
+        some = omega arith;
+        begins = record { prompt = omega arith; few = refl; quiet = refl; at = refl };
+      };
       at_node = record { prompt = omega arith; no_word = refl; no_control = refl; few = refl; busy = refl };
       at_port = record { prompt = omega arith; no_word = refl; no_control = refl; awake = refl; whole = refl; not_writing = refl };
       swept = record { swept = refl; planning_is = refl; store_is = refl; no_fault = refl; has_plan = refl; some = omega arith };
@@ -170,7 +194,13 @@ pub turn6 : Turn 6 41000 31000 false
 unfolding after_answer get_of set_of changed_port with_bytes
 turn6 =
     record {
-      start = λ f s. record { before = refl; due = refl; next = refl; some = omega arith; begins = record { prompt = omega arith; few = refl; quiet = refl; at = refl } };
+      start = λ f s. record {
+        before = refl;
+        due = refl;
+        next = refl;
+        some = omega arith;
+        begins = record { prompt = omega arith; few = refl; quiet = refl; at = refl };
+      };
       at_node = record { prompt = omega arith; no_word = refl; no_control = refl; few = refl; busy = refl };
       at_port = record { prompt = omega arith; no_word = refl; no_control = refl; awake = refl; whole = refl; not_writing = refl };
       swept = record { swept = refl; planning_is = refl; store_is = refl; no_fault = refl; has_plan = refl; some = omega arith };
@@ -183,7 +213,13 @@ pub turn7 : Turn 7 51000 41000 false
 unfolding after_answer get_of set_of changed_port with_bytes
 turn7 =
     record {
-      start = λ f s. record { before = refl; due = refl; next = refl; some = omega arith; begins = record { prompt = omega arith; few = refl; quiet = refl; at = refl } };
+      start = λ f s. record {
+        before = refl;
+        due = refl;
+        next = refl;
+        some = omega arith;
+        begins = record { prompt = omega arith; few = refl; quiet = refl; at = refl };
+      };
       at_node = record { prompt = omega arith; no_word = refl; no_control = refl; few = refl; busy = refl };
       at_port = record { prompt = omega arith; no_word = refl; no_control = refl; awake = refl; whole = refl; not_writing = refl };
       swept = record { swept = refl; planning_is = refl; store_is = refl; no_fault = refl; has_plan = refl; some = omega arith };
@@ -196,7 +232,13 @@ pub turn8 : Turn 8 61000 51000 false
 unfolding after_answer get_of set_of changed_port with_bytes
 turn8 =
     record {
-      start = λ f s. record { before = refl; due = refl; next = refl; some = omega arith; begins = record { prompt = omega arith; few = refl; quiet = refl; at = refl } };
+      start = λ f s. record {
+        before = refl;
+        due = refl;
+        next = refl;
+        some = omega arith;
+        begins = record { prompt = omega arith; few = refl; quiet = refl; at = refl };
+      };
       at_node = record { prompt = omega arith; no_word = refl; no_control = refl; few = refl; busy = refl };
       at_port = record { prompt = omega arith; no_word = refl; no_control = refl; awake = refl; whole = refl; not_writing = refl };
       swept = record { swept = refl; planning_is = refl; store_is = refl; no_fault = refl; has_plan = refl; some = omega arith };
@@ -209,7 +251,13 @@ pub turn9 : Turn 9 71000 61000 false
 unfolding after_answer get_of set_of changed_port with_bytes
 turn9 =
     record {
-      start = λ f s. record { before = refl; due = refl; next = refl; some = omega arith; begins = record { prompt = omega arith; few = refl; quiet = refl; at = refl } };
+      start = λ f s. record {
+        before = refl;
+        due = refl;
+        next = refl;
+        some = omega arith;
+        begins = record { prompt = omega arith; few = refl; quiet = refl; at = refl };
+      };
       at_node = record { prompt = omega arith; no_word = refl; no_control = refl; few = refl; busy = refl };
       at_port = record { prompt = omega arith; no_word = refl; no_control = refl; awake = refl; whole = refl; not_writing = refl };
       swept = record { swept = refl; planning_is = refl; store_is = refl; no_fault = refl; has_plan = refl; some = omega arith };
@@ -222,7 +270,13 @@ pub turn10 : Turn 10 81000 71000 false
 unfolding after_answer get_of set_of changed_port with_bytes
 turn10 =
     record {
-      start = λ f s. record { before = refl; due = refl; next = refl; some = omega arith; begins = record { prompt = omega arith; few = refl; quiet = refl; at = refl } };
+      start = λ f s. record {
+        before = refl;
+        due = refl;
+        next = refl;
+        some = omega arith;
+        begins = record { prompt = omega arith; few = refl; quiet = refl; at = refl };
+      };
       at_node = record { prompt = omega arith; no_word = refl; no_control = refl; few = refl; busy = refl };
       at_port = record { prompt = omega arith; no_word = refl; no_control = refl; awake = refl; whole = refl; not_writing = refl };
       swept = record { swept = refl; planning_is = refl; store_is = refl; no_fault = refl; has_plan = refl; some = omega arith };
@@ -235,7 +289,13 @@ pub turn11 : Turn 11 91000 81000 false
 unfolding after_answer get_of set_of changed_port with_bytes
 turn11 =
     record {
-      start = λ f s. record { before = refl; due = refl; next = refl; some = omega arith; begins = record { prompt = omega arith; few = refl; quiet = refl; at = refl } };
+      start = λ f s. record {
+        before = refl;
+        due = refl;
+        next = refl;
+        some = omega arith;
+        begins = record { prompt = omega arith; few = refl; quiet = refl; at = refl };
+      };
       at_node = record { prompt = omega arith; no_word = refl; no_control = refl; few = refl; busy = refl };
       at_port = record { prompt = omega arith; no_word = refl; no_control = refl; awake = refl; whole = refl; not_writing = refl };
       swept = record { swept = refl; planning_is = refl; store_is = refl; no_fault = refl; has_plan = refl; some = omega arith };
@@ -248,7 +308,13 @@ pub turn12 : Turn 12 101000 91000 false
 unfolding after_answer get_of set_of changed_port with_bytes
 turn12 =
     record {
-      start = λ f s. record { before = refl; due = refl; next = refl; some = omega arith; begins = record { prompt = omega arith; few = refl; quiet = refl; at = refl } };
+      start = λ f s. record {
+        before = refl;
+        due = refl;
+        next = refl;
+        some = omega arith;
+        begins = record { prompt = omega arith; few = refl; quiet = refl; at = refl };
+      };
       at_node = record { prompt = omega arith; no_word = refl; no_control = refl; few = refl; busy = refl };
       at_port = record { prompt = omega arith; no_word = refl; no_control = refl; awake = refl; whole = refl; not_writing = refl };
       swept = record { swept = refl; planning_is = refl; store_is = refl; no_fault = refl; has_plan = refl; some = omega arith };
@@ -261,7 +327,13 @@ pub turn13 : Turn 13 111000 101000 false
 unfolding after_answer get_of set_of changed_port with_bytes
 turn13 =
     record {
-      start = λ f s. record { before = refl; due = refl; next = refl; some = omega arith; begins = record { prompt = omega arith; few = refl; quiet = refl; at = refl } };
+      start = λ f s. record {
+        before = refl;
+        due = refl;
+        next = refl;
+        some = omega arith;
+        begins = record { prompt = omega arith; few = refl; quiet = refl; at = refl };
+      };
       at_node = record { prompt = omega arith; no_word = refl; no_control = refl; few = refl; busy = refl };
       at_port = record { prompt = omega arith; no_word = refl; no_control = refl; awake = refl; whole = refl; not_writing = refl };
       swept = record { swept = refl; planning_is = refl; store_is = refl; no_fault = refl; has_plan = refl; some = omega arith };
@@ -274,7 +346,13 @@ pub turn14 : Turn 14 121000 111000 false
 unfolding after_answer get_of set_of changed_port with_bytes
 turn14 =
     record {
-      start = λ f s. record { before = refl; due = refl; next = refl; some = omega arith; begins = record { prompt = omega arith; few = refl; quiet = refl; at = refl } };
+      start = λ f s. record {
+        before = refl;
+        due = refl;
+        next = refl;
+        some = omega arith;
+        begins = record { prompt = omega arith; few = refl; quiet = refl; at = refl };
+      };
       at_node = record { prompt = omega arith; no_word = refl; no_control = refl; few = refl; busy = refl };
       at_port = record { prompt = omega arith; no_word = refl; no_control = refl; awake = refl; whole = refl; not_writing = refl };
       swept = record { swept = refl; planning_is = refl; store_is = refl; no_fault = refl; has_plan = refl; some = omega arith };
@@ -287,7 +365,13 @@ pub turn15 : Turn 15 131000 121000 false
 unfolding after_answer get_of set_of changed_port with_bytes
 turn15 =
     record {
-      start = λ f s. record { before = refl; due = refl; next = refl; some = omega arith; begins = record { prompt = omega arith; few = refl; quiet = refl; at = refl } };
+      start = λ f s. record {
+        before = refl;
+        due = refl;
+        next = refl;
+        some = omega arith;
+        begins = record { prompt = omega arith; few = refl; quiet = refl; at = refl };
+      };
       at_node = record { prompt = omega arith; no_word = refl; no_control = refl; few = refl; busy = refl };
       at_port = record { prompt = omega arith; no_word = refl; no_control = refl; awake = refl; whole = refl; not_writing = refl };
       swept = record { swept = refl; planning_is = refl; store_is = refl; no_fault = refl; has_plan = refl; some = omega arith };
@@ -300,7 +384,13 @@ pub turn16 : Turn 16 141000 131000 false
 unfolding after_answer get_of set_of changed_port with_bytes
 turn16 =
     record {
-      start = λ f s. record { before = refl; due = refl; next = refl; some = omega arith; begins = record { prompt = omega arith; few = refl; quiet = refl; at = refl } };
+      start = λ f s. record {
+        before = refl;
+        due = refl;
+        next = refl;
+        some = omega arith;
+        begins = record { prompt = omega arith; few = refl; quiet = refl; at = refl };
+      };
       at_node = record { prompt = omega arith; no_word = refl; no_control = refl; few = refl; busy = refl };
       at_port = record { prompt = omega arith; no_word = refl; no_control = refl; awake = refl; whole = refl; not_writing = refl };
       swept = record { swept = refl; planning_is = refl; store_is = refl; no_fault = refl; has_plan = refl; some = omega arith };
@@ -313,7 +403,13 @@ pub turn17 : Turn 17 151000 141000 false
 unfolding after_answer get_of set_of changed_port with_bytes
 turn17 =
     record {
-      start = λ f s. record { before = refl; due = refl; next = refl; some = omega arith; begins = record { prompt = omega arith; few = refl; quiet = refl; at = refl } };
+      start = λ f s. record {
+        before = refl;
+        due = refl;
+        next = refl;
+        some = omega arith;
+        begins = record { prompt = omega arith; few = refl; quiet = refl; at = refl };
+      };
       at_node = record { prompt = omega arith; no_word = refl; no_control = refl; few = refl; busy = refl };
       at_port = record { prompt = omega arith; no_word = refl; no_control = refl; awake = refl; whole = refl; not_writing = refl };
       swept = record { swept = refl; planning_is = refl; store_is = refl; no_fault = refl; has_plan = refl; some = omega arith };
@@ -326,7 +422,13 @@ pub turn18 : Turn 18 161000 151000 false
 unfolding after_answer get_of set_of changed_port with_bytes
 turn18 =
     record {
-      start = λ f s. record { before = refl; due = refl; next = refl; some = omega arith; begins = record { prompt = omega arith; few = refl; quiet = refl; at = refl } };
+      start = λ f s. record {
+        before = refl;
+        due = refl;
+        next = refl;
+        some = omega arith;
+        begins = record { prompt = omega arith; few = refl; quiet = refl; at = refl };
+      };
       at_node = record { prompt = omega arith; no_word = refl; no_control = refl; few = refl; busy = refl };
       at_port = record { prompt = omega arith; no_word = refl; no_control = refl; awake = refl; whole = refl; not_writing = refl };
       swept = record { swept = refl; planning_is = refl; store_is = refl; no_fault = refl; has_plan = refl; some = omega arith };
@@ -339,7 +441,13 @@ pub turn19 : Turn 19 171000 161000 false
 unfolding after_answer get_of set_of changed_port with_bytes
 turn19 =
     record {
-      start = λ f s. record { before = refl; due = refl; next = refl; some = omega arith; begins = record { prompt = omega arith; few = refl; quiet = refl; at = refl } };
+      start = λ f s. record {
+        before = refl;
+        due = refl;
+        next = refl;
+        some = omega arith;
+        begins = record { prompt = omega arith; few = refl; quiet = refl; at = refl };
+      };
       at_node = record { prompt = omega arith; no_word = refl; no_control = refl; few = refl; busy = refl };
       at_port = record { prompt = omega arith; no_word = refl; no_control = refl; awake = refl; whole = refl; not_writing = refl };
       swept = record { swept = refl; planning_is = refl; store_is = refl; no_fault = refl; has_plan = refl; some = omega arith };
@@ -352,7 +460,13 @@ pub turn20 : Turn 20 181000 171000 false
 unfolding after_answer get_of set_of changed_port with_bytes
 turn20 =
     record {
-      start = λ f s. record { before = refl; due = refl; next = refl; some = omega arith; begins = record { prompt = omega arith; few = refl; quiet = refl; at = refl } };
+      start = λ f s. record {
+        before = refl;
+        due = refl;
+        next = refl;
+        some = omega arith;
+        begins = record { prompt = omega arith; few = refl; quiet = refl; at = refl };
+      };
       at_node = record { prompt = omega arith; no_word = refl; no_control = refl; few = refl; busy = refl };
       at_port = record { prompt = omega arith; no_word = refl; no_control = refl; awake = refl; whole = refl; not_writing = refl };
       swept = record { swept = refl; planning_is = refl; store_is = refl; no_fault = refl; has_plan = refl; some = omega arith };

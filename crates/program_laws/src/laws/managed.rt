@@ -107,10 +107,10 @@ pub fn some_manager_begins_to_write()
     ensures { SomeManagerBeginsToWrite }
 {}
 
-/// Facts that described exactly what was joined to a manager describe exactly what is joined to it now, if three conditions
-/// hold: the nodes are the same; no cable has come to or gone from the manager's port; nor from a port of a switch that was
-/// joined to it. What is set at agents may have changed. A light sweep relies on this, and on each switch, which is to say
-/// by PortStateChange that a port has changed its state.
+/// Facts that described exactly what was joined to a manager describe exactly what is joined to it now, if three
+/// conditions hold: the nodes are the same; no cable has come to or gone from the manager's port; nor from a port of a
+/// switch that was joined to it. What is set at agents may have changed. A light sweep relies on this, and on each
+/// switch, which is to say by PortStateChange that a port has changed its state.
 #[tactic(auto, using(crate::proofs::light::Quiet::quiet_switches_keep_the_part))]
 pub fn quiet_switches_keep_the_part()
     ensures { QuietSwitchesKeepThePart }

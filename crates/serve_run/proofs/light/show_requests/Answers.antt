@@ -17,12 +17,14 @@ loop-i-preserved g c =
     let line : ℕ → List ℕ = λ i. light_line (light_request a i) in
     let all = range_with_len 0 (length a.reached) in
     let whole = lines_from line all 0 in
+    let below : i < length a.reached = subst (λ (xs : List Vertex). i < length xs) c.reached-i-end.ensures c.loop-i-test.true in
     let Under : Outcome (Unit {0}) → Type 0 = λ outcome. IsUnderWay g.W.Sink.written g.W.Sink.has_failed c.args.sink.now c.loop-i.sink whole outcome in
-    let Written : Option (List ℕ) → Type 0 = λ request. Writes g.W.Sink.written g.W.Sink.has_failed (Ok c.in_ok-write_light.field-0) c.loop-i.sink c.write_light.new.sink
+    let Written : Option (List ℕ) → Type 0 = λ request. Writes g.W.Sink.written g.W.Sink.has_failed (Ok c.in_ok-write_light.field-0)
+    c.loop-i.sink c.write_light.new.sink
     (light_line request) in
     goes_on g.W.Sink.written g.W.Sink.has_failed c.args.sink.now c.loop-i.sink c.write_light.new.sink whole (shows (line i) tt)
     (λ u. lines_from line all (i + 1))
-    (subst Under (lines_next line all i i (index_there (length a.reached) i (subst (λ (xs : List Vertex). i < length xs) c.reached-i-end.ensures c.loop-i-test.true)))
+    (subst Under (lines_next line all i i (index_there (length a.reached) i below))
     c.loop-i.invariant)
     (wrote g.W.Sink.written g.W.Sink.has_failed c.in_ok-write_light.field-0 c.loop-i.sink c.write_light.new.sink (line i)
     (subst Written c.light_request.ensures c.in_ok-write_light.ensures.writes))
@@ -32,7 +34,8 @@ returns g c =
     let a = c.args.sweep.now in
     let line : ℕ → List ℕ = λ i. light_line (light_request a i) in
     let all = range_with_len 0 (length a.reached) in
-    let past : length all ≤ c.loop-i.i = all_indices (length a.reached) c.loop-i.i (subst (λ (xs : List Vertex). length xs ≤ c.loop-i.i) c.reached-i-end.ensures c.loop-i-test.false) in
+    let above : length a.reached ≤ c.loop-i.i = subst (λ (xs : List Vertex). length xs ≤ c.loop-i.i) c.reached-i-end.ensures c.loop-i-test.false in
+    let past : length all ≤ c.loop-i.i = all_indices (length a.reached) c.loop-i.i above in
     record {
       prints = is_over g.W.Sink.written g.W.Sink.has_failed c.args.sink.now c.loop-i.sink (lines_from line all 0) _ c.loop-i.invariant
           (ap (λ r. r.text) (lines_none line all c.loop-i.i past));
