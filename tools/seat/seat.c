@@ -26,9 +26,9 @@ static volatile sig_atomic_t ended_by, hung_up;
 static const char usage_text[] =
 " [OPTION]...\n"
 "Runs `ibsm manage` as subnet manager at a port: carries its packets, and tells it the time.\n"
-"It is no subnet administration: while it is master, no host has one, whatever else runs, so IPoIB and rdma_cm do not\n"
-"work. Only OpenSM as master, with `send` or `round --direct`, keeps it. A whole plan is written at once, not by steps:\n"
-"meanwhile packets that arrived before can be lost or go round.\n"
+"Of subnet administration it has single records: while it is master, no host has more, whatever else runs, so IPoIB and\n"
+"most of rdma_cm do not work. Only OpenSM as master, with `send` or `round --direct`, keeps it. A whole plan is written\n"
+"at once, not by steps: meanwhile packets that arrived before can be lost or go round.\n"
 "\n"
 "  -p, --priority N       of this manager, 0 to 15 (0)\n"
 "      --sm-key HEX       its SM_Key, 1 to 16 hex digits: that of the other managers, and not 0 beside OpenSM (1, as\n"
