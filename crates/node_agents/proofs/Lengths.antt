@@ -11,7 +11,7 @@ use Rattle.smp_bytes.proofs.FieldLaws.{length-with_number, length-with_numbers}
 use Rattle.attr_codec.specs.Image.{image}
 use Rattle.attr_codec.specs.NodeInfo.{entries_of}
 use Rattle.attr_codec.specs.PortInfo.{base_lid, master_sm_lid, local_port_num, lmc, port_state, is_sm_bit, number_of_state}
-use Rattle.attr_codec.specs.SwitchInfo.{linear_fdb_cap, linear_fdb_top}
+use Rattle.attr_codec.specs.SwitchInfo.{linear_fdb_cap, linear_fdb_top, multicast_fdb_cap}
 use Rattle.node_agents.specs.declared.port.Port.{Port}
 use Rattle.node_agents.specs.declared.refusal.Refusal.{Refusal}
 use Rattle.node_agents.specs.declared.refusal.Refusal.TheVariants.{InvalidField, MethodAndAttribute}
@@ -21,8 +21,9 @@ use Rattle.node_agents.specs.NodeInfo.{node_info_of, get_node_info}
 use Rattle.node_agents.specs.SwitchInfo.{get_switch_info}
 use Rattle.node_agents.specs.PortInfo.{port_info_of, port_meant}
 use Rattle.node_agents.specs.LftBlock.{has_block}
+use Rattle.node_agents.specs.MftBlock.{has_masks, multicast_cap, multicast_forwarding_table, position_in}
 use Rattle.node_agents.specs.Answers.{get_of}
-use Rattle.node_agents.proofs.Shapes.{block_within}
+use Rattle.node_agents.proofs.Shapes.{block_within, masks_within}
 
 -- the bytes of port information before its bits are written
 abbrev pub port_entries : Port → ℕ → List Entry
@@ -61,7 +62,9 @@ length-get_node_info a arrival = length-with_numbers 64 (entries_of (node_info_o
 
 -- the bytes of switch information
 abbrev pub switch_entries : Agent → List Entry
-switch_entries a = record { field = linear_fdb_cap; number = a.node.cap } ∷ record { field = linear_fdb_top; number = a.top } ∷ []
+switch_entries a =
+    record { field = linear_fdb_cap; number = a.node.cap } ∷ record { field = linear_fdb_top; number = a.top }
+    ∷ record { field = multicast_fdb_cap; number = multicast_cap } ∷ []
 
 pub length-get_switch_info : (a : Agent) → length (get_switch_info a) ≡ 64
 length-get_switch_info a = length-with_numbers 64 (switch_entries a) (replicate 64 0) refl refl
@@ -71,6 +74,12 @@ length-block a block is has =
     let within = block_within a block is has in
     let rest = length-drop (64 * block) a.table in
     length-take-le 64 (drop (64 * block) a.table) (omega arith)
+
+pub length-masks : (a : Agent) (modifier : ℕ) → IsAgent a → has_masks a modifier ≡ true → length (take 64 (drop (64 * position_in modifier) a.masks)) ≡ 64
+length-masks a modifier is has =
+    let within = masks_within a modifier is has in
+    let rest = length-drop (64 * position_in modifier) a.masks in
+    length-take-le 64 (drop (64 * position_in modifier) a.masks) (omega (arith, within, rest))
 
 -- a Get -----------------------------------------------------------------------------------
 
@@ -107,4 +116,6 @@ whole-get_of a packet arrival is =
     (whole-both (is_switch a && attribute == switch_info) _ _ (whole-ok (get_switch_info a) (length-get_switch_info a))
     (whole-both (is_switch a && attribute == linear_forwarding_table) _ _
     (whole-block (take 64 (drop (64 * modifier) a.table)) (has_block a modifier) (λ has. length-block a modifier is has))
-    (whole-err MethodAndAttribute)))))
+    (whole-both (is_switch a && attribute == multicast_forwarding_table) _ _
+    (whole-block (take 64 (drop (64 * position_in modifier) a.masks)) (has_masks a modifier) (λ has. length-masks a modifier is has))
+    (whole-err MethodAndAttribute))))))

@@ -8,7 +8,7 @@ use Rattle.attr_codec.specs.declared.port_state.PortState.{PortState}
 use Rattle.attr_codec.specs.declared.port_state.PortState.TheVariants.{NoChange, Down, Initialize, Active}
 use Rattle.node_agents.specs.declared.agent_node.AgentNode.{AgentNode}
 use Rattle.node_agents.specs.declared.port.Port.{Port}
-use Rattle.node_agents.specs.Agent.{Agent, IsAgentNode, IsAgent, IsPort, is_switch, port_in, with_port, block_count, fresh_agent}
+use Rattle.node_agents.specs.Agent.{Agent, IsAgentNode, IsAgent, IsPort, is_switch, port_in, with_port, block_count, fresh_agent, position_count}
 use Rattle.node_agents.specs.AnswerLaws.{AgentsAreMade}
 use Rattle.node_agents.proofs.Shapes.{is_port_at}
 
@@ -38,6 +38,7 @@ fresh_is node is long =
       port_zero = λ h. ap (λ (b : Bool). if b then Active else Down) h;
       table = length-replicate (64 * block_count node.cap) 255;
       top = inl refl;
+      masks = length-replicate (64 * position_count node) 0;
     }
 
 -- a port from 1 on, or of an adapter, is written
@@ -52,6 +53,7 @@ with_port_is a port new is good apart =
           ap (λ (p : Port). p.state) (get_or-set_other a.ports port 0 new (port_in Down) other) ∙ is.port_zero h;
       table = is.table;
       top = is.top;
+      masks = is.masks;
     }
 
 wired_known : (b : Bool) → (if b then Initialize else Down) ≢ NoChange

@@ -14,6 +14,7 @@ use Rattle.node_agents.specs.Agent.{Agent, IsAgent, is_switch}
 use Rattle.node_agents.specs.SwitchInfo.{get_switch_info, set_switch_info}
 use Rattle.node_agents.specs.PortInfo.{get_port_info, set_port_info}
 use Rattle.node_agents.specs.LftBlock.{get_block, set_block}
+use Rattle.node_agents.specs.MftBlock.{get_masks, multicast_forwarding_table, set_masks}
 use Rattle.node_agents.specs.Answers.{get_attribute, get_of, set_of, Met, met_set, after_request, status_told, payload_told, after_answer}
 use Rattle.node_agents.specs.AnswerLaws.{AnswersHold}
 use Rattle.node_agents.proofs.Shapes.{from_ok, keeps-set_of}
@@ -65,7 +66,7 @@ no_agent : (refusal : Refusal) (b : Agent) → ◌≡◌ {A = Result Agent Refus
 no_agent refusal b h = cc
 
 module _ (a b : Agent) (packet : List ℕ) (arrival : ℕ) where
-  -- one of the three attributes that can be set
+  -- one of the attributes that can be set
   pub record SetsOne (number : ℕ) (taking : Option Agent) : Type 0 where
     pub attribute : number_in attribute_id packet ≡ number
     pub taken : taking ≡ Some b
@@ -79,37 +80,52 @@ module _ (a b : Agent) (packet : List ℕ) (arrival : ℕ) where
   abbrev pub SetsABlock : Type 0
   SetsABlock = (is_switch a ≡ true) × SetsOne linear_forwarding_table (set_block a (number_in attribute_modifier packet) (bytes_in attribute_data packet))
 
+  abbrev pub SetsTheMasks : Type 0
+  SetsTheMasks = (is_switch a ≡ true)
+      × SetsOne multicast_forwarding_table (set_masks a (number_in attribute_modifier packet) (bytes_in attribute_data packet))
+
+  -- what a Set that is taken sets
+  abbrev pub SetsSome : Type 0
+  SetsSome = SetsPortInfo ⊎ (SetsSwitchInfo ⊎ (SetsABlock ⊎ SetsTheMasks))
+
   one_of : (s : Bool) (number : ℕ) (taking : Option Agent) → (s && number_in attribute_id packet == number) ≡ true → ok_or taking InvalidField ≡ Ok b
       → (s ≡ true) × SetsOne number taking
   one_of s number taking c t =
       let parts = and_parts s (number_in attribute_id packet == number) c in
       (parts.0, record { attribute = eqb-true _ _ parts.1; taken = from_ok taking b t })
 
-  block_is : (c : Bool) → c ≡ (is_switch a && number_in attribute_id packet == linear_forwarding_table)
-      → (if c then ok_or (set_block a (number_in attribute_modifier packet) (bytes_in attribute_data packet)) InvalidField else Err MethodAndAttribute) ≡ Ok b
-      → SetsABlock
-  block_is true e h = one_of (is_switch a) linear_forwarding_table _ (sym e) h
-  block_is false e h = absurd (no_agent MethodAndAttribute b h)
+  masks_are : (c : Bool) → c ≡ (is_switch a && number_in attribute_id packet == multicast_forwarding_table)
+      → (if c then ok_or (set_masks a (number_in attribute_modifier packet) (bytes_in attribute_data packet)) InvalidField else Err MethodAndAttribute) ≡ Ok b
+      → SetsTheMasks
+  masks_are true e h = one_of (is_switch a) multicast_forwarding_table _ (sym e) h
+  masks_are false e h = absurd (no_agent MethodAndAttribute b h)
+
+  block_is : (c : Bool) (rest : Result Agent Refusal) → c ≡ (is_switch a && number_in attribute_id packet == linear_forwarding_table)
+      → (rest ≡ Ok b → SetsTheMasks)
+      → (if c then ok_or (set_block a (number_in attribute_modifier packet) (bytes_in attribute_data packet)) InvalidField else rest) ≡ Ok b
+      → SetsABlock ⊎ SetsTheMasks
+  block_is true rest e f h = inl (one_of (is_switch a) linear_forwarding_table _ (sym e) h)
+  block_is false rest e f h = inr (f h)
 
   switch_is : (c : Bool) (rest : Result Agent Refusal) → c ≡ (is_switch a && number_in attribute_id packet == switch_info)
-      → (rest ≡ Ok b → SetsABlock)
+      → (rest ≡ Ok b → SetsABlock ⊎ SetsTheMasks)
       → (if c then ok_or (set_switch_info a (bytes_in attribute_data packet)) InvalidField else rest) ≡ Ok b
-      → SetsSwitchInfo ⊎ SetsABlock
+      → SetsSwitchInfo ⊎ (SetsABlock ⊎ SetsTheMasks)
   switch_is true rest e f h = inl (one_of (is_switch a) switch_info _ (sym e) h)
   switch_is false rest e f h = inr (f h)
 
   port_is : (c : Bool) (rest : Result Agent Refusal) → c ≡ (number_in attribute_id packet == port_info)
-      → (rest ≡ Ok b → SetsSwitchInfo ⊎ SetsABlock)
+      → (rest ≡ Ok b → SetsSwitchInfo ⊎ (SetsABlock ⊎ SetsTheMasks))
       → (if c then ok_or (set_port_info a (number_in attribute_modifier packet) arrival (bytes_in attribute_data packet)) InvalidField else rest) ≡ Ok b
-      → SetsPortInfo ⊎ (SetsSwitchInfo ⊎ SetsABlock)
+      → SetsSome
   port_is true rest e f h = inl (record { attribute = eqb-true _ _ (sym e); taken = from_ok _ b h })
   port_is false rest e f h = inr (f h)
 
-  pub what_is_set : set_of a packet arrival ≡ Ok b → SetsPortInfo ⊎ (SetsSwitchInfo ⊎ SetsABlock)
+  pub what_is_set : set_of a packet arrival ≡ Ok b → SetsSome
   unfolding set_of
-  what_is_set = port_is _ _ refl (switch_is _ _ refl (block_is _ refl))
+  what_is_set = port_is _ _ refl (switch_is _ _ refl (block_is _ _ refl (masks_are _ refl)))
 
--- what a Get tells of each of the three -------------------------------------------------------
+-- what a Get tells of each of these -------------------------------------------------------
 
 pub get_of-port_info : (a : Agent) (packet : List ℕ) (arrival : ℕ) → number_in attribute_id packet ≡ port_info
     → get_of a packet arrival ≡ ok_or (get_port_info a (number_in attribute_modifier packet) arrival) InvalidField
@@ -137,3 +153,12 @@ get_of-block a packet arrival s e =
     ap (λ n. get_attribute a n (number_in attribute_modifier packet) arrival) e
     ∙ past_switch (is_switch a) (Ok (get_switch_info a)) _
     ∙ at_switch (is_switch a) (ok_or (get_block a (number_in attribute_modifier packet)) InvalidField) _ s
+
+pub get_of-masks : (a : Agent) (packet : List ℕ) (arrival : ℕ) → is_switch a ≡ true → number_in attribute_id packet ≡ multicast_forwarding_table
+    → get_of a packet arrival ≡ ok_or (get_masks a (number_in attribute_modifier packet)) InvalidField
+unfolding get_of
+get_of-masks a packet arrival s e =
+    ap (λ n. get_attribute a n (number_in attribute_modifier packet) arrival) e
+    ∙ past_switch (is_switch a) (Ok (get_switch_info a)) _
+    ∙ past_switch (is_switch a) (ok_or (get_block a (number_in attribute_modifier packet)) InvalidField) _
+    ∙ at_switch (is_switch a) (ok_or (get_masks a (number_in attribute_modifier packet)) InvalidField) _ s

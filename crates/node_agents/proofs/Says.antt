@@ -125,10 +125,11 @@ module _ (a b : Agent) (modifier arrival : ℕ) (payload : List ℕ) (is : IsAge
 
 -- the law -------------------------------------------------------------------------------------
 
-switch_told : (is_it : Bool) (x y : Result (List ℕ) Refusal) (payload : List ℕ)
-    → cond (is_it && true) x (cond (is_it && false) y (Err MethodAndAttribute)) ≡ Ok payload → (is_it ≡ true) × (x ≡ Ok payload)
-switch_told true x y payload h = (refl, h)
-switch_told false x y payload h = cc
+switch_told : (is_it : Bool) (x y z : Result (List ℕ) Refusal) (payload : List ℕ)
+    → cond (is_it && true) x (cond (is_it && false) y (cond (is_it && false) z (Err MethodAndAttribute))) ≡ Ok payload
+    → (is_it ≡ true) × (x ≡ Ok payload)
+switch_told true x y z payload h = (refl, h)
+switch_told false x y z payload h = cc
 
 get_of-node_info : (a : Agent) (packet : List ℕ) (arrival : ℕ) → number_in attribute_id packet ≡ node_info → get_of a packet arrival
     ≡ Ok (get_node_info a arrival)
@@ -140,7 +141,7 @@ get_of-switch : (a : Agent) (packet : List ℕ) (arrival : ℕ) (payload : List 
     → (is_switch a ≡ true) × (◌≡◌ {A = Result (List ℕ) Refusal} (Ok (get_switch_info a)) (Ok payload))
 unfolding get_of
 get_of-switch a packet arrival payload e h =
-    switch_told (is_switch a) (Ok (get_switch_info a)) _ payload (sym (ap (λ n. get_attribute a n (number_in attribute_modifier packet) arrival) e) ∙ h)
+    switch_told (is_switch a) (Ok (get_switch_info a)) _ _ payload (sym (ap (λ n. get_attribute a n (number_in attribute_modifier packet) arrival) e) ∙ h)
 
 -- the port that is meant, by the node
 meant_of : AgentNode → ℕ → ℕ → Option ℕ

@@ -24,14 +24,15 @@ use Rattle.node_agents.specs.SwitchInfo.{get_switch_info, SetsTop}
 use Rattle.node_agents.specs.PortInfo.{has_lid, max_lmc, is_next_state, state_after, port_with, are_lids_taken}
 use Rattle.node_agents.specs.PortInfo.{port_after, port_meant, port_info_of, SetsPort}
 use Rattle.node_agents.specs.LftBlock.{has_block, SetsBlock}
+use Rattle.node_agents.specs.MftBlock.{has_masks, multicast_forwarding_table, position_in, SetsMasks}
 use Rattle.node_agents.specs.declared.refusal.Refusal.{Refusal}
 use Rattle.node_agents.specs.Answers.{get_of, after_answer}
-use Rattle.node_agents.specs.AnswerLaws.{BlocksAreSet, TopsAreSet, PortsAreSet}
+use Rattle.node_agents.specs.AnswerLaws.{BlocksAreSet, MasksAreSet, TopsAreSet, PortsAreSet}
 use Rattle.node_agents.proofs.PortSteps.{lid_taken}
-use Rattle.node_agents.proofs.Shapes.{block_within}
+use Rattle.node_agents.proofs.Shapes.{block_within, masks_within}
 use Rattle.node_agents.proofs.Lengths.{port_entries, port_marked, port_ranged, switch_entries, length-port_image, length-port_marked, length-port_ranged}
-use Rattle.node_agents.proofs.Outcomes.{SetsPortInfo, SetsSwitchInfo, SetsABlock, what_is_set}
-use Rattle.node_agents.proofs.Told.{port_taken, from_choice, get_after_port, get_after_top, get_after_block, TakenTo, taken_to}
+use Rattle.node_agents.proofs.Outcomes.{SetsPortInfo, SetsSwitchInfo, SetsABlock, SetsTheMasks, SetsSome, what_is_set}
+use Rattle.node_agents.proofs.Told.{port_taken, from_choice, get_after_port, get_after_top, get_after_block, get_after_masks, TakenTo, taken_to}
 
 -- a block -------------------------------------------------------------------------------------
 
@@ -39,44 +40,67 @@ use Rattle.node_agents.proofs.Told.{port_taken, from_choice, get_after_port, get
 other_default : (xs : List ℕ) (i d e : ℕ) → i < length xs → get_or xs i d ≡ get_or xs i e
 other_default xs i d e h = get_or_default_zero xs i d h ∙ sym (get_or_default_zero xs i e h)
 
-module _ (a : Agent) (block : ℕ) (payload : List ℕ) (is : IsAgent a) (long : length payload ≡ 64) (has : has_block a block ≡ true) where
+-- 64 bytes are written into a list, from `start` on
+module _ (bytes payload : List ℕ) (start : ℕ) (long : length payload ≡ 64) (within : start + 64 ≤ length bytes) where
   written : List ℕ
-  written = with_bytes (64 * block) payload a.table
+  written = with_bytes start payload bytes
 
-  fits : 64 * block + length payload ≤ length a.table
-  fits = let within = block_within a block is has in omega arith
+  fits : start + length payload ≤ length bytes
+  fits = omega (arith, long, within)
 
-  length-written : length written ≡ length a.table
+  length-written : length written ≡ length bytes
   unfolding written
-  length-written = length-with_bytes (64 * block) payload a.table fits
+  length-written = length-with_bytes start payload bytes fits
 
-  told_block : take 64 (drop (64 * block) written) ≡ payload
+  told_block : take 64 (drop start written) ≡ payload
   unfolding written
-  told_block = ap (λ n. take n (drop (64 * block) written)) (sym long) ∙ bytes_in-with_bytes (64 * block) payload a.table fits
+  told_block = ap (λ n. take n (drop start written)) (sym long) ∙ bytes_in-with_bytes start payload bytes fits
 
-  inside : (i : ℕ) → i < 64 → get_or written (64 * block + i) 255 ≡ get_or payload i 0
+  inside : (d i : ℕ) → i < 64 → get_or written (start + i) d ≡ get_or payload i 0
   unfolding written
-  inside i h =
+  inside d i h =
       let whole = length-written in
-      let within = fits in
-      get_or_default_zero written (64 * block + i) 255 (omega arith) ∙ get_or-with_bytes_inside (64 * block) payload a.table i fits (omega arith)
+      other_default written (start + i) d 0 (omega (arith, whole, within, h))
+      ∙ get_or-with_bytes_inside start payload bytes i fits (omega (arith, long, h))
 
-  outside : (lid : ℕ) → (lid < 64 * block) ⊎ (64 * block + 64 ≤ lid) → get_or written lid 255 ≡ get_or a.table lid 255
+  outside : (d i : ℕ) → (i < start) ⊎ (start + 64 ≤ i) → get_or written i d ≡ get_or bytes i d
   unfolding written
-  outside lid h =
+  outside d i h =
       let whole = length-written in
-      let apart : (lid < 64 * block) ⊎ (64 * block + length payload ≤ lid) = subst (λ (n : ℕ). (lid < 64 * block) ⊎ (64 * block + n ≤ lid)) (sym long) h in
-      elim (cases_lt lid (length a.table)) [
-        | inl there ↦ get_or_default_zero written lid 255 (omega arith)
-            ∙ get_or-with_bytes (64 * block) payload a.table lid fits apart
-            ∙ sym (get_or_default_zero a.table lid 255 there)
-        | inr beyond ↦ get_or_past written lid 255 (omega arith) ∙ sym (get_or_past a.table lid 255 beyond)
+      let apart : (i < start) ⊎ (start + length payload ≤ i) = subst (λ (n : ℕ). (i < start) ⊎ (start + n ≤ i)) (sym long) h in
+      elim (cases_lt i (length bytes)) [
+        | inl there ↦ other_default written i d 0 (omega (arith, whole, there))
+            ∙ get_or-with_bytes start payload bytes i fits apart
+            ∙ other_default bytes i 0 d there
+        | inr beyond ↦ get_or_past written i d (omega (arith, whole, beyond)) ∙ sym (get_or_past bytes i d beyond)
       ]
 
-  pub sets_block : SetsBlock a (record a { table = with_bytes (64 * block) payload a.table }) block payload
+module _ (a : Agent) (payload : List ℕ) (is : IsAgent a) (long : length payload ≡ 64) where
+  pub sets_block : (block : ℕ) → has_block a block ≡ true
+      → SetsBlock a (record a { table = with_bytes (64 * block) payload a.table }) block payload
       (take 64 (drop (64 * block) (with_bytes (64 * block) payload a.table)))
   unfolding written
-  sets_block = record { is_told = told_block; inside = inside; outside = outside; all_else = refl }
+  sets_block block has =
+      let within = block_within a block is has in
+      record {
+        is_told = told_block a.table payload (64 * block) long within;
+        inside = inside a.table payload (64 * block) long within 255;
+        outside = outside a.table payload (64 * block) long within 255;
+        all_else = refl;
+      }
+
+  sets_masks : (modifier : ℕ) → has_masks a modifier ≡ true
+      → SetsMasks a (record a { masks = with_bytes (64 * position_in modifier) payload a.masks }) (position_in modifier) payload
+      (take 64 (drop (64 * position_in modifier) (with_bytes (64 * position_in modifier) payload a.masks)))
+  unfolding written
+  sets_masks modifier has =
+      let within = masks_within a modifier is has in
+      record {
+        is_told = told_block a.masks payload (64 * position_in modifier) long within;
+        inside = inside a.masks payload (64 * position_in modifier) long within 0;
+        outside = outside a.masks payload (64 * position_in modifier) long within 0;
+        all_else = refl;
+      }
 
 length-payload : (packet : List ℕ) → length packet ≡ 256 → length (bytes_in attribute_data packet) ≡ 64
 length-payload packet long = let rest = length-drop 64 packet in length-take-le 64 (drop 64 packet) (omega arith)
@@ -93,23 +117,29 @@ transported P a packet arrival b told payload t got known =
     subst (P (after_answer a packet arrival).agent) (sym t.payload_is) of_agent
 
 module _ (a b : Agent) (packet : List ℕ) (arrival : ℕ) where
-  only_block : SetsPortInfo a b packet arrival ⊎ (SetsSwitchInfo a b packet arrival ⊎ SetsABlock a b packet arrival)
-      → number_in attribute_id packet ≡ linear_forwarding_table → SetsABlock a b packet arrival
+  only_block : SetsSome a b packet arrival → number_in attribute_id packet ≡ linear_forwarding_table → SetsABlock a b packet arrival
   only_block (inl s) e = let clash : port_info ≡ linear_forwarding_table = sym s.attribute ∙ e in absurd (omega arith)
   only_block (inr (inl s)) e = let clash : switch_info ≡ linear_forwarding_table = sym s.1.attribute ∙ e in absurd (omega arith)
-  only_block (inr (inr s)) e = s
+  only_block (inr (inr (inl s))) e = s
+  only_block (inr (inr (inr s))) e = let clash : multicast_forwarding_table ≡ linear_forwarding_table = sym s.1.attribute ∙ e in absurd (omega arith)
 
-  only_top : SetsPortInfo a b packet arrival ⊎ (SetsSwitchInfo a b packet arrival ⊎ SetsABlock a b packet arrival)
-      → number_in attribute_id packet ≡ switch_info → SetsSwitchInfo a b packet arrival
+  only_masks : SetsSome a b packet arrival → number_in attribute_id packet ≡ multicast_forwarding_table → SetsTheMasks a b packet arrival
+  only_masks (inl s) e = let clash : port_info ≡ multicast_forwarding_table = sym s.attribute ∙ e in absurd (omega arith)
+  only_masks (inr (inl s)) e = let clash : switch_info ≡ multicast_forwarding_table = sym s.1.attribute ∙ e in absurd (omega arith)
+  only_masks (inr (inr (inl s))) e = let clash : linear_forwarding_table ≡ multicast_forwarding_table = sym s.1.attribute ∙ e in absurd (omega arith)
+  only_masks (inr (inr (inr s))) e = s
+
+  only_top : SetsSome a b packet arrival → number_in attribute_id packet ≡ switch_info → SetsSwitchInfo a b packet arrival
   only_top (inl s) e = let clash : port_info ≡ switch_info = sym s.attribute ∙ e in absurd (omega arith)
   only_top (inr (inl s)) e = s
-  only_top (inr (inr s)) e = let clash : linear_forwarding_table ≡ switch_info = sym s.1.attribute ∙ e in absurd (omega arith)
+  only_top (inr (inr (inl s))) e = let clash : linear_forwarding_table ≡ switch_info = sym s.1.attribute ∙ e in absurd (omega arith)
+  only_top (inr (inr (inr s))) e = let clash : multicast_forwarding_table ≡ switch_info = sym s.1.attribute ∙ e in absurd (omega arith)
 
-  only_port : SetsPortInfo a b packet arrival ⊎ (SetsSwitchInfo a b packet arrival ⊎ SetsABlock a b packet arrival)
-      → number_in attribute_id packet ≡ port_info → SetsPortInfo a b packet arrival
+  only_port : SetsSome a b packet arrival → number_in attribute_id packet ≡ port_info → SetsPortInfo a b packet arrival
   only_port (inl s) e = s
   only_port (inr (inl s)) e = let clash : switch_info ≡ port_info = sym s.1.attribute ∙ e in absurd (omega arith)
-  only_port (inr (inr s)) e = let clash : linear_forwarding_table ≡ port_info = sym s.1.attribute ∙ e in absurd (omega arith)
+  only_port (inr (inr (inl s))) e = let clash : linear_forwarding_table ≡ port_info = sym s.1.attribute ∙ e in absurd (omega arith)
+  only_port (inr (inr (inr s))) e = let clash : multicast_forwarding_table ≡ port_info = sym s.1.attribute ∙ e in absurd (omega arith)
 
 pub blocks_are_set : BlocksAreSet
 blocks_are_set a packet arrival is =
@@ -122,9 +152,27 @@ blocks_are_set a packet arrival is =
     let P : Agent → List ℕ → Type 0 = λ x told. SetsBlock a x block payload told in
     let known : SetsBlock a b block payload (take 64 (drop (64 * block) b.table)) =
     subst (λ (x : Agent). SetsBlock a x block payload (take 64 (drop (64 * block) x.table))) after.1
-    (sets_block a block payload is.agent (length-payload packet is.whole.count) after.0) in
+    (sets_block a payload is.agent (length-payload packet is.whole.count) block after.0) in
     let got = get_after_block a b packet arrival payload s.0 s.1.attribute s.1.taken in
     transported P a packet arrival b t.1 (take 64 (drop (64 * block) b.table)) t.2 got known
+
+-- the masks of a position -------------------------------------------------------------------
+
+pub masks_are_set : MasksAreSet
+masks_are_set a packet arrival is =
+    let modifier = number_in attribute_modifier packet in
+    let position = position_in modifier in
+    let payload = bytes_in attribute_data packet in
+    let t = taken_to a packet arrival multicast_forwarding_table is in
+    let b = t.0 in
+    let s = only_masks a b packet arrival (what_is_set a b packet arrival t.2.taken) is.attribute in
+    let after = from_choice (record a { masks = with_bytes (64 * position) payload a.masks }) b (has_masks a modifier) s.1.taken in
+    let P : Agent → List ℕ → Type 0 = λ x told. SetsMasks a x position payload told in
+    let known : SetsMasks a b position payload (take 64 (drop (64 * position) b.masks)) =
+    subst (λ (x : Agent). SetsMasks a x position payload (take 64 (drop (64 * position) x.masks))) after.1
+    (sets_masks a payload is.agent (length-payload packet is.whole.count) modifier after.0) in
+    let got = get_after_masks a b packet arrival payload s.0 s.1.attribute s.1.taken in
+    transported P a packet arrival b t.1 (take 64 (drop (64 * position) b.masks)) t.2 got known
 
 -- the top -------------------------------------------------------------------------------------
 

@@ -15,9 +15,10 @@ use Rattle.node_agents.specs.declared.agent_node.AgentNode.{AgentNode}
 use Rattle.node_agents.specs.declared.port.Port.{Port}
 use Rattle.node_agents.specs.declared.refusal.Refusal.{Refusal}
 use Rattle.node_agents.specs.declared.refusal.Refusal.TheVariants.{MethodAndAttribute, InvalidField}
-use Rattle.node_agents.specs.Agent.{Agent, IsAgent, IsPort, is_switch, port_in, port_at, with_port, block_count}
+use Rattle.node_agents.specs.Agent.{Agent, IsAgent, IsPort, is_switch, port_in, port_at, with_port, block_count, position_count}
 use Rattle.node_agents.specs.SwitchInfo.{set_switch_info}
 use Rattle.node_agents.specs.LftBlock.{has_block, set_block}
+use Rattle.node_agents.specs.MftBlock.{has_masks, multicast_forwarding_table, position_in, set_masks}
 use Rattle.node_agents.specs.PortInfo.{changed_port, set_port_info}
 use Rattle.node_agents.specs.Answers.{set_of, after_request, Met, met_set, after_answer}
 use Rattle.node_agents.specs.AnswerLaws.{KeepsShape, AnsweredKeepsShape, AnsweredIsAgent}
@@ -32,8 +33,9 @@ pub keeps_same : (a : Agent) → Keeps a a
 keeps_same a = record { shape = record { node = refl; down = λ port. (λ h. h, λ h. h); seats = λ port. refl }; is_agent = λ h. h }
 
 -- an agent with the same node and ports has the same shape
-same_ports : (a : Agent) (table : List ℕ) (top : ℕ) → KeepsShape a (record { node = a.node; ports = a.ports; table = table; top = top })
-same_ports a table top = record { node = refl; down = λ port. (λ h. h, λ h. h); seats = λ port. refl }
+same_ports : (a : Agent) (table : List ℕ) (top : ℕ) (masks : List ℕ)
+    → KeepsShape a (record { node = a.node; ports = a.ports; table = table; top = top; masks = masks })
+same_ports a table top masks = record { node = refl; down = λ port. (λ h. h, λ h. h); seats = λ port. refl }
 
 -- a port ------------------------------------------------------------------------------
 
@@ -68,6 +70,7 @@ keeps-with_port a port new steps =
             port_zero = λ h. (each 0).state.active (is.port_zero h);
             table = is.table;
             top = is.top;
+            masks = is.masks;
           };
     }
 
@@ -95,7 +98,7 @@ top_taken a b top false fits h = cc
 top_taken a b top true fits h =
     let e : record a { top = top } ≡ b = cc in
     let kept : Keeps a (record a { top = top }) = record {
-      shape = same_ports a a.table top;
+      shape = same_ports a a.table top a.masks;
       is_agent = λ is. record {
         node = is.node;
         description = is.description;
@@ -104,6 +107,7 @@ top_taken a b top true fits h =
         port_zero = is.port_zero;
         table = is.table;
         top = inr (fits refl);
+        masks = is.masks;
       };
     } in
     subst (Keeps a) e kept
@@ -125,7 +129,7 @@ block_taken a b block payload false small has h = cc
 block_taken a b block payload true small has h =
     let e : record a { table = with_bytes (64 * block) payload a.table } ≡ b = cc in
     let kept : Keeps a (record a { table = with_bytes (64 * block) payload a.table }) = record {
-      shape = same_ports a (with_bytes (64 * block) payload a.table) a.top;
+      shape = same_ports a (with_bytes (64 * block) payload a.table) a.top a.masks;
       is_agent = λ is. let within = block_within a block is (has refl) in record {
         node = is.node;
         description = is.description;
@@ -134,12 +138,43 @@ block_taken a b block payload true small has h =
         port_zero = is.port_zero;
         table = length-with_bytes (64 * block) payload a.table (omega arith) ∙ is.table;
         top = is.top;
+        masks = is.masks;
       };
     } in
     subst (Keeps a) e kept
 
 pub keeps-set_block : (a b : Agent) (block : ℕ) (payload : List ℕ) → length payload ≤ 64 → set_block a block payload ≡ Some b → Keeps a b
 keeps-set_block a b block payload small h = block_taken a b block payload (has_block a block) small (λ e. e) h
+
+-- a block of the multicast table lies within it
+pub masks_within : (a : Agent) (modifier : ℕ) → IsAgent a → has_masks a modifier ≡ true → 64 * position_in modifier + 64 ≤ length a.masks
+masks_within a modifier is h =
+    let below : position_in modifier < position_count a.node = ltb-true _ _ (and_parts (nat_lt (position_in modifier) (position_count a.node)) _ h).0 in
+    let whole = is.masks in
+    omega (arith, below, whole)
+
+masks_taken : (a b : Agent) (modifier : ℕ) (payload : List ℕ) (has : Bool) → length payload ≤ 64 → (has ≡ true → has_masks a modifier ≡ true)
+    → (if has then Some (record a { masks = with_bytes (64 * position_in modifier) payload a.masks }) else None) ≡ Some b → Keeps a b
+masks_taken a b modifier payload false small has h = cc
+masks_taken a b modifier payload true small has h =
+    let e : record a { masks = with_bytes (64 * position_in modifier) payload a.masks } ≡ b = cc in
+    let kept : Keeps a (record a { masks = with_bytes (64 * position_in modifier) payload a.masks }) = record {
+      shape = same_ports a a.table a.top (with_bytes (64 * position_in modifier) payload a.masks);
+      is_agent = λ is. let within = masks_within a modifier is (has refl) in record {
+        node = is.node;
+        description = is.description;
+        count = is.count;
+        ports = is.ports;
+        port_zero = is.port_zero;
+        table = is.table;
+        top = is.top;
+        masks = length-with_bytes (64 * position_in modifier) payload a.masks (omega (arith, small, within)) ∙ is.masks;
+      };
+    } in
+    subst (Keeps a) e kept
+
+pub keeps-set_masks : (a b : Agent) (modifier : ℕ) (payload : List ℕ) → length payload ≤ 64 → set_masks a modifier payload ≡ Some b → Keeps a b
+keeps-set_masks a b modifier payload small h = masks_taken a b modifier payload (has_masks a modifier) small (λ e. e) h
 
 pub from_ok : (m : Option Agent) (b : Agent) → ok_or m InvalidField ≡ Ok b → m ≡ Some b
 from_ok None b h = cc
@@ -168,7 +203,9 @@ keeps-set_of a b packet arrival =
     (λ h. keeps-set_switch_info a b payload (from_ok _ b h))
     (of_both a b (is_switch a && attribute == linear_forwarding_table) (ok_or (set_block a modifier payload) InvalidField) _
     (λ h. keeps-set_block a b modifier payload (payload_small packet) (from_ok _ b h))
-    (of_none a b MethodAndAttribute)))
+    (of_both a b (is_switch a && attribute == multicast_forwarding_table) (ok_or (set_masks a modifier payload) InvalidField) _
+    (λ h. keeps-set_masks a b modifier payload (payload_small packet) (from_ok _ b h))
+    (of_none a b MethodAndAttribute))))
 
 -- a Set keeps the count of ports, whether it is taken or not
 pub ports-set : (a b : Agent) (packet : List ℕ) (arrival n : ℕ) → set_of a packet arrival ≡ Ok b → n ≤ a.node.ports → n ≤ b.node.ports

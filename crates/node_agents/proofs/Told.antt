@@ -1,5 +1,5 @@
 -- The agent after a Set that is taken, and what the answer says.
-use Rattle.std.proofs.Common.{◌≡◌, ◌≢◌, ◌⊎◌, ℕ, ◌*◌, Bool, true, false, List, inl, inr, refl, sym, ap, ◌∙◌, subst, arith, take, drop}
+use Rattle.std.proofs.Common.{◌≡◌, ◌≢◌, ℕ, ◌*◌, Bool, true, false, List, inl, inr, refl, sym, ap, ◌∙◌, subst, arith, take, drop}
 use Rattle.std.specs.Prelude.{Option, Some, None, Result, Ok, Err, option_map, option_and_then, if◌then◌else◌, ◌==◌}
 use Rattle.std.specs.Option.{ok_or}
 use Rattle.smp_bytes.specs.Header.{get, set, done, switch_info, port_info, linear_forwarding_table}
@@ -13,10 +13,11 @@ use Rattle.node_agents.specs.Agent.{Agent, IsAgent, is_switch, port_at, with_por
 use Rattle.node_agents.specs.SwitchInfo.{get_switch_info, set_switch_info}
 use Rattle.node_agents.specs.PortInfo.{has_lid, max_lmc, port_meant, port_info_of, port_after, changed_port, set_port_info}
 use Rattle.node_agents.specs.LftBlock.{has_block, set_block}
+use Rattle.node_agents.specs.MftBlock.{has_masks, multicast_forwarding_table, position_in, set_masks}
 use Rattle.node_agents.specs.Answers.{get_attribute, get_of, set_of, Met, met_set, after_request, status_told, payload_told, after_answer}
 use Rattle.node_agents.specs.AnswerLaws.{GetsChangeNothing, RefusalsChangeNothing, IsTaken, IsAboutTheSame, GetsTellAsSets}
 use Rattle.node_agents.proofs.Shapes.{answered_is_agent}
-use Rattle.node_agents.proofs.Outcomes.{answers_hold, SetsPortInfo, SetsSwitchInfo, SetsABlock, what_is_set, get_of-port_info, get_of-switch_info, get_of-block}
+use Rattle.node_agents.proofs.Outcomes.{answers_hold, SetsSome, what_is_set, get_of-port_info, get_of-switch_info, get_of-block, get_of-masks}
 
 -- what each Set makes of the agent ----------------------------------------------------------------
 
@@ -83,6 +84,16 @@ get_after_block a b packet arrival payload s e t =
     get_of-block b packet arrival (subst (λ (x : Agent). is_switch x ≡ true) after.1 s) e
     ∙ ap (λ c. ok_or (if c then Some (take 64 (drop (64 * block) b.table)) else None) InvalidField) has
 
+pub get_after_masks : (a b : Agent) (packet : List ℕ) (arrival : ℕ) (payload : List ℕ)
+    → is_switch a ≡ true → number_in attribute_id packet ≡ multicast_forwarding_table → set_masks a (number_in attribute_modifier packet) payload ≡ Some b
+    → get_of b packet arrival ≡ Ok (take 64 (drop (64 * position_in (number_in attribute_modifier packet)) b.masks))
+get_after_masks a b packet arrival payload s e t =
+    let modifier = number_in attribute_modifier packet in
+    let after = from_choice (record a { masks = with_bytes (64 * position_in modifier) payload a.masks }) b (has_masks a modifier) t in
+    let has : has_masks b modifier ≡ true = subst (λ (x : Agent). has_masks x modifier ≡ true) after.1 after.0 in
+    get_of-masks b packet arrival (subst (λ (x : Agent). is_switch x ≡ true) after.1 s) e
+    ∙ ap (λ c. ok_or (if c then Some (take 64 (drop (64 * position_in modifier) b.masks)) else None) InvalidField) has
+
 pub get_of-alike : (a : Agent) (p q : List ℕ) (arrival : ℕ) → IsAboutTheSame q p → get_of a q arrival ≡ get_of a p arrival
 unfolding get_of
 get_of-alike a p q arrival same =
@@ -94,15 +105,18 @@ pub something_told : (a b : Agent) (packet : List ℕ) (arrival : ℕ) → set_o
     → (payload : List ℕ) × (get_of b packet arrival ≡ Ok payload)
 something_told a b packet arrival h = by_kind (what_is_set a b packet arrival h)
   where
-    by_kind : SetsPortInfo a b packet arrival ⊎ (SetsSwitchInfo a b packet arrival ⊎ SetsABlock a b packet arrival)
-        → (payload : List ℕ) × (get_of b packet arrival ≡ Ok payload)
+    by_kind : SetsSome a b packet arrival → (payload : List ℕ) × (get_of b packet arrival ≡ Ok payload)
     by_kind (inl s) =
         let t = port_taken a b (number_in attribute_modifier packet) arrival (bytes_in attribute_data packet) s.taken in
         (port_info_of (port_at b t.0) arrival, get_after_port a b packet arrival t.0 t.1 (bytes_in attribute_data packet) s.attribute t.2)
     by_kind (inr (inl s)) = (get_switch_info b, get_after_top a b packet arrival (bytes_in attribute_data packet) s.0 s.1.attribute s.1.taken)
-    by_kind (inr (inr s)) = (
+    by_kind (inr (inr (inl s))) = (
       take 64 (drop (64 * number_in attribute_modifier packet) b.table),
       get_after_block a b packet arrival (bytes_in attribute_data packet) s.0 s.1.attribute s.1.taken,
+    )
+    by_kind (inr (inr (inr s))) = (
+      take 64 (drop (64 * position_in (number_in attribute_modifier packet)) b.masks),
+      get_after_masks a b packet arrival (bytes_in attribute_data packet) s.0 s.1.attribute s.1.taken,
     )
 
 pub answered-agent : (a : Agent) (packet : List ℕ) (arrival : ℕ) → (after_answer a packet arrival).agent ≡ (after_request a packet arrival).agent

@@ -11,12 +11,13 @@ use Rattle.node_agents.specs.declared.port.Port.{Port}
 
 -- what an agent keeps: `node` is its node, as it was built, and `ports` has its ports, starting at port 0. `table` is
 -- its forwarding table in whole blocks of 64 entries, and empty at an adapter. `top` is the greatest LID that the
--- node forwards
+-- node forwards. `masks` is its multicast forwarding table, a block of 64 bytes for each position
 pub record Agent : Type 0 where
   pub node : AgentNode
   pub ports : List Port
   pub table : List ℕ
   pub top : ℕ
+  pub masks : List ℕ
 
 -- what is read of an agent -----------------------------------------------------------------
 
@@ -105,6 +106,11 @@ after_set_seat a port = with_port a port (record (port_at a port) { is_sm = true
 abbrev pub block_count : ℕ → ℕ
 block_count cap = (cap + 63) / 64
 
+-- the number of positions in the multicast forwarding table of a node: one for each 16 ports of a switch, port 0
+-- included, and none at an adapter
+abbrev pub position_count : AgentNode → ℕ
+position_count node = if types.is_switch node.kind then node.ports / 16 + 1 else 0
+
 -- an agent with no port wired, no subnet manager seated and nothing written; port 0 is Active at a switch, and Down at
 -- an adapter
 unfoldable pub fresh_agent : AgentNode → Agent
@@ -114,6 +120,7 @@ fresh_agent node =
       ports = port_in (if types.is_switch node.kind then Active else Down) ∷ replicate node.ports (port_in Down);
       table = replicate (64 * block_count node.cap) no_port;
       top = 0;
+      masks = replicate (64 * position_count node) 0;
     }
 
 -- `node` can be built: its GUID and the GUID of each of its ports fit in 64 bits, and it has 1 to 254 ports. Only a
@@ -134,7 +141,7 @@ pub record IsPort (kind : NodeType) (port : Port) : Type 0 where
 
 -- `a` satisfies the invariant of agents. Its node can be built, and has a description of 64 bytes. The agent has the
 -- node's ports and port 0, which is Active at a switch. Its table has whole blocks, and its top is 0 or below the
--- table size
+-- table size. Its multicast table has a block for each position
 pub record IsAgent (a : Agent) : Type 0 where
   pub node : IsAgentNode a.node
   pub description : length a.node.description ≡ 64
@@ -143,3 +150,4 @@ pub record IsAgent (a : Agent) : Type 0 where
   pub port_zero : is_switch a ≡ true → state_at a 0 ≡ Active
   pub table : length a.table ≡ 64 * block_count a.node.cap
   pub top : (a.top ≡ 0) ⊎ (a.top < a.node.cap)
+  pub masks : length a.masks ≡ 64 * position_count a.node

@@ -1,6 +1,8 @@
 -- What an answer is, what it leaves unchanged in the agent, and what an accepted Set does.
 use Rattle.std.specs.Prelude.{◌≡◌, ◌≢◌, ◌↔◌, ℕ, ◌≤◌, Bool, true, false, List, length, None, Some}
-use Rattle.smp_bytes.specs.Header.{get, set, done, node_info, switch_info, port_info, linear_forwarding_table}
+use Rattle.smp_bytes.specs.Header.{get, set, done, node_info, switch_info, port_info}
+use Rattle.smp_bytes.specs.Header.{linear_forwarding_table}
+use Rattle.node_agents.specs.MftBlock.{multicast_forwarding_table}
 use Rattle.smp_bytes.specs.Field.{number_in, bytes_in, bits_in}
 use Rattle.smp_bytes.specs.Packet.{method, attribute_id, attribute_modifier, attribute_data, status, fault_of}
 use Rattle.smp_bytes.specs.ReadBack.{HoldsAnswer}
@@ -17,6 +19,7 @@ use Rattle.node_agents.specs.PortInfo.{port_meant, SetsPort}
 use Rattle.node_agents.specs.Answers.{after_request, status_told, payload_told, after_answer}
 use Rattle.node_agents.specs.SwitchInfo.{SetsTop}
 use Rattle.node_agents.specs.LftBlock.{SetsBlock}
+use Rattle.node_agents.specs.MftBlock.{SetsMasks, position_in}
 
 -- agents stay agents --------------------------------------------------------------------
 
@@ -128,6 +131,15 @@ abbrev pub BlocksAreSet : Type 0
 BlocksAreSet =
     (a : Agent) (packet : List ℕ) (arrival : ℕ) → IsTaken a packet arrival linear_forwarding_table
     → SetsBlock a (after_answer a packet arrival).agent (number_in attribute_modifier packet)
+    (bytes_in attribute_data packet)
+    (bytes_in attribute_data (after_answer a packet arrival).packet)
+
+-- if a Set of a multicast block is accepted, the answer returns this block, and the table has it at its position;
+-- nothing else changes
+abbrev pub MasksAreSet : Type 0
+MasksAreSet =
+    (a : Agent) (packet : List ℕ) (arrival : ℕ) → IsTaken a packet arrival multicast_forwarding_table
+    → SetsMasks a (after_answer a packet arrival).agent (position_in (number_in attribute_modifier packet))
     (bytes_in attribute_data packet)
     (bytes_in attribute_data (after_answer a packet arrival).packet)
 

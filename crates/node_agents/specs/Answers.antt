@@ -2,7 +2,9 @@
 -- Architecture Specification, Volume 1: subnet management class, methods and attributes.
 use Rattle.std.specs.Prelude.{◌≡◌, ℕ, ◌&&◌, ◌==◌, List, if◌then◌else◌, Result, Ok, Err}
 use Rattle.std.specs.Option.{ok_or}
-use Rattle.smp_bytes.specs.Header.{get, set, node_description, node_info, switch_info, port_info, linear_forwarding_table, done}
+use Rattle.smp_bytes.specs.Header.{get, set, node_description, node_info, switch_info, port_info, done}
+use Rattle.smp_bytes.specs.Header.{linear_forwarding_table}
+use Rattle.node_agents.specs.MftBlock.{multicast_forwarding_table}
 use Rattle.smp_bytes.specs.Field.{number_in, bytes_in}
 use Rattle.smp_bytes.specs.Packet.{method, attribute_id, attribute_modifier, attribute_data}
 use Rattle.smp_bytes.specs.Requests.{answer_packet}
@@ -15,6 +17,7 @@ use Rattle.node_agents.specs.NodeInfo.{get_node_info}
 use Rattle.node_agents.specs.SwitchInfo.{get_switch_info, set_switch_info}
 use Rattle.node_agents.specs.PortInfo.{get_port_info, set_port_info}
 use Rattle.node_agents.specs.LftBlock.{get_block, set_block}
+use Rattle.node_agents.specs.MftBlock.{get_masks, set_masks}
 
 -- the bytes that a Get of the attribute `attribute` returns if the request arrived at the port `arrival`, or why the
 -- Get is refused
@@ -25,6 +28,7 @@ get_attribute a attribute modifier arrival =
     else if attribute == port_info then ok_or (get_port_info a modifier arrival) InvalidField
     else if is_switch a && attribute == switch_info then Ok (get_switch_info a)
     else if is_switch a && attribute == linear_forwarding_table then ok_or (get_block a modifier) InvalidField
+    else if is_switch a && attribute == multicast_forwarding_table then ok_or (get_masks a modifier) InvalidField
     else Err MethodAndAttribute
 
 -- the agent after a Set of the attribute `attribute` to `payload`, by a request that arrived at the port `arrival`, or
@@ -34,6 +38,7 @@ set_attribute a attribute modifier arrival payload =
     if attribute == port_info then ok_or (set_port_info a modifier arrival payload) InvalidField
     else if is_switch a && attribute == switch_info then ok_or (set_switch_info a payload) InvalidField
     else if is_switch a && attribute == linear_forwarding_table then ok_or (set_block a modifier payload) InvalidField
+    else if is_switch a && attribute == multicast_forwarding_table then ok_or (set_masks a modifier payload) InvalidField
     else Err MethodAndAttribute
 
 -- a call accepts a Set, and leaves the agent `new`, which is the one in `after`; or it refuses the Set for the reason

@@ -2,6 +2,7 @@ pub mod Agent
 pub mod AnswerLaws
 pub mod Answers
 pub mod LftBlock
+pub mod MftBlock
 pub mod NodeDescription
 pub mod NodeInfo
 pub mod PortInfo

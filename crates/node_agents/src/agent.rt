@@ -7,13 +7,15 @@ ghost use Rattle.node_agents.specs.Answers.{after_answer};
 use crate::agent_node::AgentNode;
 use crate::handle::handle;
 use crate::lft_block::BLOCK;
+use crate::mft_block::{MASKS, position_count};
 use crate::port::Port;
 use attr_codec::{Lmc, PortState};
 use smp_bytes::{Guid, Lid, NO_ENTRY, NodeType, PortNum, Smp, Status};
 use std::alloc::{AllocError, Global};
 use std::marker::Model;
 
-/// The subnet management agent of a node: the node, its ports, its forwarding table and the table's top.
+/// The subnet management agent of a node: the node, its ports, its forwarding table and the table's top, and its
+/// multicast forwarding table.
 #[derive(Drop)]
 pub struct Agent {
     pub(crate) node: AgentNode,
@@ -24,6 +26,9 @@ pub struct Agent {
     pub(crate) table: Vec<u8>,
     /// The greatest LID that a switch forwards; 0 if none was set.
     pub(crate) top: Lid,
+    /// The multicast forwarding table: for each position a block with the masks of all multicast LIDs. An adapter's
+    /// table is empty.
+    pub(crate) masks: Vec<u8>,
 }
 
 impl Model for Agent {
@@ -31,10 +36,12 @@ impl Model for Agent {
 
     ghost Value = { AgentState };
 
-    ghost view = { λ a. record { node = a.node; ports = a.ports.items; table = a.table.items; top = a.top } };
+    ghost view = { λ a. record { node = a.node; ports = a.ports.items; table = a.table.items; top = a.top;
+        masks = a.masks.items } };
 
     ghost invariant = { λ a.
-        IsAgent (record { node = a.node; ports = a.ports.items; table = a.table.items; top = a.top }) };
+        IsAgent (record { node = a.node; ports = a.ports.items; table = a.table.items; top = a.top;
+            masks = a.masks.items }) };
 }
 
 impl Agent {
@@ -53,11 +60,13 @@ impl Agent {
         }
         let entries = usize::from(node.cap).div_ceil(BLOCK) * BLOCK;
         let table = vec![in alloc; NO_ENTRY; entries]?;
+        let masks = vec![in alloc; 0; MASKS * position_count(&node)]?;
         Ok(Agent {
             node,
             ports,
             table,
             top: Lid::NONE,
+            masks,
         })
     }
 

@@ -6,7 +6,7 @@ ghost use Rattle.node_agents.specs.Answers.{Takes, set_of, after_request, get_of
 
 use crate::agent::Agent;
 use crate::refusal::Refusal;
-use crate::{lft_block, node_description, node_info, port_info, switch_info};
+use crate::{lft_block, mft_block, node_description, node_info, port_info, switch_info};
 use smp_bytes::{AttributeId, Method, PortNum, Smp};
 
 /// Handles the request `smp` at the port `arrival`, and returns the attribute of the answer or why it is refused.
@@ -43,6 +43,8 @@ fn get(agent: &Agent, smp: &Smp, arrival: PortNum) -> Result<[u8; 64], Refusal>
         Ok(switch_info::get(agent))
     } else if agent.is_switch() && attribute == AttributeId::LINEAR_FORWARDING_TABLE {
         lft_block::get(agent, modifier).ok_or(Refusal::InvalidField)
+    } else if agent.is_switch() && attribute == mft_block::MULTICAST_FORWARDING_TABLE {
+        mft_block::get(agent, modifier).ok_or(Refusal::InvalidField)
     } else {
         Err(Refusal::MethodAndAttribute)
     }
@@ -63,6 +65,8 @@ fn set(agent: &mut Agent, smp: &Smp, arrival: PortNum) -> Result<(), Refusal>
         valid_if(switch_info::set(agent, &payload))
     } else if agent.is_switch() && attribute == AttributeId::LINEAR_FORWARDING_TABLE {
         valid_if(lft_block::set(agent, modifier, &payload))
+    } else if agent.is_switch() && attribute == mft_block::MULTICAST_FORWARDING_TABLE {
+        valid_if(mft_block::set(agent, modifier, &payload))
     } else {
         Err(Refusal::MethodAndAttribute)
     }

@@ -1,7 +1,7 @@
 //! The laws of agents: what no request changes, what an answer is, and what a Set does.
 ghost use Rattle.node_agents.specs.AnswerLaws.{AgentsAreMade, AnsweredIsAgent, AnsweredKeepsShape, AnswersHold};
 ghost use Rattle.node_agents.specs.AnswerLaws.{AnswersSay, GetsChangeNothing, RefusalsChangeNothing};
-ghost use Rattle.node_agents.specs.AnswerLaws.{GetsTellAsSets, BlocksAreSet, TopsAreSet, PortsAreSet};
+ghost use Rattle.node_agents.specs.AnswerLaws.{GetsTellAsSets, BlocksAreSet, MasksAreSet, TopsAreSet, PortsAreSet};
 
 /// If a node can be built and has a description of 64 bytes, the agent that is made for it satisfies the invariant of
 /// agents (`IsAgent`). An agent keeps this invariant if a port other than port 0 is wired or unwired, or if a subnet
@@ -59,6 +59,13 @@ pub fn gets_tell_as_sets()
 #[tactic(auto, using(crate::proofs::Sets::blocks_are_set))]
 pub fn blocks_are_set()
     ensures { BlocksAreSet }
+{}
+
+/// If a Set of a multicast block is accepted, the answer returns this block, and the multicast table has it at its
+/// position. Nothing else changes.
+#[tactic(auto, using(crate::proofs::Sets::masks_are_set))]
+pub fn masks_are_set()
+    ensures { MasksAreSet }
 {}
 
 /// If a Set of SwitchInfo is accepted, the answer returns the LinearFDBTop of the Set, and the agent has this top.

@@ -6,6 +6,7 @@ mod agent_node;
 mod handle;
 pub mod laws;
 mod lft_block;
+mod mft_block;
 mod node_description;
 mod node_info;
 mod port;

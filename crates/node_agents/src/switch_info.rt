@@ -4,15 +4,17 @@ ghost use Rattle.std.specs.Option.{unwrap_or};
 ghost use Rattle.node_agents.specs.SwitchInfo.{get_switch_info, set_switch_info};
 
 use crate::agent::Agent;
+use crate::mft_block::MULTICAST_CAP;
 use attr_codec::{Attribute, SwitchInfo};
 
-/// Returns the attribute for a Get: the size of the forwarding table, and the top.
+/// Returns the attribute for a Get: the sizes of the forwarding tables, and the top.
 pub(crate) fn get(agent: &Agent) -> [u8; 64]
     ensures { result ≡ get_switch_info agent.now }
 {
     let mut info = SwitchInfo::decode(&[0; 64]);
     info.set_linear_fdb_cap(agent.node.cap);
     info.set_linear_fdb_top(agent.top);
+    info.set_multicast_fdb_cap(MULTICAST_CAP);
     info.encode()
 }
 
