@@ -14,9 +14,10 @@ use Rattle.node_agents.specs.PortInfo.{port_meant, has_lid, SetsPort}
 use Rattle.node_agents.specs.Answers.{Met, after_answer}
 use Rattle.node_agents.specs.AnswerLaws.{IsPacket, IsTaken}
 use Rattle.node_agents.specs.LftBlock.{SetsBlock}
+use Rattle.node_agents.specs.MftBlock.{SetsMasks, multicast_forwarding_table, position_in}
 use Rattle.node_agents.specs.SwitchInfo.{SetsTop}
 use Rattle.node_agents.proofs.Outcomes.{what_is_set}
-use Rattle.node_agents.proofs.Sets.{blocks_are_set, tops_are_set, ports_are_set}
+use Rattle.node_agents.proofs.Sets.{blocks_are_set, masks_are_set, tops_are_set, ports_are_set}
 use Rattle.node_agents.proofs.Told.{answered-agent, taken_to, port_taken, refusals_change_nothing}
 use Rattle.lid_assign.specs.Lids.{range_of, top_of}
 use Rattle.lft_blocks.specs.Plan.{PlanValue, block_at, switches_of}
@@ -67,9 +68,12 @@ module _ (a : Agent) (packet : List ℕ) (arrival : ℕ) (is : IsAgent a) (whole
         (bytes_in attribute_data (after_answer a packet arrival).packet))))
         ⊎ (((number_in attribute_id packet ≡ switch_info)
         × SetsTop a (after_answer a packet arrival).agent (bytes_in attribute_data packet) (bytes_in attribute_data (after_answer a packet arrival).packet))
-        ⊎ ((number_in attribute_id packet ≡ linear_forwarding_table)
+        ⊎ (((number_in attribute_id packet ≡ linear_forwarding_table)
         × SetsBlock a (after_answer a packet arrival).agent (number_in attribute_modifier packet) (bytes_in attribute_data packet)
-        (bytes_in attribute_data (after_answer a packet arrival).packet)))
+        (bytes_in attribute_data (after_answer a packet arrival).packet))
+        ⊎ ((number_in attribute_id packet ≡ multicast_forwarding_table)
+        × SetsMasks a (after_answer a packet arrival).agent (position_in (number_in attribute_modifier packet)) (bytes_in attribute_data packet)
+        (bytes_in attribute_data (after_answer a packet arrival).packet))))
 
     pub effect : Effect
     unfolding Effect
@@ -80,7 +84,10 @@ module _ (a : Agent) (packet : List ℕ) (arrival : ℕ) (is : IsAgent a) (whole
               inl (s.attribute, (p.0, (p.2.meant, ports_are_set a packet arrival p.0 upto (is_taken port_info s.attribute) p.2.meant)))
           | inr other ↦ elim other [
             | inl s ↦ inr (inl (s.1.attribute, tops_are_set a packet arrival (is_taken switch_info s.1.attribute)))
-            | inr s ↦ inr (inr (s.1.attribute, blocks_are_set a packet arrival (is_taken linear_forwarding_table s.1.attribute)))
+            | inr rest ↦ elim rest [
+              | inl s ↦ inr (inr (inl (s.1.attribute, blocks_are_set a packet arrival (is_taken linear_forwarding_table s.1.attribute))))
+              | inr s ↦ inr (inr (inr (s.1.attribute, masks_are_set a packet arrival (is_taken multicast_forwarding_table s.1.attribute))))
+            ]
           ]
         ]
 
@@ -104,13 +111,21 @@ module _ (a : Agent) (packet : List ℕ) (arrival : ℕ) (is : IsAgent a) (whole
             top = λ _. ap (λ (x : Agent). x.top) st.all_else ∙ ap (number_in linear_fdb_top) asks.payload;
             block = λ f. let clash : switch_info ≡ linear_forwarding_table = sym is_top ∙ f in absurd (omega (arith, clash));
           }
-      own_by (inr (inr (e, sb))) =
+      own_by (inr (inr (inl (e, sb)))) =
           let is_block : s.attribute ≡ linear_forwarding_table = sym asks.attribute ∙ e in
           record {
             lids = λ f. let clash : linear_forwarding_table ≡ port_info = sym is_block ∙ f in absurd (omega (arith, clash));
             top = λ f. let clash : linear_forwarding_table ≡ switch_info = sym is_block ∙ f in absurd (omega (arith, clash));
             block = λ _ i less. ap (λ m. entry_at (after_answer a packet arrival).agent (64 * m + i)) (sym asks.modifier) ∙ sb.inside i less
                 ∙ ap (λ d. slice_index d i) asks.payload;
+          }
+
+      own_by (inr (inr (inr (e, sm)))) =
+          let is_masks : s.attribute ≡ multicast_forwarding_table = sym asks.attribute ∙ e in
+          record {
+            lids = λ f. let clash : multicast_forwarding_table ≡ port_info = sym is_masks ∙ f in absurd (omega (arith, clash));
+            top = λ f. let clash : multicast_forwarding_table ≡ switch_info = sym is_masks ∙ f in absurd (omega (arith, clash));
+            block = λ f. let clash : multicast_forwarding_table ≡ linear_forwarding_table = sym is_masks ∙ f in absurd (omega (arith, clash));
           }
 
       pub own_set_holds : Holds (after_answer a packet arrival).agent s
@@ -144,7 +159,7 @@ module _ (a : Agent) (packet : List ℕ) (arrival : ℕ) (is : IsAgent a) (whole
             top = λ is_top. let p = of_plan.top is_top in ap (λ (x : Agent). x.top) st.all_else ∙ carries.top e (number_in linear_fdb_top s.payload) p.1 p.0;
             block = λ f i less. ap (λ (x : Agent). entry_at x (64 * s.modifier + i)) st.all_else ∙ held.block f i less;
           }
-      kept_by (inr (inr (e, sb))) =
+      kept_by (inr (inr (inl (e, sb)))) =
           record {
             lids = λ f. ap (λ (x : Agent). range_at x s.modifier) sb.all_else ∙ held.lids f;
             top = λ f. ap (λ (x : Agent). x.top) sb.all_else ∙ held.top f;
@@ -163,6 +178,9 @@ module _ (a : Agent) (packet : List ℕ) (arrival : ℕ) (is : IsAgent a) (whole
             where
               apart : (m n i : ℕ) → i < 64 → m ≢ n → (64 * n + i < 64 * m) ⊎ (64 * m + 64 ≤ 64 * n + i)
               apart m n i less other = elim (cases_lt n m) [ inl lt ↦ inl (omega (arith, lt, less)) | inr ge ↦ inr (omega (arith, ge, less, other)) ]
+
+      kept_by (inr (inr (inr (e, sm)))) =
+          subst (λ (x : Agent). Holds x s) (sym sm.all_else) (record { lids = held.lids; top = held.top; block = held.block })
 
       kept_in_set : Holds (after_answer a packet arrival).agent s
       kept_in_set = kept_by effect

@@ -14,8 +14,8 @@ use Rattle.node_agents.specs.Agent.{Agent, IsAgent, base_lid_at, port_at, port_i
 use Rattle.node_agents.specs.AnswerLaws.{IsPacket, IsTaken}
 use Rattle.node_agents.specs.Answers.{after_answer}
 use Rattle.node_agents.specs.PortInfo.{are_lids_taken, has_lid, max_lmc, port_after, port_meant, port_with, state_after}
-use Rattle.node_agents.proofs.Outcomes.{SetsABlock, SetsPortInfo, SetsSwitchInfo, what_is_set}
-use Rattle.node_agents.proofs.Sets.{blocks_are_set, tops_are_set}
+use Rattle.node_agents.proofs.Outcomes.{SetsSome, what_is_set}
+use Rattle.node_agents.proofs.Sets.{blocks_are_set, masks_are_set, tops_are_set}
 use Rattle.node_agents.proofs.Told.{port_taken, refusals_change_nothing, taken_to}
 use Rattle.lid_assign.specs.Lids.{range_of}
 use Rattle.lft_blocks.specs.Plan.{PlanValue}
@@ -64,8 +64,7 @@ module _ (plan : PlanValue) (a : Agent) (packet : List ℕ) (arrival : ℕ) (is 
     is_taken number e = record { agent = is; whole = whole; method = sets; attribute = e; done = taken }
 
     to_agent : (b : Agent) → (after_answer a packet arrival).agent ≡ b
-        → SetsPortInfo a b packet arrival ⊎ (SetsSwitchInfo a b packet arrival ⊎ SetsABlock a b packet arrival)
-        → KeepsLids a (after_answer a packet arrival).agent
+        → SetsSome a b packet arrival → KeepsLids a (after_answer a packet arrival).agent
     to_agent b after (inl s) m =
         let (port, new, t) = port_taken a b (number_in attribute_modifier packet) arrival (bytes_in attribute_data packet) s.taken in
         ap (λ (x : Agent). base_lid_at x m) (after ∙ sym t.agent)
@@ -73,7 +72,8 @@ module _ (plan : PlanValue) (a : Agent) (packet : List ℕ) (arrival : ℕ) (is 
         (lid_after (port_at a port) new (has_lid a port) (max_lmc a port) (bytes_in attribute_data packet) t.after
         (λ has. ap (λ (r : ℕ × ℕ). r.0) ((carries_it sets taken).lids s.attribute port (range_at a port) t.meant (has_them sets s.attribute port has t.meant))))
     to_agent b after (inr (inl s)) m = ap (λ (x : Agent). base_lid_at x m) (tops_are_set a packet arrival (is_taken _ s.1.attribute)).all_else
-    to_agent b after (inr (inr s)) m = ap (λ (x : Agent). base_lid_at x m) (blocks_are_set a packet arrival (is_taken _ s.1.attribute)).all_else
+    to_agent b after (inr (inr (inl s))) m = ap (λ (x : Agent). base_lid_at x m) (blocks_are_set a packet arrival (is_taken _ s.1.attribute)).all_else
+    to_agent b after (inr (inr (inr s))) m = ap (λ (x : Agent). base_lid_at x m) (masks_are_set a packet arrival (is_taken _ s.1.attribute)).all_else
 
     taken_keeps : KeepsLids a (after_answer a packet arrival).agent
     taken_keeps =

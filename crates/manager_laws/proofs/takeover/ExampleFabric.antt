@@ -71,6 +71,7 @@ switch_kept =
             port_zero = now.port_zero;
             table = refl;
             top = inr (omega arith);
+            masks = refl;
           };
     }
 

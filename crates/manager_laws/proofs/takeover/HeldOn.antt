@@ -83,7 +83,10 @@ module _ (plan : PlanValue) (a : Agent) (packet : List ℕ) (arrival : ℕ) (is 
           blocks = λ n block is_block held i less. held i less
               ∙ ap (λ k. Some k) (sym (ap (λ (x : Agent). entry_at x (64 * n + i)) st.all_else));
         }
-    kept_by (inr (inr (e, sb))) =
+    kept_by (inr (inr (inr (e, sm)))) =
+        subst (KeepsHeld plan a) (sym sm.all_else)
+        (record { ranges = λ m has r. refl; top = λ top among is_top most. most; blocks = λ n block is_block held. held })
+    kept_by (inr (inr (inl (e, sb)))) =
         record {
           ranges = λ m has r. ap (λ (x : Agent). range_at x m) sb.all_else;
           top = λ top among is_top most. let same = ap (λ (x : Agent). x.top) sb.all_else in omega (arith, most, same);

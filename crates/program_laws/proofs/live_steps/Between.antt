@@ -78,7 +78,10 @@ module _ (plan : PlanValue) (blocks : HasWholeBlocks plan) (first a : Agent) (pa
             | inr s ↦ inr (s ∙ ap (λ k. Some k) (sym (ap (λ (x : Agent). entry_at x (64 * n + i)) st.all_else)))
           ];
         }
-    kept_by (inr (inr (e, sb))) =
+    kept_by (inr (inr (inr (e, sm)))) =
+        subst (IsBetween plan first) (sym sm.all_else)
+        (record { node = was.node; ranges = was.ranges; top = was.top; entries = was.entries })
+    kept_by (inr (inr (inl (e, sb)))) =
         record {
           node = ap (λ (x : Agent). x.node) sb.all_else ∙ was.node;
           ranges = λ m has r. ap (λ (x : Agent). range_at x m) sb.all_else ∙ was.ranges m has r;
