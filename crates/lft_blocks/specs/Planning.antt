@@ -1,13 +1,14 @@
--- How a manager plans: under which LMC and by which rule of routing.
+-- How a manager plans: under which LMC, by which rule of routing, and whether it also writes the multicast tree.
 use Rattle.std.specs.Prelude.{◌≡◌, ℕ, Bool, true, false, List, Option, None, Some, refl}
 use Rattle.std.specs.Coded.{Coded, code_by, coded×, coded_bool, coded_ℕ, coded_list, coded_option}
 use Rattle.lft_blocks.specs.Rule.{RuleValue, spread_in, up_and_down}
 use Rattle.spread_routes.specs.SwitchOrder.{OrderValue, as_named, balanced_as, from_roots, least_loaded}
 
--- the LMC of adapter ports, and the rule of routing
+-- the LMC of adapter ports, the rule of routing, and whether the multicast tree is written too
 pub record Planning : Type 0 where
   pub lmc : ℕ
   pub rule : RuleValue
+  pub multicast : Bool
 
 -- how an order is stored: whether it names switches, whether loads are balanced, and the GUIDs; None for `least_loaded`
 abbrev guids_in : OrderValue → Option (Bool × (Bool × List ℕ))
@@ -55,8 +56,8 @@ same_rule (spread_in order) = refl
 abbrev rule_code : Coded RuleValue
 rule_code = code_by (Option OrderValue) (coded_option order_code) order_in rule_by same_rule
 
--- the coding of plannings. A planning is stored as the pair of its LMC and its rule
+-- the coding of plannings. A planning is stored as its LMC, its rule and whether the tree is written
 abbrev pub planning_code : Coded Planning
 planning_code =
-    code_by (ℕ × RuleValue) (coded× coded_ℕ rule_code)
-    (λ p. (p.lmc, p.rule)) (λ p. record { lmc = p.0; rule = p.1 }) (λ _. refl)
+    code_by (ℕ × (RuleValue × Bool)) (coded× coded_ℕ (coded× rule_code coded_bool))
+    (λ p. (p.lmc, (p.rule, p.multicast))) (λ p. record { lmc = p.0; rule = p.1.0; multicast = p.1.1 }) (λ _. refl)

@@ -12,13 +12,16 @@ use fact_store::Store;
 use std::alloc::{AllocError, Global};
 use std::marker::Model;
 
-/// How a manager plans: its LMC and its rule. All managers of a subnet should plan alike.
+/// How a manager plans: its LMC, its rule, and whether it also writes the multicast tree. All managers of a subnet
+/// should plan alike.
 #[derive(Drop)]
 pub struct Planning {
     /// The LMC: an adapter port has 2^LMC LIDs.
     pub lmc: Lmc,
     /// The rule of routing: how packets are routed between switches.
     pub rule: Rule,
+    /// Whether the multicast tree is written too.
+    pub multicast: bool,
 }
 
 impl Model for Planning {
@@ -29,15 +32,19 @@ impl Model for Planning {
 
     ghost coded = { planning_code };
 
-    ghost view = { λ a. record { lmc = a.lmc; rule = value_of a.rule } };
+    ghost view = { λ a. record { lmc = a.lmc; rule = value_of a.rule; multicast = a.multicast } };
 }
 
 impl Planning {
-    /// Creates a planning with `lmc` and `rule`.
-    pub fn new(lmc: Lmc, rule: Rule) -> Self
-        ensures { result ≡ record { lmc = lmc; rule = value_of rule } }
+    /// Creates a planning with `lmc` and `rule`, by which the multicast tree is written if `multicast`.
+    pub fn new(lmc: Lmc, rule: Rule, multicast: bool) -> Self
+        ensures { result ≡ record { lmc = lmc; rule = value_of rule; multicast = multicast } }
     {
-        Planning { lmc, rule }
+        Planning {
+            lmc,
+            rule,
+            multicast,
+        }
     }
 
     /// Returns a copy. Takes time linear in the number of GUIDs that the rule names. Returns an error if memory runs
@@ -48,6 +55,7 @@ impl Planning {
         Ok(Planning {
             lmc: self.lmc,
             rule: self.rule.try_clone(alloc)?,
+            multicast: self.multicast,
         })
     }
 
