@@ -2,14 +2,14 @@
 use Rattle.std.proofs.Common.{◌≡◌, ◌<◌, ◌≤◌, ◌*◌, ◌/◌, ℕ, zero, suc, Bool, true, false, cond, List, [], ◌∷◌, length, filter, refl, ◌∙◌, arith}
 use Rattle.std.proofs.lemmas.List.{length-append, length-map}
 use Rattle.std.proofs.lemmas.List.FromFn.{length-range_with_len}
-use Rattle.std.proofs.Math.Nat.{div-lt_iff_lt-mul}
+use Rattle.std.proofs.Math.Nat.{div-lt_iff_lt-mul, min-le_right}
 use Rattle.std.specs.Prelude.{Option, Some, None}
 use Rattle.std.specs.Option.{option_map_or}
 use Rattle.std.specs.List.{cons_option, filter_map, flat_map, range_with_len}
 use Rattle.fact_store.specs.View.{Facts, cells_of}
 use Rattle.attr_codec.specs.declared.port_state.PortState.{PortState}
 use Rattle.attr_codec.specs.declared.port_state.PortState.TheVariants.{Armed, Active}
-use Rattle.subnet_view.specs.Reading.{switches}
+use Rattle.subnet_view.specs.Reading.{port_count_of, switches}
 use Rattle.lid_assign.specs.Lids.{IsNoRoom, count_up, end_of, is_lid, lids, rising_lids, top_of}
 use Rattle.lid_assign.proofs.FreeLids.{room_at_most}
 use Rattle.lid_assign.proofs.LidLaws.{lids_law}
@@ -19,6 +19,8 @@ use Rattle.lft_blocks.specs.Entries.{block_count}
 use Rattle.lft_blocks.specs.Plan.{SwitchTable, plan_of, switches_of}
 use Rattle.sweep.specs.Sweep.{Sweep}
 use Rattle.plan_steps.specs.Bound.{PhaseBoundLaw}
+use Rattle.plan_steps.specs.MaskSteps.{mask_step, position_count, switch_mask_steps}
+use Rattle.plan_steps.specs.declared.mask_steps.SwitchMasks.{SwitchMasks}
 use Rattle.plan_steps.specs.LidSteps.{owner_step}
 use Rattle.plan_steps.specs.StateSteps.{state_step, state_steps, wired_port, wired_ports}
 use Rattle.plan_steps.specs.BlockSteps.{block_step, switch_steps, top_step, top_steps}
@@ -111,8 +113,19 @@ module _ (rule : RuleValue) (lmc : ℕ) (facts : Facts) (s : Sweep) (master : �
       let ports = found_at_most (wired_port (cells_of facts)) (cells_of facts) in
       omega (arith, found, ports)
 
+  masks_fit : (masks : SwitchMasks → List ℕ) (tree : List SwitchMasks)
+      → length (flat_map (λ x. switch_mask_steps (cells_of facts) s (masks x) x.guid) tree) ≤ 768 * length tree
+  masks_fit masks tree = joined_at_most (λ x. switch_mask_steps (cells_of facts) s (masks x) x.guid) few tree
+    where
+      few : (x : SwitchMasks) → length (switch_mask_steps (cells_of facts) s (masks x) x.guid) ≤ 768
+      few x =
+          let count = position_count (cells_of facts) x.guid in
+          let found = found_at_most (mask_step s x.guid (masks x)) (range_with_len 0 count) in
+          let least = min-le_right (port_count_of (cells_of facts) x.guid / 16) 15 in
+          omega (arith, found, length-range_with_len 0 count, least)
+
 pub phase_bound_law : PhaseBoundLaw
-phase_bound_law rule lmc facts s master has_room =
+phase_bound_law rule lmc facts s master has_room tree few =
     let cells = cells_of facts in
     let plan = plan_of rule lmc cells in
     let owners = found_at_most (owner_step cells s master plan.given) (rising_lids plan.given) in
@@ -122,4 +135,6 @@ phase_bound_law rule lmc facts s master has_room =
     let tops = top_steps_fit rule lmc facts s master has_room in
     let armed = states_fit rule lmc facts s master has_room Armed in
     let active = states_fit rule lmc facts s master has_room Active in
-    (omega (arith, owners, some), (omega (arith, blocks, same), (omega (arith, tops), (omega (arith, armed), (omega (arith, active), tt)))))
+    let cleared = masks_fit rule lmc facts s master has_room (λ x. []) tree in
+    let masked = masks_fit rule lmc facts s master has_room (λ x. x.masks) tree in
+    (omega (arith, owners, some), (omega (arith, cleared, few), (omega (arith, blocks, same), (omega (arith, tops), (omega (arith, masked, few), (omega (arith, armed), (omega (arith, active), tt)))))))

@@ -2,6 +2,7 @@ pub mod Step
 pub mod Carried
 pub mod LidSteps
 pub mod BlockSteps
+pub mod MaskSteps
 pub mod StateSteps
 pub mod Phase
 pub mod Bound

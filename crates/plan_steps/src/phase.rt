@@ -4,6 +4,7 @@ ghost use Rattle.plan_steps.specs.Phase.{phases_by, phases_of};
 
 use crate::block_steps::{block_steps, top_steps};
 use crate::lid_steps::{lid_steps, own_lid};
+use crate::mask_steps::{SwitchMasks, clear_steps, tree_steps};
 use crate::state_steps::{state_steps, wired_ports};
 use crate::step::Step;
 use attr_codec::PortState;
@@ -34,8 +35,9 @@ impl Model for Phase {
 
 /// Builds the phases in which a manager writes a plan along the paths of its last sweep: LIDs, forwarding blocks, the
 /// greatest LID at each switch, and then the states of ports on wires, first Armed and then Active (subnet
-/// management, initialization). The manager is at the port with the number `port` and the GUID `port_guid`. Leaves
-/// out agents that the sweep did not reach.
+/// management, initialization). Before the blocks the multicast masks of the switches of `tree` are cleared, and after
+/// the tops they are set to those of `tree`, which may be empty. The manager is at the port with the number `port` and
+/// the GUID `port_guid`. Leaves out agents that the sweep did not reach.
 ///
 /// # Errors
 ///
@@ -43,34 +45,41 @@ impl Model for Phase {
 pub fn phases(
     alloc: Global,
     plan: &Plan,
+    tree: &[SwitchMasks],
     store: &Store,
     sweep: &Sweep,
     port_guid: Guid,
     port: PortNum,
 ) -> Result<VecDeque<Phase>, AllocError>
     ensures { IfOk result (λ phases. phases.items
-        ≡ phases_of plan.now (cells_of store.now) sweep.now port_guid port) }
+        ≡ phases_of plan.now tree.now (cells_of store.now) sweep.now port_guid port) }
 {
     let master = own_lid(store, plan.lids(), port_guid, port);
-    phases_by(alloc, plan, store, sweep, master)
+    phases_by(alloc, plan, tree, store, sweep, master)
 }
 
-/// Builds the phases in which a manager with the LID `master` writes `plan`, as `phases` does.
+/// Builds the phases in which a manager with the LID `master` writes `plan` and `tree`, as `phases` does.
 fn phases_by(
     alloc: Global,
     plan: &Plan,
+    tree: &[SwitchMasks],
     store: &Store,
     sweep: &Sweep,
     master: Lid,
 ) -> Result<VecDeque<Phase>, AllocError>
     ensures { IfOk result (λ phases. phases.items
-        ≡ phases_by plan.now (cells_of store.now) sweep.now master) }
+        ≡ phases_by plan.now tree.now (cells_of store.now) sweep.now master) }
 {
     let lids = plan.lids();
-    let mut phases = VecDeque::with_capacity(alloc, 5)?;
+    let mut phases = VecDeque::with_capacity(alloc, 7)?;
     let steps = lid_steps(alloc, store, sweep, master, lids)?;
     phases.push_back(Phase {
         counts: true,
+        steps,
+    })?;
+    let steps = clear_steps(alloc, store, sweep, tree)?;
+    phases.push_back(Phase {
+        counts: false,
         steps,
     })?;
     let steps = block_steps(alloc, sweep, plan)?;
@@ -81,6 +90,11 @@ fn phases_by(
     let steps = top_steps(alloc, sweep, plan)?;
     phases.push_back(Phase {
         counts: true,
+        steps,
+    })?;
+    let steps = tree_steps(alloc, store, sweep, tree)?;
+    phases.push_back(Phase {
+        counts: false,
         steps,
     })?;
     let ports = wired_ports(alloc, store)?;
