@@ -17,10 +17,10 @@ use Rattle.lid_assign.proofs.Tops.{top_below}
 use Rattle.lft_blocks.specs.Rule.{RuleValue}
 use Rattle.lft_blocks.specs.Entries.{block_count}
 use Rattle.lft_blocks.specs.Plan.{SwitchTable, plan_of, switches_of}
-use Rattle.sweep.specs.Sweep.{Sweep}
+use Rattle.sweep.specs.Sweep.{Sweep, switch_image}
 use Rattle.plan_steps.specs.Bound.{PhaseBoundLaw}
-use Rattle.plan_steps.specs.MaskSteps.{mask_step, position_count, switch_mask_steps}
-use Rattle.plan_steps.specs.declared.mask_steps.SwitchMasks.{SwitchMasks}
+use Rattle.plan_steps.specs.MaskSteps.{has_table, mask_step, position_count, switch_mask_steps}
+use Rattle.plan_steps.specs.Tree.{TreePorts}
 use Rattle.plan_steps.specs.LidSteps.{owner_step}
 use Rattle.plan_steps.specs.StateSteps.{state_step, state_steps, wired_port, wired_ports}
 use Rattle.plan_steps.specs.BlockSteps.{block_step, switch_steps, top_step, top_steps}
@@ -113,16 +113,19 @@ module _ (rule : RuleValue) (lmc : ℕ) (facts : Facts) (s : Sweep) (master : �
       let ports = found_at_most (wired_port (cells_of facts)) (cells_of facts) in
       omega (arith, found, ports)
 
-  masks_fit : (masks : SwitchMasks → List ℕ) (tree : List SwitchMasks)
-      → length (flat_map (λ x. switch_mask_steps (cells_of facts) s (masks x) x.guid) tree) ≤ 768 * length tree
-  masks_fit masks tree = joined_at_most (λ x. switch_mask_steps (cells_of facts) s (masks x) x.guid) few tree
+  masks_fit : (ports : TreePorts → List ℕ) (tree : List TreePorts)
+      → length (flat_map (λ x. switch_mask_steps (cells_of facts) s (ports x) x.guid) tree) ≤ 768 * length tree
+  masks_fit ports tree = joined_at_most (λ x. switch_mask_steps (cells_of facts) s (ports x) x.guid) few tree
     where
-      few : (x : SwitchMasks) → length (switch_mask_steps (cells_of facts) s (masks x) x.guid) ≤ 768
+      few : (x : TreePorts) → length (switch_mask_steps (cells_of facts) s (ports x) x.guid) ≤ 768
       few x =
           let count = position_count (cells_of facts) x.guid in
-          let found = found_at_most (mask_step s x.guid (masks x)) (range_with_len 0 count) in
+          let found = found_at_most (mask_step s x.guid (ports x)) (range_with_len 0 count) in
           let least = min-le_right (port_count_of (cells_of facts) x.guid / 16) 15 in
-          omega (arith, found, length-range_with_len 0 count, least)
+          elim (has_table (switch_image s x.guid)) as (λ t. length (cond t (filter_map (mask_step s x.guid (ports x)) (range_with_len 0 count)) []) ≤ 768) [
+            | true ↦ omega (arith, found, length-range_with_len 0 count, least)
+            | false ↦ omega arith
+          ]
 
 pub phase_bound_law : PhaseBoundLaw
 phase_bound_law rule lmc facts s master has_room tree few =
@@ -136,5 +139,5 @@ phase_bound_law rule lmc facts s master has_room tree few =
     let armed = states_fit rule lmc facts s master has_room Armed in
     let active = states_fit rule lmc facts s master has_room Active in
     let cleared = masks_fit rule lmc facts s master has_room (λ x. []) tree in
-    let masked = masks_fit rule lmc facts s master has_room (λ x. x.masks) tree in
+    let masked = masks_fit rule lmc facts s master has_room (λ x. x.ports) tree in
     (omega (arith, owners, some), (omega (arith, cleared, few), (omega (arith, blocks, same), (omega (arith, tops), (omega (arith, masked, few), (omega (arith, armed), (omega (arith, active), tt)))))))

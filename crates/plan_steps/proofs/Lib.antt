@@ -3,6 +3,7 @@ pub mod Walked
 pub mod WiredPorts
 pub mod OwnLid
 pub mod Bounds
+pub mod Trees
 pub mod Whole
 pub mod Changed
 pub mod SetLaws

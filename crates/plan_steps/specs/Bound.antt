@@ -8,7 +8,7 @@ use Rattle.lft_blocks.specs.Rule.{RuleValue}
 use Rattle.lft_blocks.specs.Plan.{plan_of}
 use Rattle.sweep.specs.Sweep.{Sweep}
 use Rattle.plan_steps.specs.Phase.{phases_by}
-use Rattle.plan_steps.specs.declared.mask_steps.SwitchMasks.{SwitchMasks}
+use Rattle.plan_steps.specs.Tree.{TreePorts}
 
 -- a bound on the steps of a phase: one step for each number below 0xC000, one for each block of these numbers at each
 -- usable switch, and one for each cell
@@ -20,6 +20,6 @@ most_steps cells = 0xC000 + 768 * length (switches cells) + length cells
 abbrev pub PhaseBoundLaw : Type 0
 PhaseBoundLaw =
     (rule : RuleValue) (lmc : ℕ) (facts : Facts) (s : Sweep) (master : ℕ) → ¬ (IsNoRoom lmc (cells_of facts))
-    → (tree : List SwitchMasks) → length tree ≤ length (switches (cells_of facts))
+    → (tree : List TreePorts) → length tree ≤ length (switches (cells_of facts))
     → AllByRecursion (λ p. length p.steps
     ≤ most_steps (cells_of facts)) (phases_by (plan_of rule lmc (cells_of facts)) tree (cells_of facts) s master)

@@ -3,6 +3,7 @@ pub mod Carried
 pub mod LidSteps
 pub mod BlockSteps
 pub mod MaskSteps
+pub mod Tree
 pub mod StateSteps
 pub mod Phase
 pub mod Bound

@@ -10,10 +10,11 @@ mod mask_steps;
 mod phase;
 mod state_steps;
 mod step;
+mod tree;
 
 pub use bound::most_steps;
 pub use carried::PortRead;
 pub use lft_blocks::{Plan, PlanFault, Planning};
-pub use mask_steps::SwitchMasks;
 pub use phase::{Phase, phases};
 pub use step::Step;
+pub use tree::{TreePorts, planned_tree};

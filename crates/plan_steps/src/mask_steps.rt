@@ -1,10 +1,12 @@
 //! The steps that set multicast forwarding tables.
-ghost use Rattle.std.specs.Prelude.{◌≡◌, ◌++◌, ◌<◌, IfOk, OnOk, slice_index_or, ◌*◌, ◌^◌};
+ghost use Rattle.std.specs.Prelude.{◌≡◌, ◌++◌, ◌<◌, IfOk, OnOk};
 ghost use Rattle.fact_store.specs.View.{cells_of};
-ghost use Rattle.plan_steps.specs.MaskSteps.{clear_steps, mask_step, masks_data, position_count, switch_mask_steps};
-ghost use Rattle.plan_steps.specs.MaskSteps.{tree_steps};
+ghost use Rattle.plan_steps.specs.MaskSteps.{clear_steps, has_table, mask_of, mask_step, mask_with, masks_data, position_count};
+ghost use Rattle.plan_steps.specs.MaskSteps.{switch_mask_steps, tree_steps};
 
 use crate::step::{Step, step_at};
+use crate::tree::TreePorts;
+use attr_codec::SwitchInfo;
 use fact_store::Store;
 use smp_bytes::wire::put_u16;
 use smp_bytes::{AttributeId, Guid, PortNum};
@@ -14,27 +16,18 @@ use sweep::Sweep;
 
 const MULTICAST_FORWARDING_TABLE: AttributeId = AttributeId(0x001B);
 
-/// The ports of a switch that are in the multicast tree.
-#[derive(Clone, Copy, Debug)]
-pub struct SwitchMasks {
-    /// The GUID of the switch.
-    pub guid: Guid,
-    /// A mask for each 16 ports, port 0 included. The least bit is that of the first of them.
-    pub masks: [u16; 16],
-}
-
 /// Builds the steps that set the masks of `tree` at its switches, as far as the sweep reached them.
 pub(crate) fn tree_steps(
     alloc: Global,
     store: &Store,
     sweep: &Sweep,
-    tree: &[SwitchMasks],
+    tree: &[TreePorts],
 ) -> Result<Vec<Step>, AllocError>
     ensures { IfOk result (λ steps. steps.items ≡ tree_steps (cells_of store.now) sweep.now tree.now) }
 {
     let mut steps = Vec::new(alloc);
     for switch in tree {
-        add_mask_steps(&mut steps, store, sweep, switch.guid, &switch.masks)?;
+        add_mask_steps(&mut steps, store, sweep, switch.guid, &switch.ports)?;
     }
     Ok(steps)
 }
@@ -44,7 +37,7 @@ pub(crate) fn clear_steps(
     alloc: Global,
     store: &Store,
     sweep: &Sweep,
-    tree: &[SwitchMasks],
+    tree: &[TreePorts],
 ) -> Result<Vec<Step>, AllocError>
     ensures { IfOk result (λ steps. steps.items ≡ clear_steps (cells_of store.now) sweep.now tree.now) }
 {
@@ -55,24 +48,37 @@ pub(crate) fn clear_steps(
     Ok(steps)
 }
 
-/// Appends to `steps` those that set the masks of the switch `guid`.
+/// Appends to `steps` those that set the masks of the switch `guid` to `ports`, if it has a multicast forwarding table.
 #[tactic(auto, using(crate::proofs::Ranges::given_some, crate::proofs::Ranges::given_none))]
 fn add_mask_steps(
     steps: &mut Vec<Step>,
     store: &Store,
     sweep: &Sweep,
     guid: Guid,
-    masks: &[u16],
+    ports: &[PortNum],
 ) -> Result<(), AllocError>
     ensures { OnOk result (steps.new.items
-        ≡ steps.old.items ++ switch_mask_steps (cells_of store.now) sweep.now masks.now guid) }
+        ≡ steps.old.items ++ switch_mask_steps (cells_of store.now) sweep.now ports.now guid) }
 {
+    if !has_table(sweep.switch_image(guid)) {
+        return Ok(());
+    }
     for position in 0..position_count(store, guid) {
-        if let Some(step) = mask_step(sweep, guid, masks, position) {
+        if let Some(step) = mask_step(sweep, guid, ports, position) {
             steps.push(step)?;
         }
     }
     Ok(())
+}
+
+/// Returns whether a switch has a multicast forwarding table, by the SwitchInfo that was read of it.
+fn has_table(read: Option<SwitchInfo>) -> bool
+    ensures { result ≡ has_table read }
+{
+    match read {
+        Some(info) => info.multicast_fdb_cap() > 0,
+        None => false,
+    }
 }
 
 /// Returns the number of positions in the multicast forwarding table of the switch `guid`.
@@ -83,10 +89,10 @@ fn position_count(store: &Store, guid: Guid) -> usize
     usize::from(port_count(store, guid)) / 16 + 1
 }
 
-/// Builds the step that sets the mask at `position`, if the sweep reached the switch `guid`.
-fn mask_step(sweep: &Sweep, guid: Guid, masks: &[u16], position: usize) -> Option<Step>
+/// Builds the step that sets the mask of `ports` at `position`, if the sweep reached the switch `guid`.
+fn mask_step(sweep: &Sweep, guid: Guid, ports: &[PortNum], position: usize) -> Option<Step>
     requires { position < 16 }
-    ensures { result ≡ mask_step sweep.now guid masks.now position }
+    ensures { result ≡ mask_step sweep.now guid ports.now position }
 {
     step_at(
         sweep,
@@ -94,17 +100,29 @@ fn mask_step(sweep: &Sweep, guid: Guid, masks: &[u16], position: usize) -> Optio
         PortNum::MANAGEMENT,
         MULTICAST_FORWARDING_TABLE,
         0x1000_0000 * position as u32,
-        masks_data(mask_at(masks, position)),
+        masks_data(mask_of(ports, position)),
     )
 }
 
-/// Returns the mask at `position`, or 0 if there is none.
-fn mask_at(masks: &[u16], position: usize) -> u16
-    ensures { result ≡ slice_index_or masks.now position 0 }
+/// Returns the mask that has those of `ports` that have the position `position`.
+fn mask_of(ports: &[PortNum], position: usize) -> u16
+    ensures { result ≡ mask_of ports.now position }
 {
-    match masks.get(position) {
-        Some(mask) => *mask,
-        None => 0,
+    let mut mask = 0;
+    for port in ports {
+        mask = mask_with(position, mask, *port);
+    }
+    mask
+}
+
+/// Returns `mask` with the bit of `port`, if the port has the position `position`.
+fn mask_with(position: usize, mask: u16, port: PortNum) -> u16
+    ensures { result ≡ mask_with position mask port }
+{
+    if usize::from(port.number()) / 16 == position {
+        mask | 1 << (port.number() % 16)
+    } else {
+        mask
     }
 }
 

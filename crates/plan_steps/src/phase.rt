@@ -4,7 +4,8 @@ ghost use Rattle.plan_steps.specs.Phase.{phases_by, phases_of};
 
 use crate::block_steps::{block_steps, top_steps};
 use crate::lid_steps::{lid_steps, own_lid};
-use crate::mask_steps::{SwitchMasks, clear_steps, tree_steps};
+use crate::mask_steps::{clear_steps, tree_steps};
+use crate::tree::TreePorts;
 use crate::state_steps::{state_steps, wired_ports};
 use crate::step::Step;
 use attr_codec::PortState;
@@ -45,7 +46,7 @@ impl Model for Phase {
 pub fn phases(
     alloc: Global,
     plan: &Plan,
-    tree: &[SwitchMasks],
+    tree: &[TreePorts],
     store: &Store,
     sweep: &Sweep,
     port_guid: Guid,
@@ -62,7 +63,7 @@ pub fn phases(
 fn phases_by(
     alloc: Global,
     plan: &Plan,
-    tree: &[SwitchMasks],
+    tree: &[TreePorts],
     store: &Store,
     sweep: &Sweep,
     master: Lid,
@@ -79,7 +80,7 @@ fn phases_by(
     })?;
     let steps = clear_steps(alloc, store, sweep, tree)?;
     phases.push_back(Phase {
-        counts: false,
+        counts: true,
         steps,
     })?;
     let steps = block_steps(alloc, sweep, plan)?;
@@ -94,7 +95,7 @@ fn phases_by(
     })?;
     let steps = tree_steps(alloc, store, sweep, tree)?;
     phases.push_back(Phase {
-        counts: false,
+        counts: true,
         steps,
     })?;
     let ports = wired_ports(alloc, store)?;

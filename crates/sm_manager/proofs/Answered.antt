@@ -506,7 +506,8 @@ written_exactly total d m b = (
 
 phases_count_first : (m : Manager) (o : Option Sweep) → CountFirst (phases_by m o)
 phases_count_first m None = tt
-phases_count_first m (Some s) = (λ e. absurd (cc e), (λ e. absurd (cc e), (λ e. absurd (cc e), (λ _. (refl, tt), (λ _. tt, tt)))))
+phases_count_first m (Some s) =
+    (λ e. absurd (cc e), (λ e. absurd (cc e), (λ e. absurd (cc e), (λ e. absurd (cc e), (λ e. absurd (cc e), (λ _. (refl, tt), (λ _. tt, tt)))))))
 
 none_waits : (m : Manager) → write_fault m ≡ None → no_step_waits m.pending ≡ true
 none_waits m e = by_sweep m.sweep e

@@ -11,6 +11,8 @@ use Rattle.plan_steps.specs.Bound.{most_steps}
 use Rattle.plan_steps.specs.LidSteps.{own_lid}
 use Rattle.plan_steps.specs.Phase.{Phase}
 use Rattle.plan_steps.proofs.Bounds.{phase_bound_law}
+use Rattle.plan_steps.proofs.Trees.{planned_tree_fits}
+use Rattle.plan_steps.specs.Tree.{planned_tree}
 use Rattle.plan_steps.specs.Plan.{plan_of}
 use Rattle.request_table.proofs.Indices.{some_is}
 use Rattle.sm_state.specs.declared.state.SmState.TheVariants.{Master}
@@ -121,4 +123,5 @@ first_phase_fits m e =
         let cells = cells_of m.store in
         first_at_most (most_steps cells) (phases_by m (Some s))
         (phase_bound_law m.planning.rule m.planning.lmc m.store s
-        (own_lid cells (plan_of m.planning.rule m.planning.lmc cells).given.ports m.standing.guid m.port) has_room)
+        (own_lid cells (plan_of m.planning.rule m.planning.lmc cells).given.ports m.standing.guid m.port) has_room
+        (planned_tree m.planning cells) (planned_tree_fits m.planning cells))

@@ -9,6 +9,7 @@ use Rattle.smp_bytes.specs.Header.{done}
 use Rattle.plan_steps.specs.declared.step.Step.{Step}
 use Rattle.plan_steps.specs.Phase.{Phase, phases_of}
 use Rattle.plan_steps.specs.Step.{set_packet}
+use Rattle.plan_steps.specs.Tree.{planned_tree}
 use Rattle.sweep.specs.Sweep.{Sweep, is_done}
 use Rattle.sm_manager.specs.declared.fault.ManagerFault.{ManagerFault}
 use Rattle.sm_manager.specs.declared.fault.ManagerFault.TheVariants.{NotMaster, SweepRunning, WritingRunning}
@@ -100,11 +101,13 @@ write_fault_with m (Some s) =
 abbrev pub write_fault : Manager → Option ManagerFault
 write_fault m = write_fault_with m m.sweep
 
--- the phases of the plan of the manager's facts, along the paths of the given sweep; none if there is no sweep
+-- the phases of the plan of the manager's facts, and of the multicast tree if the manager writes one, along the paths of
+-- the given sweep; none if there is no sweep
 abbrev pub phases_by : Manager → Option Sweep → List Phase
 phases_by m None = []
 phases_by m (Some s) =
-    phases_of (plan_of m.planning.rule m.planning.lmc (cells_of m.store)) (cells_of m.store) s m.standing.guid m.port
+    phases_of (plan_of m.planning.rule m.planning.lmc (cells_of m.store)) (planned_tree m.planning (cells_of m.store))
+    (cells_of m.store) s m.standing.guid m.port
 
 -- the manager after a writing of these phases has begun; the first phase with steps, if there is one, is queued
 abbrev pub begun_with : Manager → List Phase → Manager

@@ -14,14 +14,15 @@ use crate::fault::ManagerFault;
 use crate::manager::Manager;
 use crate::manager_requests::{make_room, reserve};
 use crate::writing::Writing;
-use plan_steps::{most_steps, phases};
+use plan_steps::{most_steps, phases, planned_tree};
 use sm_state::SmState;
 use sweep::Sweep;
 
 impl Manager {
     /// Begins to write the plan of the manager's facts, along the paths of the last sweep. The plan is written in
     /// phases: the LIDs of end ports, the forwarding blocks of usable switches, their tops, and then the states of
-    /// ports on wires. Each phase is queued as a whole, and the next one once each of its steps was answered or timed
+    /// ports on wires. If the manager writes the multicast tree, masks are cleared before the blocks, and set after the
+    /// tops. Each phase is queued as a whole, and the next one once each of its steps was answered or timed
     /// out.
     ///
     /// # Errors
@@ -51,9 +52,11 @@ impl Manager {
         let sweep = self.last_sweep()?;
         let are_numbers = self.requests.has_numbers(most_steps(&self.store));
         let plan = where_numbered(self.plan(), are_numbers)?;
+        let tree = planned_tree(self.alloc, &self.store, &self.planning)?;
         let phases = phases(
             self.alloc,
             &plan,
+            &tree,
             &self.store,
             sweep,
             self.standing.guid,

@@ -5,6 +5,7 @@ use Rattle.std.specs.Prelude.{IfOk}
 use Rattle.plan_steps.specs.Plan.{plan_of}
 use Rattle.fact_store.specs.View.{cells_of}
 use Rattle.plan_steps.specs.Phase.{Phase, phases_of}
+use Rattle.plan_steps.specs.Tree.{planned_tree}
 use Rattle.sm_manager.specs.Manager.{Manager, Writing}
 use Rattle.sm_manager.specs.Writing.{without_empty_phases, phases_by}
 use Rattle.sm_manager.specs.PlanFaults.{plan_fault}
@@ -28,10 +29,13 @@ returns-clause-writing c =
     let plan : c.in_ok-plan.plan ≡ plan_of m.planning.rule m.planning.lmc (cells_of m.store) =
     found_is c.plan.result c.in_ok-plan.plan (λ it. it
     ≡ plan_of m.planning.rule m.planning.lmc (cells_of m.store)) c.in_ok-plan.ensures.found c.plan.ensures.plan in
+    let planning : c.self.inside.planning ≡ m.planning = ap (λ (x : Manager). x.planning) c.self.view_is in
+    let tree : c.deref.result.now ≡ planned_tree m.planning (cells_of m.store) =
+    c.deref.ensures.value ∙ c.in_ok-tree.ensures ∙ (λ i. planned_tree (planning i) (cells_of (store i))) in
     c.new.ensures
     ∙ ap begins
     (c.in_ok-phases.ensures
-    ∙ (λ i. phases_of (plan i) (cells_of (store i)) c.in_ok-sweep.sweep.now (guid i) (port i))
+    ∙ (λ i. phases_of (plan i) (tree i) (cells_of (store i)) c.in_ok-sweep.sweep.now (guid i) (port i))
     ∙ ap (phases_by m) (sym c.in_ok-sweep.ensures.sweep))
 
 pub returns-in_err-sweep-clause-judged : goal.returns-in_err-sweep-clause-judged
