@@ -8,7 +8,6 @@ use Rattle.fabric_model.specs.declared.cable.NodePort.{NodePort}
 use Rattle.fabric_model.specs.Cables.{is_same_port}
 use Rattle.fabric_sim.specs.Simulation.{Simulation}
 use Rattle.lft_blocks.specs.Plan.{PlanValue, plan_of}
-use Rattle.plan_steps.specs.Phase.{phases_of}
 use Rattle.subnet_view.proofs.Members.{contains_none}
 use Rattle.sweep.specs.Sweep.{Sweep}
 use Rattle.sm_manager.specs.declared.outgoing.Outgoing.{Outgoing}
@@ -104,8 +103,7 @@ module _ (start : Simulation) (seat : NodePort) (plan : PlanValue) (ground : Gro
           → Goes start seat plan old (record w { manager = begun_with w.manager (phases_by w.manager o) })
       by_sweep None swept most = absurd swept
       by_sweep (Some s) swept most =
-          let phases = phases_of (plan_of w.manager.planning.rule w.manager.planning.lmc (cells_of w.manager.store)) (cells_of w.manager.store) s
-          w.manager.standing.guid w.manager.port in
+          let phases = phases_by w.manager (Some s) in
           phase_goes start seat plan old w w.manager (record { later = without_empty_phases phases; has_failed = false }) g.fair refl refl g.fair.side
           g.fair.once
           (passed_goes start seat plan phases (writing_goes start seat w.manager may g.fair.side.lmc s swept plan)) most

@@ -29,6 +29,7 @@ use Rattle.lft_blocks.specs.Plan.{PlanValue, plan_of}
 use Rattle.plan_steps.specs.declared.step.Step.{Step}
 use Rattle.plan_steps.specs.Bound.{most_steps}
 use Rattle.plan_steps.specs.Phase.{Phase, phases_of}
+use Rattle.plan_steps.specs.Tree.{planned_tree}
 use Rattle.fabric_sim.specs.declared.delivered.Delivered.{Delivered}
 use Rattle.fabric_sim.specs.declared.delivered.Delivered.TheVariants.{Answered}
 use Rattle.fabric_sim.specs.declared.fabric_fault.FabricFault.{FabricFault}
@@ -256,7 +257,7 @@ sweep_there (Some s) e = refl
 -- what a manager would write by a planning and a sweep, if it knew these cells
 abbrev pub phases_with : Planning → Manager → Option Sweep → Cells → List Phase
 phases_with planning m None c = []
-phases_with planning m (Some s) c = phases_of (plan_of planning.rule planning.lmc c) c s m.standing.guid m.port
+phases_with planning m (Some s) c = phases_of (plan_of planning.rule planning.lmc c) (planned_tree planning c) c s m.standing.guid m.port
 
 abbrev pub fault_with : Planning → Manager → Option Sweep → Cells → Option ManagerFault
 fault_with planning m o c =
@@ -270,7 +271,7 @@ same_phases m (Some s) = refl
 
 -- LIDs in pairs, up and down
 abbrev pub in_pairs : Planning
-in_pairs = record { lmc = 1; rule = up_and_down }
+in_pairs = record { lmc = 1; rule = up_and_down; multicast = false }
 
 -- what its agents tell, in the order of the requests, where they hold these LIDs
 abbrev pub told_with : ℕ → ℕ → ℕ → List Sightings

@@ -24,7 +24,8 @@ use Rattle.plan_steps.specs.declared.step.Step.{Step}
 use Rattle.plan_steps.specs.Carried.{port_read}
 use Rattle.plan_steps.specs.LidSteps.{own_lid, port_data}
 use Rattle.plan_steps.specs.BlockSteps.{top_data}
-use Rattle.plan_steps.specs.Phase.{Phase, phases_of}
+use Rattle.plan_steps.specs.Phase.{Phase}
+use Rattle.plan_steps.specs.Tree.{TreePorts, planned_tree}
 use Rattle.sm_manager.specs.Manager.{Manager, Writing}
 use Rattle.sm_manager.specs.Writing.{begun_with, is_written, without_empty_phases, phases_by, after_write_steps}
 use Rattle.manager_laws.specs.Truth.{HasNode, AreGuidsDistinct}
@@ -83,13 +84,13 @@ module _ (w : Managing) (before between after : List ManagerEvent) (run : IsWrit
     pub swept : IsSwept w.scene.fabric w.seat sweep
     swept = elim swept_before.fair.side.sweep [ inl none ↦ absurd none.0 | inr one ↦ subst (IsSweptOne w.scene.fabric w.seat) sweep_is one ]
 
-    pub phases : List Phase
-    phases = phases_of (plan_of (at_writing w before between).manager.planning.rule (at_writing w before between).manager.planning.lmc
-        (cells_of (at_writing w before between).manager.store)) (cells_of (at_writing w before between).manager.store) sweep
-        (at_writing w before between).manager.standing.guid (at_writing w before between).manager.port
+    abbrev tree : List TreePorts
+    tree = planned_tree (at_writing w before between).manager.planning (cells_of (at_writing w before between).manager.store)
 
-    pub phases_are : phases ≡ phases_of (plan_at (at_writing w before between)) (cells_of (at_writing w before between).manager.store) sweep
-        (at_writing w before between).manager.standing.guid (at_writing w before between).manager.port
+    pub phases : List Phase
+    phases = phases_by (at_writing w before between).manager (Some sweep)
+
+    pub phases_are : phases ≡ phases_by (at_writing w before between).manager (Some sweep)
     unfolding phases
     phases_are = refl
 
@@ -194,7 +195,7 @@ module _ (w : Managing) (before between after : List ManagerEvent) (run : IsWrit
           let (path, there) = some_path e.node e.port reached in
           let facts = (at_writing w before between).manager.store in
           let x = range_is_set (at_writing w before between).manager.planning.rule (at_writing w before between).manager.planning.lmc swept_before.fair.side.lmc
-          facts may.has_room sweep master few seen_few e range path has there in
+          facts may.has_room sweep master few seen_few tree e range path has there in
           let (a, at, held, whole) = set_is_held (record {
             path = path;
             attribute = port_info;
@@ -216,7 +217,7 @@ module _ (w : Managing) (before between after : List ManagerEvent) (run : IsWrit
           let (path, there) = some_path guid 0 reached in
           let facts = (at_writing w before between).manager.store in
           let x = top_is_set (at_writing w before between).manager.planning.rule (at_writing w before between).manager.planning.lmc swept_before.fair.side.lmc
-          facts may.has_room sweep master few seen_few guid top path is_top is_switch there in
+          facts may.has_room sweep master few seen_few tree guid top path is_top is_switch there in
           let (a, at, held, whole) = set_is_held
           (record { path = path; attribute = switch_info; modifier = 0; payload = top_data (switch_image sweep guid) top }) x guid 0 there id
           node has.there has.named in
@@ -233,7 +234,7 @@ module _ (w : Managing) (before between after : List ManagerEvent) (run : IsWrit
           let (path, there) = some_path guid 0 reached in
           let facts = (at_writing w before between).manager.store in
           let x = block_is_set (at_writing w before between).manager.planning.rule (at_writing w before between).manager.planning.lmc swept_before.fair.side.lmc
-          facts may.has_room sweep master few seen_few guid b block path is_block there in
+          facts may.has_room sweep master few seen_few tree guid b block path is_block there in
           let (a, at, held, whole) = set_is_held (record { path = path; attribute = linear_forwarding_table; modifier = b; payload = block }) x guid 0 there
           id node has.there has.named in
           slice_get-get_or block i 0 (omega (arith, less, whole))

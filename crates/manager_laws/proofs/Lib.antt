@@ -28,6 +28,7 @@ pub mod Known
 pub mod KnownPart
 pub mod Led
 pub mod Lists
+pub mod MaskSteps
 pub mod NewManagers
 pub mod NodeReplies
 pub mod Numbered

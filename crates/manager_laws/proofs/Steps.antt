@@ -3,9 +3,9 @@ use Rattle.std.proofs.Common.{◌≡◌, ◌≢◌, ℕ, ◌+◌, ◌*◌, ◌<�
 use Rattle.std.proofs.lemmas.Bool.{cond_both, eqb-true}
 use Rattle.std.proofs.lemmas.List.FromFn.{length-map-range_with_len}
 use Rattle.std.proofs.lemmas.Option.{same_Some, slice_get_within}
-use Rattle.std.specs.Prelude.{Contains, Option, Some, None, option_map, option_and_then, slice_get, ◌==◌, if◌then◌else◌}
+use Rattle.std.specs.Prelude.{Contains, Option, Some, None, option_map, option_and_then, replicate, slice_get, ◌==◌, if◌then◌else◌}
 use Rattle.std.specs.Option.{option_map_or}
-use Rattle.std.specs.List.{find, filter_map, range_with_len}
+use Rattle.std.specs.List.{find, filter_map, flat_map, range_with_len}
 use Rattle.smp_bytes.specs.Header.{port_info, switch_info, linear_forwarding_table, sm_info}
 use Rattle.smp_bytes.specs.Field.{number_in}
 use Rattle.smp_bytes.proofs.FieldLaws.{length-with_number}
@@ -39,9 +39,12 @@ use Rattle.plan_steps.specs.Step.{step_at}
 use Rattle.plan_steps.specs.LidSteps.{port_data, lid_step, owner_step, lid_steps}
 use Rattle.plan_steps.specs.BlockSteps.{block_step, switch_steps, block_steps, top_data, top_step, top_steps}
 use Rattle.plan_steps.specs.StateSteps.{wired_ports, is_due, vertex_port, state_data, state_step, state_steps}
+use Rattle.plan_steps.specs.MaskSteps.{first_mask, mask_of, switch_mask_steps}
 use Rattle.plan_steps.specs.Phase.{Phase, phases_by}
+use Rattle.plan_steps.specs.Tree.{TreePorts}
 use Rattle.plan_steps.proofs.SetLaws.{carried_switch_whole, port_data_whole, range-port_data, says_top}
 use Rattle.manager_laws.proofs.AgentSets.{IsOfPlan}
+use Rattle.manager_laws.proofs.MaskSteps.{IsMaskStep, few_positions, mask_step_there}
 use Rattle.manager_laws.proofs.WritingLists.{in_flat_map, from_flat_map, in_range_from_0}
 
 -- what a step is ----------------------------------------------------------------------------------
@@ -533,31 +536,82 @@ module _ (rule : RuleValue) (lmc : ℕ) (few_lmc : lmc < 8) (facts : Facts) (has
     pub steps : (s : Step) → Contains p.steps s → IsStep (plan_of rule lmc (cells_of facts)) sweep s
     pub counted : p.counts ≡ true → (s : Step) → Contains p.steps s → IsPlanned (plan_of rule lmc (cells_of facts)) sweep s
 
+  mask_step_is : (tree : List TreePorts) (s : Step) → IsMaskStep (cells_of facts) sweep tree s
+      → IsStep (plan_of rule lmc (cells_of facts)) sweep s × IsPlanned (plan_of rule lmc (cells_of facts)) sweep s
+  mask_step_is tree s m =
+      let is_masks = m.attribute_is in
+      let same = m.modifier_is in
+      let inside = m.there in
+      let most = few_positions (cells_of facts) m.switch.guid in (
+        record {
+          guid = m.switch.guid;
+          vertex = 0;
+          goes = record { path = m.path };
+          sendable = record {
+            attribute = omega (arith, is_masks);
+            no_manager = λ e. omega (arith, is_masks, e);
+            modifier = omega (arith, same, inside, most);
+            whole = ap length m.payload_is ∙ length-with_number first_mask (mask_of m.ports m.position) (replicate 64 0) (omega arith);
+          };
+          planned = record {
+            lids = λ e. absurd (omega (arith, is_masks, e));
+            top = λ e. absurd (omega (arith, is_masks, e));
+            block = λ e. absurd (omega (arith, is_masks, e));
+          };
+          zero = λ e. absurd (omega (arith, is_masks, e));
+        },
+        record {
+          guid = m.switch.guid;
+          vertex = 0;
+          goes = record { path = m.path };
+          of_plan = record {
+            lids = λ e. absurd (omega (arith, is_masks, e));
+            top = λ e. absurd (omega (arith, is_masks, e));
+            block = λ e. absurd (omega (arith, is_masks, e));
+          };
+          port = λ e. absurd (omega (arith, is_masks, e));
+        },
+      )
+
+  masks_good : (tree : List TreePorts) (ports : TreePorts → List ℕ)
+      → IsGoodPhase (record { counts = true; steps = flat_map (λ x. switch_mask_steps (cells_of facts) sweep (ports x) x.guid) tree })
+  masks_good tree ports =
+      record {
+        steps = λ s there. (mask_step_is tree s (mask_step_there (cells_of facts) sweep ports tree s there)).0;
+        counted = λ _ s there. (mask_step_is tree s (mask_step_there (cells_of facts) sweep ports tree s there)).1;
+      }
+
   abbrev pub AreGoodPhases : List Phase → Type 0
   AreGoodPhases [] = Unit {0}
   AreGoodPhases (p ∷ phases) = IsGoodPhase p × AreGoodPhases phases
 
-  pub good_phases : AreGoodPhases (phases_by (plan_of rule lmc (cells_of facts)) (cells_of facts) sweep master)
-  good_phases = (
+  pub good_phases : (tree : List TreePorts) → AreGoodPhases (phases_by (plan_of rule lmc (cells_of facts)) tree (cells_of facts) sweep master)
+  good_phases tree = (
     record { steps = λ s there. (lid_step_is s (from_lid_step s there)).0; counted = λ _ s there. (lid_step_is s (from_lid_step s there)).1 },
     (
-      record { steps = λ s there. (block_step_is s (from_block_step s there)).0; counted = λ _ s there. (block_step_is s (from_block_step s there)).1 },
+      masks_good tree (λ x. []),
       (
-        record { steps = λ s there. (top_step_is s (from_top_step s there)).0; counted = λ _ s there. (top_step_is s (from_top_step s there)).1 },
+        record { steps = λ s there. (block_step_is s (from_block_step s there)).0; counted = λ _ s there. (block_step_is s (from_block_step s there)).1 },
         (
-          record { steps = λ s there. state_step_is Armed s there; counted = λ e s there. absurd (cc) },
-          (record { steps = λ s there. state_step_is Active s there; counted = λ e s there. absurd (cc) }, tt),
+          record { steps = λ s there. (top_step_is s (from_top_step s there)).0; counted = λ _ s there. (top_step_is s (from_top_step s there)).1 },
+          (
+            masks_good tree (λ x. x.ports),
+            (
+              record { steps = λ s there. state_step_is Armed s there; counted = λ e s there. absurd (cc) },
+              (record { steps = λ s there. state_step_is Active s there; counted = λ e s there. absurd (cc) }, tt),
+            ),
+          ),
         ),
       ),
     ),
   )
 
   -- a step of a phase that counts
-  pub range_is_set : (e : EndPort) (range : ℕ × ℕ) (path : List ℕ) → range_of (lids lmc (cells_of facts)) e ≡ Some range → path_to sweep e.node e.port
+  pub range_is_set : (tree : List TreePorts) (e : EndPort) (range : ℕ × ℕ) (path : List ℕ) → range_of (lids lmc (cells_of facts)) e ≡ Some range → path_to sweep e.node e.port
       ≡ Some path
-      → IsOf (phases_by (plan_of rule lmc (cells_of facts)) (cells_of facts) sweep master) true
+      → IsOf (phases_by (plan_of rule lmc (cells_of facts)) tree (cells_of facts) sweep master) true
       (record { path = path; attribute = port_info; modifier = e.port; payload = port_data (read_of e.node e.port) range master NoChange })
-  range_is_set e range path has there =
+  range_is_set tree e range path has there =
       let (lid_is, lmc_is) = range_parts e range has in
       record {
         phase = record { counts = true; steps = lid_steps (cells_of facts) sweep master (lids lmc (cells_of facts)) };
@@ -569,27 +623,27 @@ module _ (rule : RuleValue) (lmc : ℕ) (few_lmc : lmc < 8) (facts : Facts) (has
             (to_lid_step e range.0 path lid_is there);
       }
 
-  pub block_is_set : (guid b : ℕ) (payload path : List ℕ) → block_at (plan_of rule lmc (cells_of facts)) guid b ≡ Some payload → path_to sweep guid 0
+  pub block_is_set : (tree : List TreePorts) (guid b : ℕ) (payload path : List ℕ) → block_at (plan_of rule lmc (cells_of facts)) guid b ≡ Some payload → path_to sweep guid 0
       ≡ Some path
-      → IsOf (phases_by (plan_of rule lmc (cells_of facts)) (cells_of facts) sweep master) true
+      → IsOf (phases_by (plan_of rule lmc (cells_of facts)) tree (cells_of facts) sweep master) true
       (record { path = path; attribute = linear_forwarding_table; modifier = b; payload = payload })
-  block_is_set guid b payload path at there =
+  block_is_set tree guid b payload path at there =
       record {
         phase = record { counts = true; steps = block_steps sweep (plan_of rule lmc (cells_of facts)) };
-        there = (1, omega arith, refl);
+        there = (2, omega arith, refl);
         counts_is = refl;
         step = to_block_step guid b payload path at there;
       }
 
-  pub top_is_set : (guid top : ℕ) (path : List ℕ) → top_of (lids lmc (cells_of facts)) ≡ Some top
+  pub top_is_set : (tree : List TreePorts) (guid top : ℕ) (path : List ℕ) → top_of (lids lmc (cells_of facts)) ≡ Some top
       → Contains (switches_of (plan_of rule lmc (cells_of facts))) guid
       → path_to sweep guid 0 ≡ Some path
-      → IsOf (phases_by (plan_of rule lmc (cells_of facts)) (cells_of facts) sweep master) true
+      → IsOf (phases_by (plan_of rule lmc (cells_of facts)) tree (cells_of facts) sweep master) true
       (record { path = path; attribute = switch_info; modifier = 0; payload = top_data (switch_image sweep guid) top })
-  top_is_set guid top path is_top is_switch there =
+  top_is_set tree guid top path is_top is_switch there =
       record {
         phase = record { counts = true; steps = top_steps sweep (plan_of rule lmc (cells_of facts)) };
-        there = (2, omega arith, refl);
+        there = (3, omega arith, refl);
         counts_is = refl;
         step = to_top_step guid top path is_top is_switch there;
       }

@@ -18,7 +18,9 @@ use Rattle.lft_blocks.specs.Plan.{PlanValue, plan_of}
 use Rattle.sweep.specs.Sweep.{Sweep, is_done, path_to, seen_state}
 use Rattle.plan_steps.specs.declared.step.Step.{Step}
 use Rattle.plan_steps.specs.LidSteps.{own_lid}
-use Rattle.plan_steps.specs.Phase.{Phase, phases_of}
+use Rattle.plan_steps.specs.Phase.{Phase}
+use Rattle.plan_steps.specs.Tree.{planned_tree}
+use Rattle.sm_manager.specs.Writing.{phases_by}
 use Rattle.sm_manager.specs.declared.fault.ManagerFault.{ManagerFault}
 use Rattle.sm_manager.specs.declared.pending.Pending.{Pending}
 use Rattle.sm_manager.specs.ManagerRequests.{is_step, no_step_waits}
@@ -151,9 +153,9 @@ module _ (start : Simulation) (seat : NodePort) (m : Manager) (may : MayWrite m)
   GoodAll : List Phase → Type 0
   GoodAll phases = AreGoodPhases m.planning.rule m.planning.lmc few_lmc m.store may.has_room s master few seen_few phases
 
-  all_good : GoodAll (phases_of (plan_of m.planning.rule m.planning.lmc (cells_of m.store)) (cells_of m.store) s m.standing.guid m.port)
+  all_good : GoodAll (phases_by m (Some s))
   unfolding GoodAll master
-  all_good = good_phases m.planning.rule m.planning.lmc few_lmc m.store may.has_room s master few seen_few
+  all_good = good_phases m.planning.rule m.planning.lmc few_lmc m.store may.has_room s master few seen_few (planned_tree m.planning (cells_of m.store))
 
   one_good : (phases : List Phase) (p : Phase) → GoodAll phases → Contains phases p → GoodOne p
   unfolding GoodAll GoodOne
@@ -163,24 +165,24 @@ module _ (start : Simulation) (seat : NodePort) (m : Manager) (may : MayWrite m)
 
   -- of each phase
   phase_good : (counts : Bool) (t : Step)
-      → IsOf (phases_of (plan_of m.planning.rule m.planning.lmc (cells_of m.store)) (cells_of m.store) s m.standing.guid m.port) counts t
+      → IsOf (phases_by m (Some s)) counts t
       → IsStep (plan_of m.planning.rule m.planning.lmc (cells_of m.store)) s t
       × (counts ≡ true → IsPlanned (plan_of m.planning.rule m.planning.lmc (cells_of m.store)) s t)
   unfolding GoodOne
   phase_good counts t is =
-      let good = one_good (phases_of (plan_of m.planning.rule m.planning.lmc (cells_of m.store)) (cells_of m.store) s m.standing.guid m.port) is.phase all_good
+      let good = one_good (phases_by m (Some s)) is.phase all_good
       is.there in
       (good.steps t is.step, λ c. good.counted (is.counts_is ∙ c) t is.step)
 
   pub writing_goes : (plan : PlanValue)
-      → CanAllGo start seat plan (phases_of (plan_of m.planning.rule m.planning.lmc (cells_of m.store)) (cells_of m.store) s m.standing.guid m.port)
+      → CanAllGo start seat plan (phases_by m (Some s))
   writing_goes plan counts t is =
       let can = step_can_go start seat (plan_of m.planning.rule m.planning.lmc (cells_of m.store)) s swept.led t (phase_good counts t is).0 in
       record { sendable = can.sendable; own = can.own; short = can.short }
 
   -- a Set of its own carries the plan's values
   pub own_carries : (now : Simulation) → IsAlong start now → (at : NodePort) (a : Agent) (packet : List ℕ) → agent_at now at.node ≡ Some a
-      → IsOwnSet (fabric_of start) seat (phases_of (plan_of m.planning.rule m.planning.lmc (cells_of m.store)) (cells_of m.store) s m.standing.guid m.port) at
+      → IsOwnSet (fabric_of start) seat (phases_by m (Some s)) at
       packet
       → Carries (plan_of m.planning.rule m.planning.lmc (cells_of m.store)) a at.port packet
   unfolding GoodOne
@@ -199,7 +201,7 @@ module _ (start : Simulation) (seat : NodePort) (m : Manager) (may : MayWrite m)
       }
     where
       is : IsStep (plan_of m.planning.rule m.planning.lmc (cells_of m.store)) s own.step
-      is = (one_good (phases_of (plan_of m.planning.rule m.planning.lmc (cells_of m.store)) (cells_of m.store) s m.standing.guid m.port) own.phase all_good
+      is = (one_good (phases_by m (Some s)) own.phase all_good
           own.there).steps own.step
           own.in_phase
 
@@ -241,8 +243,19 @@ module _ (start : Simulation) (seat : NodePort) (m : Manager) (may : MayWrite m)
 
   -- each of its steps is good
   pub writing_good : (x : StepSent)
-      → IsOf (phases_of (plan_of m.planning.rule m.planning.lmc (cells_of m.store)) (cells_of m.store) s m.standing.guid m.port) x.counts x.step
+      → IsOf (phases_by m (Some s)) x.counts x.step
       → IsGood start seat (plan_of m.planning.rule m.planning.lmc (cells_of m.store)) x
   writing_good x is =
       let good = phase_good x.counts x.step is in
       step_is_good start seat (plan_of m.planning.rule m.planning.lmc (cells_of m.store)) s swept.led x good.0 good.1
+
+  -- a step along the path to a switch goes to the node of that GUID
+  pub masks_at : (x : StepSent) (is : IsOf (phases_by m (Some s)) x.counts x.step) (guid : ℕ) → path_to s guid 0 ≡ Some x.step.path
+      → (writing_good x is).node.guid ≡ guid
+  masks_at x is guid e =
+      let good = writing_good x is in
+      let to = path_led (fabric_of start) seat s guid 0 x.step.path swept.led e in
+      let ends : to.led.end ≡ good.end = same_Some _ _ (sym to.led.leads ∙ ap (directed_end (fabric_of start) seat) (sym to.path_is) ∙ good.leads) in
+      let nodes : to.led.node ≡ good.node = same_Some _ _ (sym (subst (λ (p : NodePort). IsNodeAt (fabric_of start) p.node to.led.node) ends to.led.has.there)
+      ∙ good.there) in
+      ap (λ (n : Node). n.guid) (sym nodes) ∙ to.led.has.named ∙ to.guid_is

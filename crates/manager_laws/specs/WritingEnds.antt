@@ -101,10 +101,10 @@ AreFirst least (p ∷ asked) (out ∷ sets) (s ∷ steps) =
     × (least ≤ p.number) × AreFirst (p.number + 1) asked sets steps
 
 -- from the beginning of a writing in `m` on, through the calls `after`, at most as many Sets are queued as the plan has
--- steps. They are those of the first of these steps, in turn, each with a number of its own. The plan has five phases
--- with at most `most_steps` steps each
+-- steps. They are those of the first of these steps, in turn, each with a number of its own. The writing has seven
+-- phases with at most `most_steps` steps each
 pub record AsksFew (m : Manager) (after : List Call) : Type 0 where
-  pub bound : length (planned_steps m) ≤ 5 * most_steps (cells_of m.store)
+  pub bound : length (planned_steps m) ≤ 7 * most_steps (cells_of m.store)
   pub few : length (sets_queued (WriteSteps ∷ after) m) ≤ length (planned_steps m)
   pub first : AreFirst m.counter (steps_asked (WriteSteps ∷ after) m) (sets_queued (WriteSteps ∷ after) m)
       (planned_steps m)

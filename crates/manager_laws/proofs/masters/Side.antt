@@ -14,7 +14,7 @@ use Rattle.lid_assign.specs.Lids.{IsNoRoom}
 use Rattle.lft_blocks.specs.Plan.{PlanValue, plan_of}
 use Rattle.lft_blocks.specs.Planning.{Planning}
 use Rattle.plan_steps.specs.declared.step.Step.{Step}
-use Rattle.plan_steps.specs.Phase.{Phase, phases_of}
+use Rattle.plan_steps.specs.Phase.{Phase}
 use Rattle.sweep.specs.Sweep.{Sweep}
 use Rattle.sm_manager.specs.declared.outgoing.Outgoing.{Outgoing}
 use Rattle.sm_manager.specs.CallLists as calls
@@ -161,9 +161,7 @@ module _ (start : Simulation) (seat : NodePort) (plan : PlanValue) (w : Managing
   may = may_write w.manager none
 
   abbrev phases_with : Sweep → List Phase
-  phases_with s =
-      phases_of (plan_of w.manager.planning.rule w.manager.planning.lmc (cells_of w.manager.store)) (cells_of w.manager.store) s w.manager.standing.guid
-      w.manager.port
+  phases_with s = phases_by w.manager (Some s)
 
   step_carried : (s : Sweep) → IsSwept start seat s → (counted : Bool) (t : Step) → IsOf (phases_with s) counted t
       → Carried start seat plan t

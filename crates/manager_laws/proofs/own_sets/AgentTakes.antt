@@ -13,6 +13,7 @@ use Rattle.node_agents.specs.declared.port.Port.{Port}
 use Rattle.node_agents.specs.Agent.{Agent, IsAgent, is_switch, port_at, with_port}
 use Rattle.node_agents.specs.SwitchInfo.{set_switch_info}
 use Rattle.node_agents.specs.PortInfo.{are_lids_taken, changed_port, has_lid, max_lmc, port_after, port_meant, port_with, set_port_info, state_after}
+use Rattle.node_agents.specs.MftBlock.{has_masks, multicast_forwarding_table, position_in, set_masks}
 use Rattle.node_agents.specs.LftBlock.{has_block, set_block}
 use Rattle.node_agents.specs.Answers.{Met, after_answer, after_request, met_set, set_attribute, set_of, status_told}
 use Rattle.node_agents.specs.AnswerLaws.{IsPacket}
@@ -54,6 +55,13 @@ module _ (a b : Agent) (packet : List ℕ) (arrival : ℕ) where
   set_one_block switch e taken =
       subst sets_of (sym e) (got_past (is_switch a) _ _ b (got_at_switch (is_switch a) _ _ _ b switch taken))
 
+  set_the_masks : is_switch a ≡ true → number_in attribute_id packet ≡ multicast_forwarding_table
+      → set_masks a (number_in attribute_modifier packet) (bytes_in attribute_data packet) ≡ Some b → set_of a packet arrival ≡ Ok b
+  unfolding set_of
+  set_the_masks switch e taken =
+      subst sets_of (sym e)
+      (got_past (is_switch a) _ _ b (got_past (is_switch a) _ _ b (got_at_switch (is_switch a) _ _ _ b switch taken)))
+
 -- what is taken -----------------------------------------------------------------------------------
 
 -- a port that may have these LIDs takes them, and keeps its state
@@ -87,6 +95,13 @@ module _ (a : Agent) (packet : List ℕ) (arrival : ℕ) (is : IsAgent a) (whole
       let b = record a { table = with_bytes (64 * n) (bytes_in attribute_data packet) a.table } in
       let has : has_block a n ≡ true = and_from _ _ (le-leb n 767 few) (lt-ltb (64 * n) a.node.cap within) in
       takes b (set_one_block a b packet arrival switch e (ap (λ t. if t then Some b else None) has))
+
+  pub takes_masks : number_in attribute_id packet ≡ multicast_forwarding_table → is_switch a ≡ true
+      → has_masks a (number_in attribute_modifier packet) ≡ true → status (after_answer a packet arrival).packet ≡ done
+  takes_masks e switch has =
+      let n = position_in (number_in attribute_modifier packet) in
+      let b = record a { masks = with_bytes (64 * n) (bytes_in attribute_data packet) a.masks } in
+      takes b (set_the_masks a b packet arrival switch e (ap (λ t. if t then Some b else None) has))
 
   pub takes_top : number_in attribute_id packet ≡ switch_info → is_switch a ≡ true
       → number_in linear_fdb_top (bytes_in attribute_data packet) < a.node.cap → status (after_answer a packet arrival).packet ≡ done

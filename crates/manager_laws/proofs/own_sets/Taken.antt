@@ -1,6 +1,7 @@
 -- The agents take the Sets of the steps that count.
-use Rattle.std.proofs.Common.{◌≡◌, ℕ, ◌<◌, ◌≤◌, true, List, refl, sym, ap, ◌∙◌, subst, arith}
-use Rattle.std.proofs.lemmas.Bool.{and_from, and_parts, cond_both, eqb-true, le-leb}
+use Rattle.std.proofs.Common.{◌≡◌, ℕ, ◌+◌, ◌*◌, ◌/◌, ◌%◌, ◌<◌, ◌≤◌, true, cond, min, List, refl, sym, ap, ◌∙◌, subst, arith}
+use Rattle.std.proofs.Math.Nat.{min-le_left, mul-div_cancel_left}
+use Rattle.std.proofs.lemmas.Bool.{and_from, and_parts, cond_both, eq-eqb, eqb-true, le-leb, lt-ltb}
 use Rattle.std.proofs.lemmas.Option.{same_Some}
 use Rattle.std.specs.Prelude.{Contains, Option, Some, None, filter, ◌==◌, ◌&&◌}
 use Rattle.fabric_model.specs.declared.cable.NodePort.{NodePort}
@@ -9,18 +10,19 @@ use Rattle.fabric_model.specs.Fabric.{Node, IsNodeAt}
 use Rattle.smp_bytes.specs.Header.{set, done, port_info, switch_info, linear_forwarding_table}
 use Rattle.smp_bytes.specs.Field.{bits_in, number_in}
 use Rattle.smp_bytes.specs.NodeType as types
-use Rattle.smp_bytes.specs.Packet.{method, status}
+use Rattle.smp_bytes.specs.Packet.{attribute_modifier, method, status}
 use Rattle.attr_codec.specs.PortInfo.{lmc as lmc_bits, port_state, range_in}
 use Rattle.attr_codec.specs.SwitchInfo.{linear_fdb_top}
 use Rattle.reply_facts.specs.Report.{Sightings, guid_port}
 use Rattle.fact_store.specs.View.{Facts, cells_of}
-use Rattle.node_agents.specs.Agent.{Agent, IsAgent, is_switch, node_of}
+use Rattle.node_agents.specs.Agent.{Agent, IsAgent, is_switch, node_of, position_count as position_count_at}
+use Rattle.node_agents.specs.MftBlock.{has_masks, position_in}
 use Rattle.node_agents.specs.Answers.{after_answer}
 use Rattle.node_agents.specs.AnswerLaws.{IsPacket}
 use Rattle.node_agents.specs.PortInfo.{are_lids_taken, max_lmc, port_meant}
 use Rattle.fabric_sim.specs.Simulation.{Simulation, agent_at, fabric_of}
 use Rattle.fabric_sim.proofs.TripShapes.{agent_there}
-use Rattle.subnet_view.specs.Reading.{switches}
+use Rattle.subnet_view.specs.Reading.{port_count_of, switches}
 use Rattle.subnet_view.proofs.Apart.{contains-from_map}
 use Rattle.subnet_view.proofs.Members.{contains_none, contains-from_filter}
 use Rattle.lid_assign.specs.Claims.{room}
@@ -31,7 +33,10 @@ use Rattle.lft_blocks.specs.Plan.{SwitchTable, plan_of, switches_of}
 use Rattle.lft_blocks.specs.Rule.{RuleValue}
 use Rattle.sweep.specs.Sweep.{Sweep}
 use Rattle.plan_steps.specs.LidSteps.{own_lid}
-use Rattle.plan_steps.specs.Phase.{Phase, phases_of}
+use Rattle.plan_steps.specs.MaskSteps.{position_count}
+use Rattle.plan_steps.specs.Phase.{Phase}
+use Rattle.plan_steps.specs.Tree.{TreePorts, planned_tree}
+use Rattle.plan_steps.proofs.Trees.{planned_among}
 use Rattle.sm_manager.specs.Writing.{phases_by}
 use Rattle.manager_laws.specs.Managing.{Managing, ManagerEvent, Begin, after_manager_event, after_manager_events}
 use Rattle.manager_laws.specs.OwnSetsTaken.{OwnSetsAreTaken}
@@ -51,12 +56,30 @@ use Rattle.manager_laws.proofs.Planned.{has_table}
 use Rattle.manager_laws.proofs.Steps.{IsOf, StepSent}
 use Rattle.manager_laws.proofs.Sweeps.{told_in}
 use Rattle.manager_laws.proofs.Swept.{accepted_facts_are_true}
-use Rattle.manager_laws.proofs.Writings.{writing_good}
+use Rattle.manager_laws.proofs.Writings.{masks_at, writing_good}
+use Rattle.manager_laws.proofs.MaskSteps.{IsMaskStep}
 use Rattle.manager_laws.proofs.WritingTaken.{IsGood, means_own_port, node_of_agent}
-use Rattle.manager_laws.proofs.own_sets.AgentTakes.{takes_block, takes_lids, takes_top}
-use Rattle.manager_laws.proofs.own_sets.Counted.{CountedStep, SetsLids, SetsTop, SetsBlock, counted_step}
+use Rattle.manager_laws.proofs.own_sets.AgentTakes.{takes_block, takes_lids, takes_masks, takes_top}
+use Rattle.manager_laws.proofs.own_sets.Counted.{CountedStep, SetsLids, SetsMasks, SetsTop, SetsBlock, counted_step}
 use Rattle.manager_laws.proofs.own_sets.KnownTables.{HasTable, table_known}
 use Rattle.manager_laws.proofs.own_sets.Rooms.{few_lids, may_have_range, one_at_zero, top_in_room}
+
+-- positions ---------------------------------------------------------------------------------------
+
+position_named : (modifier position : ℕ) → modifier ≡ 0x10000000 * position → position_in modifier ≡ position
+position_named modifier position is = ap position_in is ∙ mul-div_cancel_left position {n = 0x10000000} (omega arith)
+
+position_within : (position known ports : ℕ) → known ≡ ports → position < min (known / 16) 15 + 1 → position < ports / 16 + 1
+position_within position known ports same less =
+    let least = min-le_left (known / 16) 15 in let quotient = ap (λ n. n / 16) same in omega (arith, least, quotient, less)
+
+has_position : (a : Agent) → is_switch a ≡ true → (modifier position : ℕ) → modifier ≡ 0x10000000 * position → position < a.node.ports / 16 + 1
+    → has_masks a modifier ≡ true
+has_position a switch modifier position is less =
+    let named = position_named modifier position is in
+    let count : position_count_at a.node ≡ a.node.ports / 16 + 1 = ap (λ b. cond b (a.node.ports / 16 + 1) 0) switch in
+    and_from _ _ (lt-ltb (position_in modifier) (position_count_at a.node) (omega (arith, named, count, less)))
+    (eq-eqb (modifier % 512) 0 (ap (λ n. n % 512) is ∙ omega arith))
 
 -- one Set ------------------------------------------------------------------------------------------
 
@@ -72,7 +95,10 @@ module _ (start : Simulation) (seat : NodePort) (rule : RuleValue) (lmc : ℕ) (
         subst (Contains (switches (cells_of facts))) (ap (λ (t : SwitchTable). t.guid) made ∙ named) among
 
     module _ (x : StepSent) (good : IsGood start seat (plan_of rule lmc (cells_of facts)) x) (counts : x.counts ≡ true)
-        (kind : CountedStep (plan_of rule lmc (cells_of facts)) x.step) (at : NodePort)
+        (sweep : Sweep) (tree : List TreePorts) (kind : CountedStep (cells_of facts) sweep tree (plan_of rule lmc (cells_of facts)) x.step)
+        (masked : IsMaskStep (cells_of facts) sweep tree x.step → Contains (switches (cells_of facts)) good.node.guid
+        × (position : ℕ) × (position < position_count (cells_of facts) good.node.guid) × (x.step.modifier ≡ 0x10000000 * position))
+        (at : NodePort)
         (leads : directed_end (fabric_of start) seat x.step.path ≡ Some at)
         (a : Agent) (is : IsAgent a) (node : (n : Node) → IsNodeAt (fabric_of start) at.node n → n ≡ node_of a)
         (packet : List ℕ) (whole : IsPacket packet) (asks : AsksFor x.step packet) where
@@ -89,6 +115,7 @@ module _ (start : Simulation) (seat : NodePort) (rule : RuleValue) (lmc : ℕ) (
       record HasRoom : Type 0 where
         pub switch : is_switch a ≡ true
         pub long : room (cells_of facts) ≤ a.node.cap
+        pub ports : port_count_of (cells_of facts) good.node.guid ≡ a.node.ports
 
       table_at : Contains (switches (cells_of facts)) good.node.guid → HasRoom
       table_at among =
@@ -96,6 +123,7 @@ module _ (start : Simulation) (seat : NodePort) (rule : RuleValue) (lmc : ℕ) (
           record {
             switch = ap (λ (n : Node). types.is_switch n.kind) (sym same) ∙ t.switch;
             long = subst (λ (n : Node). room (cells_of facts) ≤ n.cap) same t.long;
+            ports = t.ports ∙ ap (λ (n : Node). n.ports) same;
           }
 
       lids_taken : x.step.attribute ≡ port_info → bits_in port_state x.step.payload ≡ 0 → status (after_answer a packet at.port).packet ≡ done
@@ -146,13 +174,23 @@ module _ (start : Simulation) (seat : NodePort) (rule : RuleValue) (lmc : ℕ) (
               takes_block a packet at.port is whole asks.method (asks.attribute ∙ e) table.switch
               (omega (arith, h, below, most, number)) (omega (arith, h, below, long, number))
 
+      masks_taken : IsMaskStep (cells_of facts) sweep tree x.step → status (after_answer a packet at.port).packet ≡ done
+      masks_taken m =
+          let (among, position, inside, modifier_is) = masked m in
+          let table = table_at among in
+          let number = asks.modifier ∙ modifier_is in
+          let within = position_within position (port_count_of (cells_of facts) good.node.guid) a.node.ports table.ports inside in
+          takes_masks a packet at.port is whole asks.method (asks.attribute ∙ m.attribute_is) table.switch
+          (has_position a table.switch (number_in attribute_modifier packet) position number within)
+
       pub set_taken : status (after_answer a packet at.port).packet ≡ done
       set_taken = by_kind kind
         where
-          by_kind : CountedStep (plan_of rule lmc (cells_of facts)) x.step → status (after_answer a packet at.port).packet ≡ done
+          by_kind : CountedStep (cells_of facts) sweep tree (plan_of rule lmc (cells_of facts)) x.step → status (after_answer a packet at.port).packet ≡ done
           by_kind (SetsLids e still) = lids_taken e still
           by_kind (SetsTop e) = top_taken e
           by_kind (SetsBlock e less) = block_taken e less
+          by_kind (SetsMasks m) = masks_taken m
 
 -- a run ---------------------------------------------------------------------------------------------
 
@@ -184,8 +222,7 @@ module _ (w : Managing) (before between after : List ManagerEvent) (writes : Wri
 
   -- a step that counts
   pub counted_taken : (x : StepSent) → x.counts ≡ true
-      → IsOf (phases_of (plan_at (at_writing w before between)) (cells_of (at_writing w before between).manager.store) sweep
-      (at_writing w before between).manager.standing.guid (at_writing w before between).manager.port) x.counts x.step
+      → IsOf (phases_by (at_writing w before between).manager (Some sweep)) x.counts x.step
       → (at : NodePort) → directed_end (fabric_of w.scene.fabric) w.seat x.step.path ≡ Some at
       → (a : Agent) → IsAgent a → ((n : Node) → IsNodeAt (fabric_of w.scene.fabric) at.node n → n ≡ node_of a)
       → (packet : List ℕ) → IsPacket packet → AsksFor x.step packet → status (after_answer a packet at.port).packet ≡ done
@@ -194,15 +231,19 @@ module _ (w : Managing) (before between after : List ManagerEvent) (writes : Wri
       let lmc = (held.swept_before w before between after writes.run).fair.side.lmc in
       let may = held.may w before between after writes.run sweep sweep_is in
       let good = writing_good w.scene.fabric w.seat m may lmc sweep (held.swept w before between after writes.run sweep sweep_is) x is in
-      let kind = counted_step sweep (cells_of m.store) (own_lid (cells_of m.store) (plan_at (at_writing w before between)).given.ports m.standing.guid m.port)
+      let tree = planned_tree m.planning (cells_of m.store) in
+      let kind = counted_step sweep (cells_of m.store) tree (own_lid (cells_of m.store) (plan_at (at_writing w before between)).given.ports m.standing.guid m.port)
       (plan_at (at_writing w before between)) x.step
-      (subst (λ b. IsOf (phases_of (plan_at (at_writing w before between)) (cells_of m.store) sweep m.standing.guid m.port) b x.step) counts is) in
-      set_taken w.scene.fabric w.seat m.planning.rule m.planning.lmc lmc m.store may.has_room known x good counts kind at leads a agent node packet whole asks
+      (subst (λ b. IsOf (phases_by m (Some sweep)) b x.step) counts is) in
+      set_taken w.scene.fabric w.seat m.planning.rule m.planning.lmc lmc m.store may.has_room known x good counts sweep tree kind
+      (λ k. let named = masks_at w.scene.fabric w.seat m may lmc sweep (held.swept w before between after writes.run sweep sweep_is) x is k.switch.guid k.path in
+      subst (λ g. Contains (switches (cells_of m.store)) g × (position : ℕ) × (position < position_count (cells_of m.store) g)
+      × (x.step.modifier ≡ 0x10000000 * position)) (sym named) (planned_among m.planning (cells_of m.store) k.switch k.among, k.position, k.there, k.modifier_is))
+      at leads a agent node packet whole asks
 
   -- so the answer to its Set says so
   pub answer_taken : (x : StepSent) → x.counts ≡ true
-      → IsOf (phases_of (plan_at (at_writing w before between)) (cells_of (at_writing w before between).manager.store) sweep
-      (at_writing w before between).manager.standing.guid (at_writing w before between).manager.port) x.counts x.step
+      → IsOf (phases_by (at_writing w before between).manager (Some sweep)) x.counts x.step
       → (answer : List ℕ) → WasAsked w.scene.fabric w.seat x answer → status answer ≡ done
   answer_taken x counts is answer asked =
       asked.status_is

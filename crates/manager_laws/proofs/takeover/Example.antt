@@ -1,6 +1,6 @@
 -- A manager that takes over: on an adapter, at a switch to which another adapter is wired, whose port says that a
 -- manager sits there, which is silent. Both adapters and the switch hold LIDs, and the switch a forwarding table.
-use Rattle.std.proofs.Common.{◌≡◌, ℕ, zero, suc, ◌+◌, ◌*◌, ◌^◌, ◌<◌, Bool, true, List, [], ◌∷◌, ◌++◌, length, map, replicate}
+use Rattle.std.proofs.Common.{◌≡◌, ℕ, zero, suc, ◌+◌, ◌*◌, ◌^◌, ◌<◌, Bool, true, List, [], ◌∷◌, ◌++◌, length, map, replicate, false}
 use Rattle.std.proofs.Common.{refl, sym, ap, ◌∙◌, subst, arith}
 use Rattle.std.proofs.Math.ListN.{get_or-map}
 use Rattle.std.proofs.lemmas.Option.{same_Some}
@@ -58,7 +58,7 @@ use Rattle.sm_state.specs.declared.conduct.Conduct.TheVariants.{Plain}
 -- the manager, and its sweep ------------------------------------------------------------------------------------
 
 abbrev pub its_planning : Planning
-its_planning = record { lmc = 0; rule = up_and_down }
+its_planning = record { lmc = 0; rule = up_and_down; multicast = false }
 
 abbrev pub beginning : Managing
 beginning = new_at 17 Plain its_planning network 0

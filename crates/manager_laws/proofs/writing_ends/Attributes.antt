@@ -1,9 +1,9 @@
 -- The steps of a plan set other attributes than SMInfo.
 use Rattle.std.proofs.Common.{◌≡◌, ◌<◌, ◌^◌, ℕ, false, List, [], ◌∷◌, ◌++◌, refl, arith}
 use Rattle.std.proofs.lemmas.Bool.{cond_both}
-use Rattle.std.specs.Prelude.{◌==◌, Option, None, Some, option_and_then, option_map}
+use Rattle.std.specs.Prelude.{◌*◌, ◌==◌, Option, None, Some, option_and_then, option_map}
 use Rattle.std.specs.Option.{option_map_or}
-use Rattle.std.specs.List.{AllByRecursion, cons_option, filter_map, flat_map}
+use Rattle.std.specs.List.{AllByRecursion, cons_option, filter_map, flat_map, range_with_len}
 use Rattle.attr_codec.specs.declared.port_state.PortState.{PortState}
 use Rattle.attr_codec.specs.declared.port_state.PortState.TheVariants.{Active, Armed}
 use Rattle.smp_bytes.specs.Header.{linear_forwarding_table, port_info, sm_info, switch_info}
@@ -11,11 +11,13 @@ use Rattle.fact_store.specs.View.{cells_of}
 use Rattle.subnet_view.specs.declared.end_port.EndPort.{EndPort}
 use Rattle.subnet_view.specs.Reading.{Cells}
 use Rattle.lid_assign.specs.Lids.{Given, lmc_of, owner_of, rising_lids, top_of}
-use Rattle.sweep.specs.Sweep.{Sweep, path_to, seen_state}
+use Rattle.sweep.specs.Sweep.{Sweep, path_to, seen_state, switch_image}
 use Rattle.plan_steps.specs.declared.step.Step.{Step}
 use Rattle.plan_steps.specs.BlockSteps.{block_step, block_steps, switch_steps, top_step, top_steps}
 use Rattle.plan_steps.specs.LidSteps.{lid_step, lid_steps, own_lid, owner_step}
+use Rattle.plan_steps.specs.MaskSteps.{clear_steps, has_table, mask_step, multicast_forwarding_table, position_count, switch_mask_steps, tree_steps}
 use Rattle.plan_steps.specs.Phase.{phases_by as phases_along}
+use Rattle.plan_steps.specs.Tree.{TreePorts, planned_tree}
 use Rattle.plan_steps.specs.Plan.{PlanValue, block_at, plan_of, switches_of}
 use Rattle.plan_steps.specs.StateSteps.{is_due, state_step, state_steps, wired_ports}
 use Rattle.plan_steps.specs.Step.{step_at}
@@ -116,15 +118,28 @@ states_other cells sweep given master state =
 
 -- plans ------------------------------------------------------------------------------------------------
 
-phases_other : (plan : PlanValue) (cells : Cells) (sweep : Sweep) (master : ℕ)
-    → AreOthers (steps_of (phases_along plan cells sweep master))
-phases_other plan cells sweep master =
+masks_other : (cells : Cells) (sweep : Sweep) (tree : List TreePorts) (ports : TreePorts → List ℕ)
+    → AreOthers (flat_map (λ x. switch_mask_steps cells sweep (ports x) x.guid) tree)
+masks_other cells sweep tree ports = all_mapped (λ x. switch_mask_steps cells sweep (ports x) x.guid) at_switch tree
+  where
+    at_switch : (x : TreePorts) → AreOthers (switch_mask_steps cells sweep (ports x) x.guid)
+    at_switch x =
+        cond_both (has_table (switch_image sweep x.guid)) _ _ AreOthers
+        (λ _. mapped (mask_step sweep x.guid (ports x))
+        (λ position. step_other sweep x.guid 0 multicast_forwarding_table (0x10000000 * position) _ refl (omega arith))
+        (range_with_len 0 (position_count cells x.guid))) (λ _. tt)
+
+phases_other : (plan : PlanValue) (tree : List TreePorts) (cells : Cells) (sweep : Sweep) (master : ℕ)
+    → AreOthers (steps_of (phases_along plan tree cells sweep master))
+phases_other plan tree cells sweep master =
     others_both (lid_steps cells sweep master plan.given) _ (lids_other cells sweep master plan.given)
+    (others_both (clear_steps cells sweep tree) _ (masks_other cells sweep tree (λ x. []))
     (others_both (block_steps sweep plan) _ (blocks_other sweep plan)
     (others_both (top_steps sweep plan) _ (tops_other sweep plan)
+    (others_both (tree_steps cells sweep tree) _ (masks_other cells sweep tree (λ x. x.ports))
     (others_both (state_steps cells sweep plan.given master Armed) _ (states_other cells sweep plan.given master Armed)
     (others_both (state_steps cells sweep plan.given master Active) []
-    (states_other cells sweep plan.given master Active) tt))))
+    (states_other cells sweep plan.given master Active) tt))))))
 
 pub plan_other : (m : Manager) → AreOthers (planned_steps m)
 plan_other m = by_sweep m.sweep
@@ -134,4 +149,4 @@ plan_other m = by_sweep m.sweep
     by_sweep (Some s) =
         let cells = cells_of m.store in
         let plan = plan_of m.planning.rule m.planning.lmc cells in
-        phases_other plan cells s (own_lid cells plan.given.ports m.standing.guid m.port)
+        phases_other plan (planned_tree m.planning cells) cells s (own_lid cells plan.given.ports m.standing.guid m.port)

@@ -11,7 +11,9 @@ use Rattle.plan_steps.specs.LidSteps.{own_lid}
 use Rattle.plan_steps.specs.Phase.{Phase}
 use Rattle.plan_steps.specs.Plan.{plan_of}
 use Rattle.plan_steps.specs.declared.step.Step.{Step}
+use Rattle.plan_steps.specs.Tree.{planned_tree}
 use Rattle.plan_steps.proofs.Bounds.{phase_bound_law}
+use Rattle.plan_steps.proofs.Trees.{planned_tree_fits}
 use Rattle.sweep.specs.Sweep.{Sweep, is_done}
 use Rattle.sm_state.specs.Standing.{is_in}
 use Rattle.sm_state.specs.declared.state.SmState.TheVariants.{Master}
@@ -92,22 +94,22 @@ long most (p ∷ phases) all =
     let both = length-append p.steps (steps_of phases) in
     omega (arith, first, rest, both)
 
-five : (most : ℕ) → most + (most + (most + (most + (most + 0)))) ≡ 5 * most
-five most = omega arith
+seven : (most : ℕ) → most + (most + (most + (most + (most + (most + (most + 0)))))) ≡ 7 * most
+seven most = omega arith
 
-pub plan_bound : (m : Manager) → writing_fault m ≡ None → length (planned_steps m) ≤ 5 * most_steps (cells_of m.store)
+pub plan_bound : (m : Manager) → writing_fault m ≡ None → length (planned_steps m) ≤ 7 * most_steps (cells_of m.store)
 plan_bound m may = by_sweep m.sweep
   where
-    by_sweep : (o : Option Sweep) → length (steps_of (phases_by m o)) ≤ 5 * most_steps (cells_of m.store)
+    by_sweep : (o : Option Sweep) → length (steps_of (phases_by m o)) ≤ 7 * most_steps (cells_of m.store)
     by_sweep None = omega arith
     by_sweep (Some s) =
         let cells = cells_of m.store in
         let most_then =
         long (most_steps cells) (phases_by m (Some s)) (phase_bound_law m.planning.rule m.planning.lmc m.store s
         (own_lid cells (plan_of m.planning.rule m.planning.lmc cells).given.ports m.standing.guid m.port)
-        (may_begin m may).has_room) in
-        let whole : room_for (most_steps cells) (phases_by m (Some s)) ≡ 5 * most_steps cells =
-        five (most_steps cells) in
+        (may_begin m may).has_room (planned_tree m.planning cells) (planned_tree_fits m.planning cells)) in
+        let whole : room_for (most_steps cells) (phases_by m (Some s)) ≡ 7 * most_steps cells =
+        seven (most_steps cells) in
         omega (arith, most_then, whole)
 
 -- what is asked -------------------------------------------------------------------------------------------------
