@@ -88,9 +88,13 @@ port_rule = record (text_rule (codes "PORT")) { parser = Some (Signed (pos 1) (p
 abbrev pub priority_rule : Rule
 priority_rule = record (text_rule (codes "PRIORITY")) { parser = Some (Signed (pos 0) (pos 15)) }
 
--- the arguments of a manager at a port, and the option for its SM_Key
+-- the option `--multicast`, with no word after it: the multicast tree is written too
+abbrev pub multicast_rule : Rule
+multicast_rule = flag_rule (codes "multicast")
+
+-- the arguments of a manager at a port, and the options for its SM_Key and for the multicast tree
 abbrev pub of_seat : List Rule
-of_seat = text_rule (codes "GUID") ∷ port_rule ∷ priority_rule ∷ option_rule (codes "sm-key") ∷ []
+of_seat = text_rule (codes "GUID") ∷ port_rule ∷ priority_rule ∷ option_rule (codes "sm-key") ∷ multicast_rule ∷ []
 
 -- the option for the time from the end of a master's sweep to its next one, from 1000 to 3600000 milliseconds
 abbrev pub every_rule : Rule

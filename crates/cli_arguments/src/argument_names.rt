@@ -42,6 +42,9 @@ pub const EVERY: &str = "every";
 /// The option for the time from one poll of a standby to its next one.
 pub const POLL: &str = "poll";
 
+/// The option for writing the multicast tree too.
+pub const MULTICAST: &str = "multicast";
+
 /// The flag that makes a manager plan only after sweeps that had every answer.
 pub const STRICT: &str = "strict";
 

@@ -2,12 +2,13 @@
 ghost use Rattle.std.specs.Prelude.{◌≡◌, codes, false};
 ghost use Rattle.clap.specs.Walk.{rule_of};
 ghost use Rattle.cli_arguments.specs.CommandLine.{all_rule, every_rule, files_rule, flag_rule, floor_rule};
-ghost use Rattle.cli_arguments.specs.CommandLine.{lmc_rule, loads_rule, max_load_rule, newest_rule, option_rule};
+ghost use Rattle.cli_arguments.specs.CommandLine.{lmc_rule, loads_rule, max_load_rule, multicast_rule};
+ghost use Rattle.cli_arguments.specs.CommandLine.{newest_rule, option_rule};
 ghost use Rattle.cli_arguments.specs.CommandLine.{outstanding_rule, poll_rule, port_rule, priority_rule};
 ghost use Rattle.cli_arguments.specs.CommandLine.{routing_rule, strict_rule, text_rule, timeout_rule, tries_rule};
 
 use crate::argument_names::{
-    ALL, EVERY, FILE, FLOOR, HELD, LANES, LAST_ORDER, LMC, LOADS, MAX_LOAD, NEWEST, ORDER,
+    ALL, EVERY, FILE, FLOOR, HELD, LANES, LAST_ORDER, LMC, LOADS, MAX_LOAD, MULTICAST, NEWEST, ORDER,
     OUTSTANDING, POLL, PORT, PRIORITY, ROOTS, ROUTING, SM_KEY, STRICT, TIMEOUT, TRIES, WAY,
 };
 use clap::{Arg, ArgAction, value_parser};
@@ -77,6 +78,18 @@ pub(crate) fn sm_key<'a>(alloc: Global) -> Arg<'a>
         SM_KEY,
         "HEX",
         "The SM_Key of the manager, 1 to 16 hex digits; 1, OpenSM's, by default",
+    )
+}
+
+/// Builds the flag for the multicast tree.
+pub(crate) fn multicast<'a>(alloc: Global) -> Arg<'a>
+    ensures rule { rule_of result ≡ multicast_rule }
+    ensures own { result.global ≡ false }
+{
+    flag(
+        alloc,
+        MULTICAST,
+        "Also writes one multicast tree, that of the LID 0xC000, with all adapters in it",
     )
 }
 

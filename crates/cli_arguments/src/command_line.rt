@@ -15,7 +15,7 @@ use crate::argument_names::{
     TABLES, TOPOLOGY, UPDOWN,
 };
 use crate::arguments::{
-    all, every, files, floor, held, lanes, last_order, lmc, loads, max_load, newest, order_file,
+    all, every, files, floor, held, lanes, last_order, lmc, loads, max_load, multicast, newest, order_file,
     outstanding, poll, port, priority, roots, routing, sm_key, strict, text, timeout, tries, way,
 };
 use crate::conflicts::{conflict, has_conflict};
@@ -301,7 +301,8 @@ fn seated<'a>(
     with_planning(alloc, routings, of_seat(alloc, command)?)
 }
 
-/// Adds the arguments of a manager at a port: GUID, port and priority, and the option for its SM_Key.
+/// Adds the arguments of a manager at a port: GUID, port and priority, and the options for its SM_Key and for the
+/// multicast tree.
 fn of_seat<'a>(alloc: Global, command: Command<'a>) -> Result<Command<'a>, AllocError>
     ensures { IfOk result (AddsRules of_seat command.entry) }
 {
@@ -309,7 +310,8 @@ fn of_seat<'a>(alloc: Global, command: Command<'a>) -> Result<Command<'a>, Alloc
         .arg(text(alloc, GUID, "The GUID of the port, 1 to 16 hex digits"))?
         .arg(port(alloc))?
         .arg(priority(alloc))?
-        .arg(sm_key(alloc))
+        .arg(sm_key(alloc))?
+        .arg(multicast(alloc))
 }
 
 /// Adds the options of a manager that decides by itself: when it does what, what limits its requests, and the newest

@@ -220,14 +220,30 @@ module _ (word : List ℕ → Option (List ℕ)) (files : Option (List (List ℕ
       let port = known (port_asked (word (codes "PORT"))) (number_there 1 254 (word (codes "PORT")) s.port_given s.port) in
       let priority = known (priority_asked (word (codes "PRIORITY"))) (number_there 0 15 (word (codes "PRIORITY")) s.priority_given s.priority) in
       let sm_key = known (sm_key_asked (word (codes "sm-key"))) (key_there (word (codes "sm-key")) s.sm_key) in (
-        record { guid = guid.0; port = port.0; priority = priority.0; sm_key = sm_key.0; lmc = by.0.0; rule = by.0.1 },
+        record {
+          guid = guid.0;
+          port = port.0;
+          priority = priority.0;
+          sm_key = sm_key.0;
+          lmc = by.0.0;
+          rule = by.0.1;
+          multicast = is_set (word (codes "multicast"));
+        },
         whole _ _ _ _ _ by.0 guid.0 port.0 priority.0 sm_key.0 by.1 guid.1 port.1 priority.1 sm_key.1,
         by.2,
       )
     where
       whole : (planned : Option (ℕ × RuleAsked)) (o p q r : Option ℕ) (by : ℕ × RuleAsked) (guid port priority sm_key : ℕ) → planned ≡ Some by
-          → o ≡ Some guid → p ≡ Some port → q ≡ Some priority → r ≡ Some sm_key → option_and_then (λ by. serving_by by o p q r) planned
-          ≡ Some (record { guid = guid; port = port; priority = priority; sm_key = sm_key; lmc = by.0; rule = by.1 })
+          → o ≡ Some guid → p ≡ Some port → q ≡ Some priority → r ≡ Some sm_key → option_and_then (λ by. serving_by (is_set (word (codes "multicast"))) by o p q r) planned
+          ≡ Some (record {
+            guid = guid;
+            port = port;
+            priority = priority;
+            sm_key = sm_key;
+            lmc = by.0;
+            rule = by.1;
+            multicast = is_set (word (codes "multicast"));
+          })
       whole planned o p q r by guid port priority sm_key e f g h k = rw (e, f, g, h, k) refl
 
   -- its inputs are named

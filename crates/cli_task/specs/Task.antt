@@ -1,5 +1,5 @@
 -- The task that the words of a command line ask for.
-use Rattle.std.specs.Prelude.{ℕ, List, Option, None, Some, codes, is_some, option_map}
+use Rattle.std.specs.Prelude.{ℕ, Bool, List, Option, None, Some, codes, is_some, option_map}
 use Rattle.std.specs.Prelude.{option_and_then, if◌then◌else◌}
 use Rattle.std.specs.Str.{bytes_eq}
 use Rattle.clap.specs.Matches.{subcommand_name_of}
@@ -34,16 +34,17 @@ step_asked word =
     option_map (λ by. record { lmc = by.0; rule = by.1; has_last = is_some (word (codes "last-order")) })
     (planning_asked word)
 
--- the manager with this GUID, port, priority and SM_Key, which plans by the LMC and the rule of `by`; None if one of
--- the four is None
-abbrev pub serving_by : ℕ × RuleAsked → Option ℕ → Option ℕ → Option ℕ → Option ℕ → Option Serving
-serving_by by guid port priority sm_key =
+-- the manager with this GUID, port, priority and SM_Key, which plans by the LMC and the rule of `by`, and writes the
+-- multicast tree if `multicast`; None if one of the four is None
+abbrev pub serving_by : Bool → ℕ × RuleAsked → Option ℕ → Option ℕ → Option ℕ → Option ℕ → Option Serving
+serving_by multicast by guid port priority sm_key =
     option_and_then (λ g. option_and_then (λ p. option_and_then (λ q. option_map
-    (λ k. record { guid = g; port = p; priority = q; sm_key = k; lmc = by.0; rule = by.1 }) sm_key) priority) port) guid
+    (λ k. record { guid = g; port = p; priority = q; sm_key = k; lmc = by.0; rule = by.1; multicast = multicast }) sm_key)
+    priority) port) guid
 
 -- the manager that is to be served; None if one of the words is missing or wrong
 abbrev pub serving_asked : (List ℕ → Option (List ℕ)) → Option Serving
-serving_asked word = option_and_then (λ by. serving_by by (guid_asked (word (codes "GUID")))
+serving_asked word = option_and_then (λ by. serving_by (is_set (word (codes "multicast"))) by (guid_asked (word (codes "GUID")))
     (port_asked (word (codes "PORT"))) (priority_asked (word (codes "PRIORITY"))) (sm_key_asked (word (codes "sm-key"))))
     (planning_asked word)
 

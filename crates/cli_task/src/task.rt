@@ -16,7 +16,7 @@ use arrayvec::ArrayVec;
 use attr_codec::Lmc;
 use clap::ArgMatches;
 use cli_arguments::argument_names::{
-    ALL, AUDIT, FACTS, FILE, GUID, HELD, JOIN, LANES, LAST_ORDER, LOADS, MANAGE, NEXT, ORDER, PLAN,
+    ALL, AUDIT, FACTS, FILE, GUID, HELD, JOIN, LANES, LAST_ORDER, LOADS, MANAGE, MULTICAST, NEXT, ORDER, PLAN,
     ROOTS, RUN, SCHEDULE, SERVE, TABLES, TOPOLOGY,
 };
 use cli_arguments::is_set;
@@ -166,6 +166,7 @@ fn serving_of(words: &ArgMatches<'_>) -> Option<Serving>
         sm_key,
         lmc,
         rule,
+        multicast: is_set(words, MULTICAST),
     })
 }
 

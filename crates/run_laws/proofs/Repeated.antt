@@ -23,5 +23,5 @@ texts_decide_output state written lmc asked olds news sink sink' topology schedu
     told.read.topology_read.at_end held in
     let other = all_taken (state told.were.schedule).left (state told.are.schedule).left told.schedule schedule told.read.schedule_read.consumed
     told.read.schedule_read.at_end held' in
-    let planning : Planning = record { lmc = lmc; rule = run.rule } in
+    let planning : Planning = record { lmc = lmc; rule = run.rule; multicast = false } in
     subst (Appends (written sink) (written sink')) (ap (λ t. run_text planning t told.schedule) one ∙ ap (run_text planning topology) other) run.printed

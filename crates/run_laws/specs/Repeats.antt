@@ -14,4 +14,4 @@ TextsDecideOutput {S} {W} state written =
     (run : HasRun state lmc asked olds news (Appends (written sink) (written sink')))
     → (state (topology_source run)).left ≡ Some topology
     → (state (schedule_source run)).left ≡ Some schedule
-    → Appends (written sink) (written sink') (run_text (record { lmc = lmc; rule = run.rule }) topology schedule)
+    → Appends (written sink) (written sink') (run_text (record { lmc = lmc; rule = run.rule; multicast = false }) topology schedule)

@@ -26,7 +26,7 @@ fn manager(alloc: Global) -> Manager {
 
 /// Returns a manager of priority 3 at port 1 of an adapter, with the port GUID 0x101 and the conduct `conduct`.
 fn manager_by(alloc: Global, conduct: Conduct) -> Manager {
-    let planning = Planning::new(Lmc::ZERO, Rule::UpDown);
+    let planning = Planning::new(Lmc::ZERO, Rule::UpDown, false);
     let info = info_in(SmState::Discovering);
     let port = PortNum::new(1);
     Manager::new(alloc, info.guid, port, info.priority, conduct, planning)

@@ -23,7 +23,7 @@ runs_text planning topology schedule layout script tells =
     sym (ap (λ r. topology_text planning r schedule) tells.topology_told.told ∙ ap (schedule_text planning layout) tells.schedule_told)
 
 module _ {S : Type 0} (state : S → SourceState) (lmc : ℕ) (asked : RuleAsked) (olds news : List S) (rule : RuleValue) (setting : Setting)
-    (inputs : AreInputs state (texts_reader state) asked olds news rule setting) (planning : Planning) (by : planning ≡ record { lmc = lmc; rule = rule })
+    (inputs : AreInputs state (texts_reader state) asked olds news rule setting) (planning : Planning) (by : planning ≡ record { lmc = lmc; rule = rule; multicast = false })
   where
     has_run : (prints : List ℕ → Type 0) → prints (script_text planning setting.topology setting.schedule) → HasRun state lmc asked olds news prints
     has_run prints p =

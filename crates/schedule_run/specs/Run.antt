@@ -183,7 +183,7 @@ pub record HasRun {S : Type 0} (state : S → SourceState) (lmc : ℕ) (asked : 
   pub rule : RuleValue
   pub setting : Setting
   pub inputs : AreInputs state (texts_reader state) asked olds news rule setting
-  pub printed : prints (run_text (record { lmc = lmc; rule = rule }) inputs.read.others_are.topology
+  pub printed : prints (run_text (record { lmc = lmc; rule = rule; multicast = false }) inputs.read.others_are.topology
       inputs.read.others_are.schedule)
 
 -- the source of the topology when the run began

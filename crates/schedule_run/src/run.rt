@@ -44,7 +44,7 @@ pub fn run_schedule<S: Source, W: Sink>(
         ⊎ (result ≡ Err Fault.Memory) ⊎ (sink.new ≡ sink.old)) }
 {
     let (rule, setting) = read_inputs(alloc, asked, &TopologyAndSchedule, inputs)?;
-    let planning = Planning::new(lmc, rule);
+    let planning = Planning::new(lmc, rule, false);
     match run_commands(alloc, &setting.topology, &setting.schedule, &planning, sink) {
         Ok(()) => Ok(()),
         Err(fault) => Err(fault_of_run(fault)),

@@ -30,7 +30,7 @@ pub record Inputs {S : Type 0} (inputs : List S) : Type 0 where
 -- the manager that is asked for, with the live conduct, before its first line
 abbrev pub manager_asked : Serving → RuleValue → Manager
 manager_asked asked rule =
-    new_manager asked.guid asked.port asked.priority (Live asked.sm_key) (record { lmc = asked.lmc; rule = rule })
+    new_manager asked.guid asked.port asked.priority (Live asked.sm_key) (record { lmc = asked.lmc; rule = rule; multicast = asked.multicast })
 
 -- the text that the rule takes was read, if the rule takes one. `holds` relates the source of the lines, before and
 -- after, and the manager that is asked for, which is served as `seating` says

@@ -45,7 +45,7 @@ pub fn run_serve<S: Source, W: Sink>(
     let first = asked.rule.texts();
     let (texts, lines) = inputs.split_at_mut(first);
     let (rule, _none) = read_inputs(alloc, asked.rule, &NoFiles, texts)?;
-    let planning = Planning::new(asked.lmc, rule);
+    let planning = Planning::new(asked.lmc, rule, asked.multicast);
     let conduct = Conduct::Live(asked.sm_key);
     let manager = Manager::new(
         alloc,

@@ -16,4 +16,6 @@ pub struct Serving {
     /// The LMC of the manager's plans: a plan has 2^LMC LIDs for each adapter port.
     pub lmc: Lmc,
     pub rule: RuleAsked,
+    /// Whether the manager also writes the multicast tree.
+    pub multicast: bool,
 }

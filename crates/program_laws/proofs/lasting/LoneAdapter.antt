@@ -48,7 +48,7 @@ abbrev pub limits : Limits
 limits = record { outstanding = 1; tries = 1; timeout = 1 }
 
 abbrev pub alone : Planning
-alone = record { lmc = 0; rule = up_and_down }
+alone = record { lmc = 0; rule = up_and_down; multicast = false }
 
 abbrev pub first : Acting
 first = new_acting (new_manager 17 1 0 Plain alone) timing limits 0
