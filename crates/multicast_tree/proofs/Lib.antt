@@ -1,0 +1,3 @@
+pub mod Below
+pub mod Sides
+pub mod Forests
