@@ -117,6 +117,18 @@ module _ (by : Copying) where
           ])
         ]
 
+    -- no copy comes to the port from which the packet came
+    pub none_back : (at : ℕ × ℕ) (p : ℕ) (ps : List ℕ) (end : ℕ × ℕ) → by.across at.0 at.1 ≡ Some end → CopyGoes by at (p ∷ ps) end → ⊥
+    none_back at p ps end a (far, i, c) =
+        elim (left_or_side at p far ps end i c) [
+          | inl e ↦
+              let k = one_wire at.0 p at.0 at.1 end (subst (λ (f : ℕ × ℕ). by.across at.0 p ≡ Some f) e i.wire) a in
+              i.not_back (ap (λ (r : ℕ × ℕ). r.1) k)
+          | inr (m, q, w, s) ↦
+              let k = one_wire m q at.0 at.1 end w a in
+              not_itself by parent place t at.0 p (subst (λ (x : ℕ). Side by parent place at.0 p x) (ap (λ (r : ℕ × ℕ). r.0) k) s)
+        ]
+
     once : (at end : ℕ × ℕ) (ports others : List ℕ) → CopyGoes by at ports end → CopyGoes by at others end → ports ≡ others
     once at end [] [] c d = refl
     once at end [] (p ∷ ps) c d = absurd (never_back at p ps (subst (λ (f : ℕ × ℕ). CopyGoes by at (p ∷ ps) f) (sym c) d))
@@ -183,13 +195,16 @@ each_port_once by parent place t at end ports others c d = once by parent place 
 pub up_then_down : UpThenDown
 up_then_down by parent place t at end ports c = goes_up_then_down by parent place t at ports end c
 
-leaves_switch : (by : Copying) (at : ℕ × ℕ) (ports : List ℕ) (end : ℕ × ℕ) (m : ℕ) → CopyGoes by at ports end → Leaves by at ports m → by.is_switch m ≡ true
+-- a switch that a copy leaves has a port in the group
+leaves_switch : (by : Copying) (at : ℕ × ℕ) (ports : List ℕ) (end : ℕ × ℕ) (m : ℕ) → CopyGoes by at ports end → Leaves by at ports m
+    → (p : ℕ) × (by.is_switch m ≡ true) × (by.group m p ≡ true)
 leaves_switch by at [] end m c v = absurd v
-leaves_switch by at (p ∷ ps) end m (far, i, c) (inl e) = subst (λ (x : ℕ). by.is_switch x ≡ true) e i.at_switch
+leaves_switch by at (p ∷ ps) end m (far, i, c) (inl e) =
+    (p, subst (λ (x : ℕ). by.is_switch x ≡ true) e i.at_switch, subst (λ (x : ℕ). by.group x p ≡ true) e i.in_group)
 leaves_switch by at (p ∷ ps) end m (far, i, c) (inr (far', w, v)) =
     let k : far' ≡ far = same_Some far' far (sym w ∙ i.wire) in
     leaves_switch by far ps end m c (subst (λ (f : ℕ × ℕ). Leaves by f ps m) k v)
 
 pub few_switches_passed : FewSwitchesPassed
 few_switches_passed by parent place t switches all at end ports c =
-    few by parent place t at ports end switches c (λ m v. all m (leaves_switch by at ports end m c v))
+    few by parent place t at ports end switches c (λ m v. let l = leaves_switch by at ports end m c v in all m l.0 l.1 l.2)

@@ -1,3 +1,5 @@
 pub mod Below
 pub mod Sides
 pub mod Forests
+pub mod Reached
+pub mod Trees

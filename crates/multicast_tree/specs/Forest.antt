@@ -19,10 +19,11 @@ EachPortOnce = (by : Copying) (parent : ℕ → Option ℕ) (place : ℕ → ℕ
     → (at end : ℕ × ℕ) (ports others : List ℕ) → CopyGoes by at ports end → CopyGoes by at others end
     → ports ≡ others
 
--- if a group is within a forest, a copy passes at most as many switches as a list has that contains each switch
+-- if a group is within a forest, a copy passes at most as many switches as a list has that contains each switch with
+-- a port in the group
 abbrev pub FewSwitchesPassed : Type 0
 FewSwitchesPassed = (by : Copying) (parent : ℕ → Option ℕ) (place : ℕ → ℕ) → IsWithinForest by parent place
-    → (switches : List ℕ) → ((g : ℕ) → by.is_switch g ≡ true → Contains switches g)
+    → (switches : List ℕ) → ((g p : ℕ) → by.is_switch g ≡ true → by.group g p ≡ true → Contains switches g)
     → (at end : ℕ × ℕ) (ports : List ℕ) → CopyGoes by at ports end → length ports ≤ length switches
 
 -- if a group is within a forest, each copy goes up and then down by `place`
