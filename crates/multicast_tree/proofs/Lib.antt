@@ -3,3 +3,4 @@ pub mod Sides
 pub mod Forests
 pub mod Reached
 pub mod Trees
+pub mod ParentPorts

@@ -1,23 +1,26 @@
 -- The tree of an order is a forest.
-use Rattle.std.proofs.Common.{◌≡◌, ◌<◌, ℕ, List, [], ◌∷◌, ◌⊎◌, inl, inr, refl, sym, ap, ◌∙◌, subst, arith, Bool, true, false, cond, ◌||◌, Option}
-use Rattle.std.proofs.lemmas.Option.{same_Some, cond_some, option_and_then_some}
-use Rattle.std.proofs.lemmas.Bool.{eqb-true}
+use Rattle.std.proofs.Common.{◌≡◌, ◌<◌, ℕ, List, [], ◌∷◌, ◌⊎◌, inl, inr, refl, sym, ap, ◌∙◌, subst, arith, Bool, true, false, cond, ◌||◌, not, Option}
+use Rattle.std.proofs.lemmas.Option.{same_Some}
+use Rattle.std.proofs.lemmas.Bool.{and_parts, eqb-true}
 use Rattle.std.proofs.lemmas.Bool.Decides.{nat_tests}
-use Rattle.std.specs.Prelude.{Some, None, Contains, nat_lt, option_and_then}
+use Rattle.std.specs.Prelude.{Some, None, Contains, nat_lt}
 use Rattle.std.specs.Option.{option_or}
 use Rattle.std.specs.List.{range_with_len}
 use Rattle.fact_store.specs.View.{cells_of}
 use Rattle.smp_bytes.proofs.Members.{contains_here, contains_later, contains_cases, contains_none, contains-from_filter}
 use Rattle.port_graph.specs.declared.edge.Edge.{Edge}
 use Rattle.port_graph.proofs.Lists.{contains_map}
-use Rattle.subnet_view.specs.Reading.{Cells, is_switch_node, port_count_of, switches}
+use Rattle.subnet_view.specs.Reading.{Cells, is_switch_node, is_usable, port_count_of, switches}
 use Rattle.subnet_view.specs.Wires.{across, attached}
 use Rattle.subnet_view.specs.Graph.{edges_at, graph_of}
-use Rattle.subnet_view.proofs.Graphs.{edge_is_wire}
+use Rattle.subnet_view.proofs.Graphs.{edge_is_wire, edge_to_usable}
+use Rattle.subnet_view.proofs.Attachments.{attached_law}
+use Rattle.subnet_view.proofs.UsableSwitches.{usable_law}
+use Rattle.subnet_view.proofs.WireLaws.{wire_law}
 use Rattle.subnet_view.proofs.WireEnds.{wires_go_both_ways}
 use Rattle.multicast_tree.specs.Copies.{CopyGoes}
 use Rattle.multicast_tree.specs.Forest.{IsWithinForest}
-use Rattle.multicast_tree.specs.Tree.{first_before, parent_port, is_given, is_below, is_tree_port, tree_ports, tree_by, tree_in, place_in, copying_in, InTree, TreePorts}
+use Rattle.multicast_tree.specs.Tree.{first_before, parent_port, is_given, is_below, is_tree_port, tree_at, tree_ports, tree_by, tree_in, place_in, copying_in, InTree, TreePorts}
 use Rattle.multicast_tree.specs.TreeLaws.{IsWithin, NoPortTwice, NoLongWay, NoUpAfterDown, NoneToTheSender}
 use Rattle.multicast_tree.proofs.Forests.{each_port_once, few_switches_passed, none_back, up_then_down}
 
@@ -74,7 +77,7 @@ module _ (cells : Cells) (place : ℕ → ℕ) where
     pub parent : ℕ
     pub port : ℕ
     pub wire : across cells g p ≡ Some (parent, port)
-    pub is_switch : is_switch_node cells parent ≡ true
+    pub is_switch : is_usable cells parent ≡ true
     pub before : place parent < place g
 
   pub parent_up : (g p : ℕ) → parent_port (graph_of cells) place g ≡ Some p → IsUp g p
@@ -85,7 +88,7 @@ module _ (cells : Cells) (place : ℕ → ℕ) where
         parent = i.edge.to;
         port = e.end_port;
         wire = subst (λ (x : ℕ). across cells g x ≡ Some (i.edge.to, e.end_port)) i.same e.wire;
-        is_switch = e.is_switch;
+        is_switch = edge_to_usable cells g i.edge.port i.edge.to e;
         before = i.before;
       }
 
@@ -97,7 +100,7 @@ module _ (cells : Cells) (place : ℕ → ℕ) where
 
   -- a port of the tree leads up or down, where it leads to a switch
   pub up_or_down : (g p h q : ℕ) → is_tree_port cells (parent_port (graph_of cells) place) g p ≡ true → across cells g p ≡ Some (h, q)
-      → is_switch_node cells h ≡ true → (parent_port (graph_of cells) place g ≡ Some p) ⊎ (parent_port (graph_of cells) place h ≡ Some q)
+      → is_usable cells h ≡ true → (parent_port (graph_of cells) place g ≡ Some p) ⊎ (parent_port (graph_of cells) place h ≡ Some q)
   up_or_down g p h q is w s =
       let parent = parent_port (graph_of cells) place in
       elim (is_given (parent g) p) as (λ t. is_given (parent g) p ≡ t → (t || is_below cells parent (across cells g p)) ≡ true
@@ -105,12 +108,12 @@ module _ (cells : Cells) (place : ℕ → ℕ) where
         | true ↦ λ e k. inl (given_is (parent g) p e)
         | false ↦ λ e k. inr
             (given_is (parent h) q
-            (sym (ap (λ t. cond t (is_given (parent h) q) true) s) ∙ sym (ap (is_below cells parent) w) ∙ k))
+            (sym (ap (λ t. not t || is_given (parent h) q) s) ∙ sym (ap (is_below cells parent) w) ∙ k))
       ] refl is
 
   pub in_tree : (parent : ℕ → Option ℕ) (g p : ℕ) → InTree (tree_by cells parent) g p → is_tree_port cells parent g p ≡ true
   in_tree parent g p (ports, h, there) =
-      let x = contains_map (λ (g : ℕ). record { guid = g; ports = tree_ports cells parent g }) (switches cells) (record { guid = g; ports = ports }) h in
+      let x = contains_map (tree_at cells parent) (switches cells) (record { guid = g; ports = ports }) h in
       let same_guid : x.0 ≡ g = ap (λ (t : TreePorts). t.guid) x.2 in
       let same_ports : tree_ports cells parent x.0 ≡ ports = ap (λ (t : TreePorts). t.ports) x.2 in
       let kept = contains-from_filter (is_tree_port cells parent x.0) (range_with_len 1 (port_count_of cells x.0)) p (subst (λ (ps : List ℕ). Contains ps p) (sym same_ports) there) in
@@ -118,7 +121,7 @@ module _ (cells : Cells) (place : ℕ → ℕ) where
 
   pub tree_switch : (parent : ℕ → Option ℕ) (g p : ℕ) → InTree (tree_by cells parent) g p → Contains (switches cells) g
   tree_switch parent g p (ports, h, there) =
-      let x = contains_map (λ (g : ℕ). record { guid = g; ports = tree_ports cells parent g }) (switches cells) (record { guid = g; ports = ports }) h in
+      let x = contains_map (tree_at cells parent) (switches cells) (record { guid = g; ports = ports }) h in
       subst (λ (y : ℕ). Contains (switches cells) y) (ap (λ (t : TreePorts). t.guid) x.2) x.1
 
   pub tree_is_forest : (group : ℕ → ℕ → Bool) → IsWithin (tree_by cells (parent_port (graph_of cells) place)) group
@@ -150,30 +153,31 @@ no_long_way facts positions group within at end ports c =
     few_switches_passed (copying_in cells group) parent place (tree_is_forest cells place group within) (switches cells)
     (λ g p s h. tree_switch cells place parent g p (within g p h)) at end ports c
 
--- a port to which an adapter is attached has a wire to it, and its node is a switch
+-- a port to which an adapter is attached has a wire to it, and its node is a usable switch
 pub record IsSender (cells : Cells) (a : ℕ × ℕ) (s : ℕ × ℕ) : Type 0 where
-  pub not_a_switch : is_switch_node cells a.0 ≡ false
-  pub at_switch : is_switch_node cells s.0 ≡ true
+  pub not_a_switch : is_usable cells a.0 ≡ false
+  pub at_switch : is_usable cells s.0 ≡ true
   pub wire : across cells s.0 s.1 ≡ Some a
 
 pub attached_is : (cells : Cells) (a s : ℕ × ℕ) → attached cells a.0 a.1 ≡ Some s → IsSender cells a s
 attached_is cells a s h =
-    elim (is_switch_node cells a.0) as (λ t. is_switch_node cells a.0 ≡ t
-    → cond t None (option_and_then (λ q. cond (is_switch_node cells q.0) (Some q) None) (across cells a.0 a.1)) ≡ Some s → IsSender cells a s) [
-      | true ↦ λ e k. absurd (cc)
-      | false ↦ λ e k.
-          option_and_then_some (λ (q : ℕ × ℕ). cond (is_switch_node cells q.0) (Some q) None) (across cells a.0 a.1) s k
-          (λ q w j. let c = cond_some {A = ℕ × ℕ} (is_switch_node cells q.0) q s j in
-          record {
-            not_a_switch = e;
-            at_switch = subst (λ (x : ℕ × ℕ). is_switch_node cells x.0 ≡ true) c.1 c.0;
-            wire = wires_go_both_ways cells a.0 a.1 s.0 s.1 (w ∙ ap Some c.1);
-          })
-    ] refl h
+    let i = (attached_law cells a.0 a.1 s.0 s.1).0 h in
+    record {
+      not_a_switch = not_usable i.not_a_switch;
+      at_switch = (usable_law cells s.0).1 i.to_switch;
+      wire = wires_go_both_ways cells a.0 a.1 s.0 s.1 ((wire_law cells a.0 a.1 s.0 s.1).1 i.wire);
+    }
+  where
+    not_usable : is_switch_node cells a.0 ≡ false → is_usable cells a.0 ≡ false
+    not_usable e =
+        elim (is_usable cells a.0) as (λ t. is_usable cells a.0 ≡ t → t ≡ false) [
+          | true ↦ λ u. absurd (cc (e, (and_parts (is_switch_node cells a.0) _ u).0))
+          | false ↦ λ u. refl
+        ] refl
 
 none_to_sender : (cells : Cells) (positions : List ℕ) (group : ℕ → ℕ → Bool) → IsWithin (tree_in cells positions) group → (sender at : ℕ × ℕ) (ports : List ℕ)
     → IsSender cells sender at → CopyGoes (copying_in cells group) at ports sender → ⊥
-none_to_sender cells positions group within sender at [] i c = absurd (cc (i.not_a_switch, i.at_switch, ap (λ (x : ℕ × ℕ). is_switch_node cells x.0) c))
+none_to_sender cells positions group within sender at [] i c = absurd (cc (i.not_a_switch, i.at_switch, ap (λ (x : ℕ × ℕ). is_usable cells x.0) c))
 none_to_sender cells positions group within sender at (p ∷ ps) i c =
     let place = place_in (switches cells) positions in
     none_back (copying_in cells group) (parent_port (graph_of cells) place) place (tree_is_forest cells place group within) at p ps sender i.wire c

@@ -1,11 +1,12 @@
 -- The tree of an order of switches. The parent of a switch is the first of its neighbors before it in the order. The
 -- tree has the wires between switches and their parents, and the wires of adapters.
-use Rattle.std.specs.Prelude.{ℕ, Bool, true, false, List, [], ◌∷◌, map, filter, Contains, Option, None, Some, ◌==◌, ◌||◌, nat_lt, slice_index, slice_index_or, if◌then◌else◌}
+use Rattle.std.specs.Prelude.{ℕ, Bool, false, List, [], ◌∷◌, map, filter, Contains, Option, None, Some, ◌==◌, ◌||◌, not, nat_lt}
+use Rattle.std.specs.Prelude.{slice_index, slice_index_or, if◌then◌else◌}
 use Rattle.std.specs.Option.{option_map_or, option_or}
 use Rattle.std.specs.List.{range_with_len}
 use Rattle.port_graph.specs.declared.edge.Edge.{Edge}
 use Rattle.spread_labels.specs.Orders.{position_of}
-use Rattle.subnet_view.specs.Reading.{Cells, is_switch_node, port_count_of, switches}
+use Rattle.subnet_view.specs.Reading.{Cells, is_usable, port_count_of, switches}
 use Rattle.subnet_view.specs.Wires.{across}
 use Rattle.subnet_view.specs.SwitchEdges.{SwitchEdges}
 use Rattle.subnet_view.specs.Graph.{edges_at, graph_of}
@@ -33,7 +34,8 @@ is_given port p = option_map_or (λ q. q == p) port false
 -- whether the far end of a wire from a switch is the port of a switch to its parent, given these ports, or a port of an
 -- adapter; false if there is no wire
 abbrev pub is_below : Cells → (ℕ → Option ℕ) → Option (ℕ × ℕ) → Bool
-is_below cells parent far = option_map_or (λ q. if is_switch_node cells q.0 then is_given (parent q.0) q.1 else true) far false
+is_below cells parent far =
+    option_map_or (λ q. not (is_usable cells q.0) || is_given (parent q.0) q.1) far false
 
 -- whether port `p` of switch `g` is in the tree, given the port of each switch to its parent. It is if it leads to the
 -- parent of `g`, to a switch whose parent is `g` by this wire, or to an adapter
@@ -49,9 +51,13 @@ pub record TreePorts : Type 0 where
   pub guid : ℕ
   pub ports : List ℕ
 
+-- switch `g` with its ports in the tree, given the port of each switch to its parent
+abbrev pub tree_at : Cells → (ℕ → Option ℕ) → ℕ → TreePorts
+tree_at cells parent g = record { guid = g; ports = tree_ports cells parent g }
+
 -- the tree: the ports of each usable switch, in ascending order of GUID, given the port of each switch to its parent
 abbrev pub tree_by : Cells → (ℕ → Option ℕ) → List TreePorts
-tree_by cells parent = map (λ g. record { guid = g; ports = tree_ports cells parent g }) (switches cells)
+tree_by cells parent = map (tree_at cells parent) (switches cells)
 
 -- the position of switch `g`, given the positions of `guids`; 0 if `guids` does not have `g`
 abbrev pub place_in : List ℕ → List ℕ → ℕ → ℕ
@@ -71,7 +77,7 @@ tree_of rule cells = tree_in cells (positions_by rule cells)
 
 -- how the packets of a group are copied on the wires of a view
 abbrev pub copying_in : Cells → (ℕ → ℕ → Bool) → Copying
-copying_in cells group = record { across = across cells; is_switch = is_switch_node cells; group = group }
+copying_in cells group = record { across = across cells; is_switch = is_usable cells; group = group }
 
 -- port `p` of switch `g` is in the tree
 abbrev pub InTree : List TreePorts → ℕ → ℕ → Type 0

@@ -2,3 +2,7 @@
 #![tactic(auto)]
 
 pub mod laws;
+mod parents;
+mod tree;
+
+pub use tree::{SwitchPorts, plan_tree, tree_in};
