@@ -4,3 +4,5 @@ pub mod Forests
 pub mod Reached
 pub mod Trees
 pub mod ParentPorts
+pub mod Ordered
+pub mod Whole

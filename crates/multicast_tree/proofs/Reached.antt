@@ -70,7 +70,7 @@ module _ (by : Copying) where
     up_there : (x px v : ℕ) → parent x ≡ Some px → place v < place x → Side by parent place x px v
     up_there x px v e l = inl (e, λ b. let r = below_place by parent place w v x b in omega arith)
 
-    reach : (n y r u pu : ℕ) (end : ℕ × ℕ) → place y + place u < n → Joined y u → by.is_switch y ≡ true → by.is_switch u ≡ true → by.group u pu ≡ true
+    pub reach : (n y r u pu : ℕ) (end : ℕ × ℕ) → place y + place u < n → Joined y u → by.is_switch y ≡ true → by.is_switch u ≡ true → by.group u pu ≡ true
         → by.across u pu ≡ Some end → (Side by parent place y r u → ⊥) → (Side by parent place u pu y → ⊥) → (y ≡ u → pu ≢ r)
         → (ports : List ℕ) × CopyGoes by (y, r) ports end
     reach zero y r u pu end l j sy su g a n1 n2 n3 = absurd (omega arith)
@@ -129,7 +129,7 @@ module _ (by : Copying) where
         ]
 
     -- a port that leads to no switch has nothing on its side
-    no_side : (s p m : ℕ) (far : ℕ × ℕ) → by.is_switch s ≡ true → by.across s p ≡ Some far → by.is_switch far.0 ≡ false → (parent far.0 ≡ Some far.1 → ⊥) → Side by parent place s p m → ⊥
+    pub no_side : (s p m : ℕ) (far : ℕ × ℕ) → by.is_switch s ≡ true → by.across s p ≡ Some far → by.is_switch far.0 ≡ false → (parent far.0 ≡ Some far.1 → ⊥) → Side by parent place s p m → ⊥
     no_side s p m far ss wire leaf no_parent (inl (e, _)) = absurd (cc (t.to_switch s p far.0 far.1 e wire))
     no_side s p m far ss wire leaf no_parent (inr (c, q, w', e, b)) =
         let k : ◌≡◌ {A = ℕ × ℕ} (c, q) far = same_Some (c, q) far (sym w' ∙ wire) in

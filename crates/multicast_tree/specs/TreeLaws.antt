@@ -1,11 +1,14 @@
 -- The laws of the tree in the order of a plan: each port gets at most one copy of a packet, if all masks are within the
 -- tree; and each adapter in the component of the sender gets one, if the masks are the tree.
-use Rattle.std.specs.Prelude.{◌≡◌, ◌≤◌, ◌↔◌, true, ℕ, Bool, List, length, Some}
+use Rattle.std.specs.Prelude.{◌≡◌, ◌≢◌, ◌≤◌, ◌↔◌, true, ℕ, Bool, List, length, Some}
 use Rattle.fact_store.specs.View.{Facts, cells_of}
+use Rattle.port_graph.specs.Walks.{Walk}
 use Rattle.subnet_view.specs.Reading.{switches}
 use Rattle.subnet_view.specs.Wires.{attached}
+use Rattle.subnet_view.specs.Graph.{graph_of, neighbors}
+use Rattle.lft_blocks.specs.Rule.{RuleValue}
 use Rattle.multicast_tree.specs.Copies.{CopyGoes, GoesUpThenDown}
-use Rattle.multicast_tree.specs.Tree.{InTree, TreePorts, copying_in, place_in, tree_in}
+use Rattle.multicast_tree.specs.Tree.{InTree, TreePorts, copying_in, place_in, tree_in, tree_of}
 
 -- each port that the masks of a group have is in the tree
 abbrev pub IsWithin : List TreePorts → (ℕ → ℕ → Bool) → Type 0
@@ -44,3 +47,13 @@ NoneToTheSender = (facts : Facts) (positions : List ℕ) (group : ℕ → ℕ �
     → IsWithin (tree_in (cells_of facts) positions) group → (sender at : ℕ × ℕ) (ports : List ℕ)
     → attached (cells_of facts) sender.0 sender.1 ≡ Some at
     → CopyGoes (copying_in (cells_of facts) group) at ports sender → ⊥
+
+-- if the masks of a group have exactly the ports of the tree of a rule, a copy of what an adapter port sends comes to
+-- each other adapter port that is attached to a usable switch in the sender's component
+abbrev pub EachGetsACopy : Type 0
+EachGetsACopy = (rule : RuleValue) (facts : Facts) (group : ℕ → ℕ → Bool) → IsWhole (tree_of rule (cells_of facts)) group
+    → (sender receiver at there : ℕ × ℕ) (n : ℕ) → sender ≢ receiver
+    → attached (cells_of facts) sender.0 sender.1 ≡ Some at
+    → attached (cells_of facts) receiver.0 receiver.1 ≡ Some there
+    → Walk (neighbors (graph_of (cells_of facts))) at.0 there.0 n
+    → (ports : List ℕ) × CopyGoes (copying_in (cells_of facts) group) at ports receiver

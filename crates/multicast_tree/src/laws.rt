@@ -1,6 +1,6 @@
 //! The laws of the tree, and of the copies of multicast packets.
 ghost use Rattle.multicast_tree.specs.Forest.{EachPortOnce, FewSwitchesPassed, UpThenDown};
-ghost use Rattle.multicast_tree.specs.TreeLaws.{NoLongWay, NoPortTwice, NoUpAfterDown, NoneToTheSender};
+ghost use Rattle.multicast_tree.specs.TreeLaws.{EachGetsACopy, NoLongWay, NoPortTwice, NoUpAfterDown, NoneToTheSender};
 
 /// If the masks of a group are within a forest (`IsWithinForest`), no two copies of one packet arrive at the same port.
 pub fn each_port_gets_one_copy()
@@ -38,4 +38,10 @@ pub fn no_copy_goes_up_after_down()
 /// If the masks of a group are within the tree, no copy of a packet comes back to the adapter that sent it.
 pub fn the_sender_gets_no_copy()
     ensures { NoneToTheSender }
+{}
+
+/// If the masks of a group are the tree of a rule, a copy of what an adapter port sends comes to each other adapter port
+/// in its component.
+pub fn each_adapter_gets_a_copy()
+    ensures { EachGetsACopy }
 {}
