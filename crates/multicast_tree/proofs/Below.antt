@@ -5,7 +5,7 @@ use Rattle.std.specs.Prelude.{Some}
 use Rattle.multicast_tree.specs.Copies.{Copying}
 use Rattle.multicast_tree.specs.Forest.{IsWithinForest}
 
-module _ (by : Copying) (parent : ℕ → Option ℕ) (place : ℕ → ℕ) where
+module _ (by : Copying) (parent : ℕ → Option ℕ) (position : ℕ → ℕ) where
   -- the `n`-th parent of `x` is `v`
   abbrev pub Climbs : ℕ → ℕ → ℕ → Type 0
   Climbs zero x v = x ≡ v
@@ -22,13 +22,13 @@ module _ (by : Copying) (parent : ℕ → Option ℕ) (place : ℕ → ℕ) wher
   pub below_trans : (x v w : ℕ) → Below x v → Below v w → Below x w
   below_trans x v w (n, c) (m, d) = joined n m x v w c d
 
-  module _ (t : IsWithinForest by parent place) where
-    pub climbs_place : (n x v : ℕ) → Climbs n x v → place v + n ≤ place x
-    climbs_place zero x v e = let k = ap place e in omega arith
-    climbs_place (suc n) x v (p, h, q, ep, eq, c) = let i = climbs_place n h v c in let l = t.rises x p h q ep eq in omega arith
+  module _ (t : IsWithinForest by parent position) where
+    pub climbs_position : (n x v : ℕ) → Climbs n x v → position v + n ≤ position x
+    climbs_position zero x v e = let k = ap position e in omega arith
+    climbs_position (suc n) x v (p, h, q, ep, eq, c) = let i = climbs_position n h v c in let l = t.rises x p h q ep eq in omega arith
 
-    pub below_place : (x v : ℕ) → Below x v → place v ≤ place x
-    below_place x v (n, c) = let l = climbs_place n x v c in omega arith
+    pub below_position : (x v : ℕ) → Below x v → position v ≤ position x
+    below_position x v (n, c) = let l = climbs_position n x v c in omega arith
 
   -- two steps up from one switch lead by one port to one port
   pub one_parent : (x p h q p' h' q' : ℕ) → parent x ≡ Some p → by.across x p ≡ Some (h, q) → parent x ≡ Some p' → by.across x p' ≡ Some (h', q')

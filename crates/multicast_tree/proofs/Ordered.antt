@@ -34,13 +34,13 @@ use Rattle.spread_routes.proofs.Names.{grows, is_grown_graph, is_named, position
 use Rattle.spread_routes.proofs.OrderLaws.{below, same_number}
 use Rattle.lft_blocks.specs.Rule.{RuleValue, order_of, spread_in, up_and_down}
 use Rattle.plan_order.specs.PlanOrder.{positions_by, rank_position}
-use Rattle.multicast_tree.specs.Tree.{place_in}
+use Rattle.multicast_tree.specs.Tree.{position_in}
 
--- places tell switches apart, and a switch from which a walk leads to an earlier one has an earlier neighbor
-pub record AreOrdered (graph : List SwitchEdges) (place : ℕ → ℕ) : Type 0 where
-  pub apart : (g h : ℕ) → IsSwitch graph g → IsSwitch graph h → place g ≡ place h → g ≡ h
-  pub earlier : (g v n : ℕ) → IsSwitch graph g → IsSwitch graph v → Walk (neighbors graph) g v n → place v < place g
-      → (e : Edge) × Contains (edges_at graph g) e × (place e.to < place g)
+-- positions tell switches apart, and a switch from which a walk leads to an earlier one has an earlier neighbor
+pub record AreOrdered (graph : List SwitchEdges) (position_by : ℕ → ℕ) : Type 0 where
+  pub apart : (g h : ℕ) → IsSwitch graph g → IsSwitch graph h → position_by g ≡ position_by h → g ≡ h
+  pub earlier : (g v n : ℕ) → IsSwitch graph g → IsSwitch graph v → Walk (neighbors graph) g v n → position_by v < position_by g
+      → (e : Edge) × Contains (edges_at graph g) e × (position_by e.to < position_by g)
 
 -- by rank ---------------------------------------------------------------------------------
 module _ (graph : List SwitchEdges) (good : IsGraph graph) where
@@ -145,16 +145,16 @@ module _ (graph : List SwitchEdges) (keys : List VertexKey) (good : IsGraph grap
         earlier = grown_earlier;
       }
 
-  -- the place in the list of the switches' GUIDs is the position
-  pub place_named : (g : ℕ) → IsSwitch graph g → position_of (switches_by_keys graph keys) g ≡ position graph keys g
-  place_named g hg =
+  -- the position_by in the list of the switches' GUIDs is the position
+  pub position_named : (g : ℕ) → IsSwitch graph g → position_of (switches_by_keys graph keys) g ≡ position graph keys g
+  position_named g hg =
       let i = position_of (guids_of graph) g in
       let at = switch_of_index graph good g hg in
       ap (position_of (switches_by_keys graph keys)) (sym at)
       ∙ same_number graph keys good (order_by_keys graph keys) i (below graph keys good) (omega (arith, index_within graph good g hg, as_many graph good))
 
 -- by a rule -----------------------------------------------------------------------------------
--- places that are equal at each switch are ordered alike
+-- positions that are equal at each switch are ordered alike
 ordered_alike : (graph : List SwitchEdges) (one other : ℕ → ℕ) → IsGraph graph → ((g : ℕ) → IsSwitch graph g → other g ≡ one g) → AreOrdered graph one
     → AreOrdered graph other
 ordered_alike graph one other good same o =
@@ -166,8 +166,8 @@ ordered_alike graph one other good same o =
           (e.0, e.1, (let a = same g hg in let b = same e.0.to to in let less = e.2 in omega arith));
     }
 
-place_value : (f : ℕ → ℕ) (guids : List ℕ) (g : ℕ) → Contains guids g → place_in guids (map f guids) g ≡ f g
-place_value f guids g h =
+position_value : (f : ℕ → ℕ) (guids : List ℕ) (g : ℕ) → Contains guids g → position_in guids (map f guids) g ≡ f g
+position_value f guids g h =
     let p = position_less guids g h in
     get_or-map f guids (position_of guids g) 0 0 p.0 ∙ ap f p.1
 
@@ -176,19 +176,19 @@ in_order_is : (graph : List SwitchEdges) (adapters : List ℕ) (order : OrderVal
 unfolding switches_in_order
 in_order_is graph adapters order = refl
 
-pub rules_order : (rule : RuleValue) (facts : Facts) → AreOrdered (graph_of (cells_of facts)) (place_in (switches (cells_of facts)) (positions_by rule (cells_of facts)))
+pub rules_order : (rule : RuleValue) (facts : Facts) → AreOrdered (graph_of (cells_of facts)) (position_in (switches (cells_of facts)) (positions_by rule (cells_of facts)))
 rules_order up_and_down facts =
     let cells = cells_of facts in
     let graph = graph_of cells in
-    subst (λ (gs : List ℕ). AreOrdered graph (place_in gs (positions_by up_and_down cells))) (graph_guids cells)
-    (ordered_alike graph (rank_position graph) (place_in (guids_of graph) (positions_by up_and_down cells)) (graph_law facts)
-    (λ g h. place_value (rank_position graph) (guids_of graph) g h) (ranks_are_ordered graph (graph_law facts)))
+    subst (λ (gs : List ℕ). AreOrdered graph (position_in gs (positions_by up_and_down cells))) (graph_guids cells)
+    (ordered_alike graph (rank_position graph) (position_in (guids_of graph) (positions_by up_and_down cells)) (graph_law facts)
+    (λ g h. position_value (rank_position graph) (guids_of graph) g h) (ranks_are_ordered graph (graph_law facts)))
 rules_order (spread_in order) facts =
     let cells = cells_of facts in
     let graph = graph_of cells in
     let keys = keys_by graph (adapters_of cells) order in
-    subst (λ (gs : List ℕ). AreOrdered graph (place_in gs (positions_by (spread_in order) cells))) (graph_guids cells)
-    (ordered_alike graph (position graph keys) (place_in (guids_of graph) (positions_by (spread_in order) cells)) (graph_law facts)
-    (λ g h. place_value (position_of (order_of order cells)) (guids_of graph) g h
+    subst (λ (gs : List ℕ). AreOrdered graph (position_in gs (positions_by (spread_in order) cells))) (graph_guids cells)
+    (ordered_alike graph (position graph keys) (position_in (guids_of graph) (positions_by (spread_in order) cells)) (graph_law facts)
+    (λ g h. position_value (position_of (order_of order cells)) (guids_of graph) g h
     ∙ ap (λ (vs : List ℕ). position_of vs g) (in_order_is graph (adapters_of cells) order)
-    ∙ place_named graph keys (graph_law facts) g h) (grown_are_ordered graph keys (graph_law facts)))
+    ∙ position_named graph keys (graph_law facts) g h) (grown_are_ordered graph keys (graph_law facts)))

@@ -21,7 +21,7 @@ use Rattle.subnet_view.proofs.GraphSwitches.{graph_guids, switch_usable, usable_
 use Rattle.subnet_view.proofs.WireEnds.{linked}
 use Rattle.plan_order.specs.PlanOrder.{positions_by}
 use Rattle.multicast_tree.specs.Copies.{CopyGoes, Copying}
-use Rattle.multicast_tree.specs.Tree.{copying_in, is_below, is_given, is_tree_port, parent_port, place_in, tree_at, tree_by, tree_ports}
+use Rattle.multicast_tree.specs.Tree.{copying_in, is_below, is_given, is_tree_port, parent_port, position_in, tree_at, tree_by, tree_ports}
 use Rattle.multicast_tree.specs.TreeLaws.{EachGetsACopy, IsWhole}
 use Rattle.multicast_tree.proofs.Ordered.{AreOrdered, rules_order}
 use Rattle.multicast_tree.proofs.Reached.{IsWholeForest, no_side, reach}
@@ -38,8 +38,8 @@ or_right false b e = e
 or_left : (a b : Bool) → a ≡ true → (a || b) ≡ true
 or_left a b e = ap (λ t. t || b) e
 
-module _ (facts : Facts) (place : ℕ → ℕ) (group : ℕ → ℕ → Bool) (ordered : AreOrdered (graph_of (cells_of facts)) place)
-    (whole : IsWhole (tree_by (cells_of facts) (parent_port (graph_of (cells_of facts)) place)) group) where
+module _ (facts : Facts) (position : ℕ → ℕ) (group : ℕ → ℕ → Bool) (ordered : AreOrdered (graph_of (cells_of facts)) position)
+    (whole : IsWhole (tree_by (cells_of facts) (parent_port (graph_of (cells_of facts)) position)) group) where
   abbrev cells : Cells
   cells = cells_of facts
 
@@ -50,7 +50,7 @@ module _ (facts : Facts) (place : ℕ → ℕ) (group : ℕ → ℕ → Bool) (o
   good = graph_law facts
 
   abbrev parent : ℕ → Option ℕ
-  parent = parent_port (graph_of (cells_of facts)) place
+  parent = parent_port (graph_of (cells_of facts)) position
 
   abbrev by : Copying
   by = copying_in (cells_of facts) group
@@ -70,7 +70,7 @@ module _ (facts : Facts) (place : ℕ → ℕ) (group : ℕ → ℕ → Bool) (o
 
   up_there : (g p : ℕ) → is_usable cells g ≡ true → parent g ≡ Some p → group g p ≡ true
   up_there g p u e =
-      let i = parent_up cells place g p e in
+      let i = parent_up cells position g p e in
       has_port g p (i.parent, i.port) u i.wire (or_left (is_given (parent g) p) (is_below cells parent (across cells g p)) (ap (λ o. is_given o p) e ∙ eq-eqb p p refl))
 
   down_there : (g p h q : ℕ) → is_usable cells g ≡ true → across cells g p ≡ Some (h, q) → parent h ≡ Some q → group g p ≡ true
@@ -87,7 +87,7 @@ module _ (facts : Facts) (place : ℕ → ℕ) (group : ℕ → ℕ → Bool) (o
 
   to_switch : (g p h q : ℕ) → parent g ≡ Some p → across cells g p ≡ Some (h, q) → is_usable cells h ≡ true
   to_switch g p h q e w =
-      let i = parent_up cells place g p e in
+      let i = parent_up cells position g p e in
       let k : ◌≡◌ {A = ℕ × ℕ} (i.parent, i.port) (h, q) = same_Some (i.parent, i.port) (h, q) (sym i.wire ∙ w) in
       subst (λ (x : ℕ × ℕ). is_usable cells x.0 ≡ true) k i.is_switch
 
@@ -98,12 +98,12 @@ module _ (facts : Facts) (place : ℕ → ℕ) (group : ℕ → ℕ → Bool) (o
     pub length : ℕ
     pub walk : Walk (neighbors graph) g h length
 
-  climbs : (g v : ℕ) → Joined g v → place v < place g
+  climbs : (g v : ℕ) → Joined g v → position v < position g
       → (p : ℕ) × (h : ℕ) × (q : ℕ) × (parent g ≡ Some p) × (across cells g p ≡ Some (h, q)) × Joined h v
   climbs g v j l =
       let e = ordered.earlier g v j.length j.first j.second j.walk l in
-      let f = has_first place (place g) (edges_at graph g) e.0 e.1 e.2 in
-      let i = first_is place (place g) (edges_at graph g) f.0 f.1 in
+      let f = has_first position (position g) (edges_at graph g) e.0 e.1 e.2 in
+      let i = first_is position (position g) (edges_at graph g) f.0 f.1 in
       let w = edge_is_wire cells g i.edge i.there in
       let there = has_end (edges_at graph g) i.edge i.there in (
         f.0,
@@ -119,10 +119,10 @@ module _ (facts : Facts) (place : ℕ → ℕ) (group : ℕ → ℕ → Bool) (o
         },
       )
 
-  whole_forest : IsWholeForest by parent place Joined
+  whole_forest : IsWholeForest by parent position Joined
   whole_forest =
       record {
-        within = tree_is_forest cells place group (λ g p h. (whole g p).0 h);
+        within = tree_is_forest cells position group (λ g p h. (whole g p).0 h);
         to_switch = to_switch;
         all_up = up_there;
         all_down = λ g p h q sg sh w e. down_there g p h q sg w e;
@@ -139,21 +139,21 @@ module _ (facts : Facts) (place : ℕ → ℕ) (group : ℕ → ℕ → Bool) (o
   -- an adapter has no parent
   no_parent : (g p : ℕ) → is_usable cells g ≡ false → parent g ≡ Some p → ⊥
   no_parent g p leaf e =
-      let i = first_is place (place g) (edges_at graph g) p e in
+      let i = first_is position (position g) (edges_at graph g) p e in
       cc (leaf, switch_usable facts g (edge_from_switch cells g i.edge i.there))
 
   pub gets_copy : (sender receiver at there : ℕ × ℕ) (n : ℕ) → sender ≢ receiver → IsSender cells sender at → IsSender cells receiver there
       → Walk (neighbors graph) at.0 there.0 n → (ports : List ℕ) × CopyGoes by at ports receiver
   gets_copy sender receiver at there n apart s r w =
-      reach by parent place Joined whole_forest (suc (place at.0 + place there.0)) at.0 at.1 there.0 there.1 receiver (omega arith)
+      reach by parent position Joined whole_forest (suc (position at.0 + position there.0)) at.0 at.1 there.0 there.1 receiver (omega arith)
       (record { first = in_graph at.0 s.at_switch; second = in_graph there.0 r.at_switch; length = n; walk = w }) s.at_switch r.at_switch
       (out_there there.0 there.1 receiver.0 receiver.1 r.at_switch r.wire r.not_a_switch) r.wire
-      (no_side by parent place Joined whole_forest at.0 at.1 there.0 sender s.at_switch s.wire s.not_a_switch (no_parent sender.0 sender.1 s.not_a_switch))
-      (no_side by parent place Joined whole_forest there.0 there.1 at.0 receiver r.at_switch r.wire r.not_a_switch
+      (no_side by parent position Joined whole_forest at.0 at.1 there.0 sender s.at_switch s.wire s.not_a_switch (no_parent sender.0 sender.1 s.not_a_switch))
+      (no_side by parent position Joined whole_forest there.0 there.1 at.0 receiver r.at_switch r.wire r.not_a_switch
       (no_parent receiver.0 receiver.1 r.not_a_switch))
       (λ k e. apart (same_Some sender receiver (sym s.wire ∙ (λ i. across cells (k i) (sym e i)) ∙ r.wire)))
 
 pub each_gets_a_copy : EachGetsACopy
 each_gets_a_copy rule facts group whole sender receiver at there n apart a b w =
-    gets_copy facts (place_in (switches (cells_of facts)) (positions_by rule (cells_of facts))) group (rules_order rule facts) whole
+    gets_copy facts (position_in (switches (cells_of facts)) (positions_by rule (cells_of facts))) group (rules_order rule facts) whole
     sender receiver at there n apart (attached_is (cells_of facts) sender at a) (attached_is (cells_of facts) receiver there b) w

@@ -24,17 +24,17 @@ abbrev pub CopyGoes : Copying → ℕ × ℕ → List ℕ → ℕ × ℕ → Typ
 CopyGoes by at [] end = at ≡ end
 CopyGoes by at (port ∷ ports) end = (far : ℕ × ℕ) × IsCopied by at port far × CopyGoes by far ports end
 
--- each hop of a copy to a switch leads to a switch with a greater `place` than the one before. The copy came in by the
+-- each hop of a copy to a switch leads to a switch with a greater `position` than the one before. The copy came in by the
 -- port `at`, and leaves switches by `ports`
 abbrev pub GoesDown : Copying → (ℕ → ℕ) → ℕ × ℕ → List ℕ → Type 0
-GoesDown by place at [] = Unit {0}
-GoesDown by place at (port ∷ ports) = (far : ℕ × ℕ) → IsCopied by at port far
-    → (by.is_switch far.0 ≡ true → place at.0 < place far.0) × GoesDown by place far ports
+GoesDown by position at [] = Unit {0}
+GoesDown by position at (port ∷ ports) = (far : ℕ × ℕ) → IsCopied by at port far
+    → (by.is_switch far.0 ≡ true → position at.0 < position far.0) × GoesDown by position far ports
 
--- the hops of a copy lead to switches with a lesser `place` at first. From the first hop on that does not, each hop to
--- a switch leads to one with a greater `place`
+-- the hops of a copy lead to switches with a lesser `position` at first. From the first hop on that does not, each hop to
+-- a switch leads to one with a greater `position`
 abbrev pub GoesUpThenDown : Copying → (ℕ → ℕ) → ℕ × ℕ → List ℕ → Type 0
-GoesUpThenDown by place at [] = Unit {0}
-GoesUpThenDown by place at (port ∷ ports) = (far : ℕ × ℕ) → IsCopied by at port far
-    → ((place far.0 < place at.0) × GoesUpThenDown by place far ports)
-    ⊎ ((by.is_switch far.0 ≡ true → place at.0 < place far.0) × GoesDown by place far ports)
+GoesUpThenDown by position at [] = Unit {0}
+GoesUpThenDown by position at (port ∷ ports) = (far : ℕ × ℕ) → IsCopied by at port far
+    → ((position far.0 < position at.0) × GoesUpThenDown by position far ports)
+    ⊎ ((by.is_switch far.0 ≡ true → position at.0 < position far.0) × GoesDown by position far ports)

@@ -14,18 +14,18 @@ use Rattle.lft_blocks.specs.Rule.{RuleValue}
 use Rattle.plan_order.specs.PlanOrder.{positions_by}
 use Rattle.multicast_tree.specs.Copies.{Copying}
 
--- the port of the edge, among those that lead to a lesser `place` than `bound`, that leads to the least place. Of
+-- the port of the edge, among those that lead to a lesser `position` than `bound`, that leads to the least position. Of
 -- several, it is the first in the list; None if there is no such edge
 abbrev pub first_before : (ℕ → ℕ) → ℕ → List Edge → Option ℕ
-first_before place bound [] = None
-first_before place bound (e ∷ es) =
-    if nat_lt (place e.to) bound then option_or (first_before place (place e.to) es) (Some e.port)
-    else first_before place bound es
+first_before position bound [] = None
+first_before position bound (e ∷ es) =
+    if nat_lt (position e.to) bound then option_or (first_before position (position e.to) es) (Some e.port)
+    else first_before position bound es
 
--- the port of switch `g` to its parent, which is the neighbor with the least `place`: the least port that leads there.
--- None if no neighbor has a lesser place than `g`, or if `g` is not in the graph
+-- the port of switch `g` to its parent, which is the neighbor with the least `position`: the least port that leads there.
+-- None if no neighbor has a lesser position than `g`, or if `g` is not in the graph
 abbrev pub parent_port : List SwitchEdges → (ℕ → ℕ) → ℕ → Option ℕ
-parent_port graph place g = first_before place (place g) (edges_at graph g)
+parent_port graph position g = first_before position (position g) (edges_at graph g)
 
 -- whether the port that may be given is `p`
 abbrev pub is_given : Option ℕ → ℕ → Bool
@@ -60,8 +60,8 @@ abbrev pub tree_by : Cells → (ℕ → Option ℕ) → List TreePorts
 tree_by cells parent = map (tree_at cells parent) (switches cells)
 
 -- the position of switch `g`, given the positions of `guids`; 0 if `guids` does not have `g`
-abbrev pub place_in : List ℕ → List ℕ → ℕ → ℕ
-place_in guids positions g = slice_index positions (position_of guids g)
+abbrev pub position_in : List ℕ → List ℕ → ℕ → ℕ
+position_in guids positions g = slice_index positions (position_of guids g)
 
 -- the port of switch `g` to its parent, given the ports of `guids`; None if `guids` does not have `g`
 abbrev pub parent_in : List ℕ → List (Option ℕ) → ℕ → Option ℕ
@@ -69,7 +69,7 @@ parent_in guids parents g = slice_index_or parents (position_of guids g) None
 
 -- the tree of the order in which the usable switches, in ascending order of GUID, have the positions that are given
 abbrev pub tree_in : Cells → List ℕ → List TreePorts
-tree_in cells positions = tree_by cells (parent_port (graph_of cells) (place_in (switches cells) positions))
+tree_in cells positions = tree_by cells (parent_port (graph_of cells) (position_in (switches cells) positions))
 
 -- the tree of the order by which a rule plans
 abbrev pub tree_of : RuleValue → Cells → List TreePorts

@@ -8,7 +8,7 @@ use Rattle.subnet_view.specs.Wires.{attached}
 use Rattle.subnet_view.specs.Graph.{graph_of, neighbors}
 use Rattle.lft_blocks.specs.Rule.{RuleValue}
 use Rattle.multicast_tree.specs.Copies.{CopyGoes, GoesUpThenDown}
-use Rattle.multicast_tree.specs.Tree.{InTree, TreePorts, copying_in, place_in, tree_in, tree_of}
+use Rattle.multicast_tree.specs.Tree.{InTree, TreePorts, copying_in, position_in, tree_in, tree_of}
 
 -- each port that the masks of a group have is in the tree
 abbrev pub IsWithin : List TreePorts → (ℕ → ℕ → Bool) → Type 0
@@ -38,7 +38,7 @@ abbrev pub NoUpAfterDown : Type 0
 NoUpAfterDown = (facts : Facts) (positions : List ℕ) (group : ℕ → ℕ → Bool)
     → IsWithin (tree_in (cells_of facts) positions) group → (at end : ℕ × ℕ) (ports : List ℕ)
     → CopyGoes (copying_in (cells_of facts) group) at ports end
-    → GoesUpThenDown (copying_in (cells_of facts) group) (place_in (switches (cells_of facts)) positions) at ports
+    → GoesUpThenDown (copying_in (cells_of facts) group) (position_in (switches (cells_of facts)) positions) at ports
 
 -- for any positions of switches and any group within their tree, no copy of a packet comes back to the adapter port
 -- that sent it

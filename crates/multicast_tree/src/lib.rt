@@ -3,6 +3,8 @@
 
 pub mod laws;
 mod parents;
+#[cfg(test)]
+mod tests;
 mod tree;
 
 pub use tree::{SwitchPorts, plan_tree, tree_in};

@@ -14,9 +14,9 @@ returns-in-Ok c =
     let parents = c.args.parents.now in
     let i = c.in-Ok.index in
     let at = index_found guids c.args.guid (Ok i) c.in-Ok.ensures.position c.requires.rising in
-    let place : position_of guids c.args.guid ≡ i = sym (ap (position_of guids) at.1) ∙ position_is guids c.requires.rising i at.0 in
+    let position : position_of guids c.args.guid ≡ i = sym (ap (position_of guids) at.1) ∙ position_is guids c.requires.rising i at.0 in
     let less : i < length parents = omega (arith, at.0, c.requires.all) in
-    c.index-parents-index.is ∙ get_or_default parents i c.index-parents-index.result None less ∙ sym (ap (λ k. slice_index_or parents k None) place)
+    c.index-parents-index.is ∙ get_or_default parents i c.index-parents-index.result None less ∙ sym (ap (λ k. slice_index_or parents k None) position)
 
 pub returns-in-Err : goal.returns-in-Err
 returns-in-Err c =
