@@ -1,0 +1,4 @@
+pub mod Copies
+pub mod Forest
+pub mod Tree
+pub mod TreeLaws

@@ -1,0 +1,47 @@
+//! The laws of the tree, and of the copies of multicast packets.
+ghost use Rattle.multicast_tree.specs.Forest.{EachPortOnce, FewSwitchesPassed, UpThenDown};
+ghost use Rattle.multicast_tree.specs.TreeLaws.{EachGetsACopy, NoLongWay, NoPortTwice, NoUpAfterDown, NoneToTheSender};
+
+/// If the masks of a group are within a forest (`IsWithinForest`), no two copies of one packet arrive at the same port.
+pub fn each_port_gets_one_copy()
+    ensures { EachPortOnce }
+{}
+
+/// If the masks of a group are within a forest (`IsWithinForest`), a copy passes no more switches than there are with a
+/// port in the group.
+pub fn few_switches_are_passed()
+    ensures { FewSwitchesPassed }
+{}
+
+/// If the masks of a group are within a forest (`IsWithinForest`), each copy goes up and then down.
+pub fn copies_go_up_then_down()
+    ensures { UpThenDown }
+{}
+
+/// If the masks of a group are within the tree, no two copies of one packet arrive at the same port, in whatever order
+/// the switches are. So no packet goes round while the tree is written, as long as no mask has a port that the tree
+/// does not have.
+pub fn no_port_gets_a_packet_twice()
+    ensures { NoPortTwice }
+{}
+
+/// If the masks of a group are within the tree, a copy passes no more switches than there are usable ones.
+pub fn no_copy_goes_a_long_way()
+    ensures { NoLongWay }
+{}
+
+/// If the masks of a group are within the tree, each copy goes up and then down in the order of the tree.
+pub fn no_copy_goes_up_after_down()
+    ensures { NoUpAfterDown }
+{}
+
+/// If the masks of a group are within the tree, no copy of a packet comes back to the adapter that sent it.
+pub fn the_sender_gets_no_copy()
+    ensures { NoneToTheSender }
+{}
+
+/// If the masks of a group are the tree of a rule, a copy of what an adapter port sends comes to each other adapter port
+/// in its component.
+pub fn each_adapter_gets_a_copy()
+    ensures { EachGetsACopy }
+{}
