@@ -29,7 +29,7 @@ use Rattle.lft_blocks.specs.Plan.{PlanValue, plan_of}
 use Rattle.plan_steps.specs.declared.step.Step.{Step}
 use Rattle.plan_steps.specs.Bound.{most_steps}
 use Rattle.plan_steps.specs.Phase.{Phase, phases_of}
-use Rattle.plan_steps.specs.Tree.{planned_tree}
+use Rattle.plan_steps.specs.PlannedTree.{planned_tree}
 use Rattle.fabric_sim.specs.declared.delivered.Delivered.{Delivered}
 use Rattle.fabric_sim.specs.declared.delivered.Delivered.TheVariants.{Answered}
 use Rattle.fabric_sim.specs.declared.fabric_fault.FabricFault.{FabricFault}

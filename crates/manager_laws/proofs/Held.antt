@@ -25,7 +25,8 @@ use Rattle.plan_steps.specs.Carried.{port_read}
 use Rattle.plan_steps.specs.LidSteps.{own_lid, port_data}
 use Rattle.plan_steps.specs.BlockSteps.{top_data}
 use Rattle.plan_steps.specs.Phase.{Phase}
-use Rattle.plan_steps.specs.Tree.{TreePorts, planned_tree}
+use Rattle.plan_steps.specs.PlannedTree.{planned_tree}
+use Rattle.plan_steps.specs.Tree.{TreePorts}
 use Rattle.sm_manager.specs.Manager.{Manager, Writing}
 use Rattle.sm_manager.specs.Writing.{begun_with, is_written, without_empty_phases, phases_by, after_write_steps}
 use Rattle.manager_laws.specs.Truth.{HasNode, AreGuidsDistinct}

@@ -19,7 +19,7 @@ use Rattle.sweep.specs.Sweep.{Sweep, is_done, path_to, seen_state}
 use Rattle.plan_steps.specs.declared.step.Step.{Step}
 use Rattle.plan_steps.specs.LidSteps.{own_lid}
 use Rattle.plan_steps.specs.Phase.{Phase}
-use Rattle.plan_steps.specs.Tree.{planned_tree}
+use Rattle.plan_steps.specs.PlannedTree.{planned_tree}
 use Rattle.sm_manager.specs.Writing.{phases_by}
 use Rattle.sm_manager.specs.declared.fault.ManagerFault.{ManagerFault}
 use Rattle.sm_manager.specs.declared.pending.Pending.{Pending}

@@ -20,7 +20,7 @@ use Rattle.lft_blocks.specs.Plan.{SwitchTable, plan_of, switches_of}
 use Rattle.sweep.specs.Sweep.{Sweep, switch_image}
 use Rattle.plan_steps.specs.Bound.{PhaseBoundLaw}
 use Rattle.plan_steps.specs.MaskSteps.{has_table, mask_step, position_count, switch_mask_steps}
-use Rattle.plan_steps.specs.Tree.{TreePorts}
+use Rattle.multicast_tree.specs.Tree.{TreePorts}
 use Rattle.plan_steps.specs.LidSteps.{owner_step}
 use Rattle.plan_steps.specs.StateSteps.{state_step, state_steps, wired_port, wired_ports}
 use Rattle.plan_steps.specs.BlockSteps.{block_step, switch_steps, top_step, top_steps}

@@ -8,7 +8,7 @@ use Rattle.lft_blocks.specs.Rule.{RuleValue}
 use Rattle.lft_blocks.specs.Plan.{plan_of}
 use Rattle.sweep.specs.Sweep.{Sweep}
 use Rattle.plan_steps.specs.Phase.{phases_by}
-use Rattle.plan_steps.specs.Tree.{TreePorts}
+use Rattle.multicast_tree.specs.Tree.{TreePorts}
 
 -- a bound on the steps of a phase: one step for each number below 0xC000, one for each block of these numbers at each
 -- usable switch, and one for each cell

@@ -3,7 +3,7 @@ pub mod Carried
 pub mod LidSteps
 pub mod BlockSteps
 pub mod MaskSteps
-pub mod Tree
+pub mod PlannedTree
 pub mod StateSteps
 pub mod Phase
 pub mod Bound
@@ -11,3 +11,4 @@ pub mod SetLaws
 pub use Rattle.lft_blocks.specs.Arrival
 pub use Rattle.lft_blocks.specs.Plan
 pub use Rattle.lft_blocks.specs.Planning
+pub use Rattle.multicast_tree.specs.Tree

@@ -7,7 +7,7 @@ use Rattle.smp_bytes.specs.Field.{Field, number_in, with_number}
 use Rattle.attr_codec.specs.SwitchInfo.{multicast_fdb_cap}
 use Rattle.subnet_view.specs.Reading.{Cells, port_count_of}
 use Rattle.sweep.specs.Sweep.{Sweep, switch_image}
-use Rattle.plan_steps.specs.Tree.{TreePorts}
+use Rattle.multicast_tree.specs.Tree.{TreePorts}
 use Rattle.plan_steps.specs.declared.step.Step.{Step}
 use Rattle.plan_steps.specs.Step.{step_at}
 

@@ -9,7 +9,7 @@ use Rattle.plan_steps.specs.declared.step.Step.{Step}
 use Rattle.plan_steps.specs.LidSteps.{own_lid, lid_steps}
 use Rattle.plan_steps.specs.BlockSteps.{block_steps, top_steps}
 use Rattle.plan_steps.specs.MaskSteps.{clear_steps, tree_steps}
-use Rattle.plan_steps.specs.Tree.{TreePorts}
+use Rattle.multicast_tree.specs.Tree.{TreePorts}
 use Rattle.plan_steps.specs.StateSteps.{state_steps}
 
 -- the steps of a phase, and whether the plan counts as written only if all of them succeed

@@ -17,4 +17,4 @@ pub use carried::PortRead;
 pub use lft_blocks::{Plan, PlanFault, Planning};
 pub use phase::{Phase, phases};
 pub use step::Step;
-pub use tree::{TreePorts, planned_tree};
+pub use tree::planned_tree;

@@ -5,9 +5,9 @@ ghost use Rattle.plan_steps.specs.MaskSteps.{clear_steps, has_table, mask_of, ma
 ghost use Rattle.plan_steps.specs.MaskSteps.{switch_mask_steps, tree_steps};
 
 use crate::step::{Step, step_at};
-use crate::tree::TreePorts;
 use attr_codec::SwitchInfo;
 use fact_store::Store;
+use multicast_tree::SwitchPorts;
 use smp_bytes::wire::put_u16;
 use smp_bytes::{AttributeId, Guid, PortNum};
 use std::alloc::{AllocError, Global};
@@ -21,13 +21,13 @@ pub(crate) fn tree_steps(
     alloc: Global,
     store: &Store,
     sweep: &Sweep,
-    tree: &[TreePorts],
+    tree: &[SwitchPorts],
 ) -> Result<Vec<Step>, AllocError>
     ensures { IfOk result (λ steps. steps.items ≡ tree_steps (cells_of store.now) sweep.now tree.now) }
 {
     let mut steps = Vec::new(alloc);
     for switch in tree {
-        add_mask_steps(&mut steps, store, sweep, switch.guid, &switch.ports)?;
+        add_mask_steps(&mut steps, store, sweep, switch.guid(), switch.ports())?;
     }
     Ok(steps)
 }
@@ -37,13 +37,13 @@ pub(crate) fn clear_steps(
     alloc: Global,
     store: &Store,
     sweep: &Sweep,
-    tree: &[TreePorts],
+    tree: &[SwitchPorts],
 ) -> Result<Vec<Step>, AllocError>
     ensures { IfOk result (λ steps. steps.items ≡ clear_steps (cells_of store.now) sweep.now tree.now) }
 {
     let mut steps = Vec::new(alloc);
     for switch in tree {
-        add_mask_steps(&mut steps, store, sweep, switch.guid, &[])?;
+        add_mask_steps(&mut steps, store, sweep, switch.guid(), &[])?;
     }
     Ok(steps)
 }

@@ -5,12 +5,12 @@ ghost use Rattle.plan_steps.specs.Phase.{phases_by, phases_of};
 use crate::block_steps::{block_steps, top_steps};
 use crate::lid_steps::{lid_steps, own_lid};
 use crate::mask_steps::{clear_steps, tree_steps};
-use crate::tree::TreePorts;
 use crate::state_steps::{state_steps, wired_ports};
 use crate::step::Step;
 use attr_codec::PortState;
 use fact_store::Store;
 use lft_blocks::Plan;
+use multicast_tree::SwitchPorts;
 use smp_bytes::{Guid, Lid, PortNum};
 use std::alloc::{AllocError, Global};
 use std::collections::VecDeque;
@@ -46,7 +46,7 @@ impl Model for Phase {
 pub fn phases(
     alloc: Global,
     plan: &Plan,
-    tree: &[TreePorts],
+    tree: &[SwitchPorts],
     store: &Store,
     sweep: &Sweep,
     port_guid: Guid,
@@ -63,7 +63,7 @@ pub fn phases(
 fn phases_by(
     alloc: Global,
     plan: &Plan,
-    tree: &[TreePorts],
+    tree: &[SwitchPorts],
     store: &Store,
     sweep: &Sweep,
     master: Lid,

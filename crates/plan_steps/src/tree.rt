@@ -1,59 +1,41 @@
-//! Placeholder.
-ghost use Rattle.std.specs.Prelude.{◌≡◌, IfOk, map, []};
-ghost use Rattle.subnet_view.specs.Reading.{switches};
+//! The multicast tree that a manager writes.
+ghost use Rattle.std.specs.Prelude.{◌≡◌, IfOk};
 ghost use Rattle.fact_store.specs.View.{cells_of};
-ghost use Rattle.plan_steps.specs.Tree.{planned_tree};
+ghost use Rattle.lft_blocks.specs.Rule.{value_of};
+ghost use Rattle.multicast_tree.specs.Tree.{tree_of};
+ghost use Rattle.plan_steps.specs.PlannedTree.{planned_tree};
 
 use fact_store::Store;
-use lft_blocks::Planning;
-use smp_bytes::{Guid, PortNum};
+use lft_blocks::{Planning, Rule};
+use multicast_tree::{SwitchPorts, plan_tree};
 use std::alloc::{AllocError, Global};
-use std::marker::Model;
-use subnet_view::Subnet;
+use subnet_view::{SwitchGraph, Wires};
 
-/// Ports.
-#[derive(Drop)]
-pub struct TreePorts {
-    pub guid: Guid,
-    pub ports: Vec<PortNum>,
-}
-
-impl Model for TreePorts {
-    ghost use Rattle.plan_steps.specs.Tree.{TreePorts};
-
-    ghost Value = { TreePorts };
-
-    ghost view = { λ a. record { guid = a.guid; ports = a.ports.items } };
-}
-
-/// Builds the tree.
+/// Returns the ports in the multicast tree of each usable switch of the view in `store`, in ascending order of GUID, for
+/// the order of the planning's rule. Returns none if the planning writes no tree. Returns an error if memory runs out.
 pub fn planned_tree(
     alloc: Global,
     store: &Store,
     planning: &Planning,
-) -> Result<Vec<TreePorts>, AllocError>
+) -> Result<Vec<SwitchPorts>, AllocError>
     ensures { IfOk result (λ tree. tree.items ≡ planned_tree planning.now (cells_of store.now)) }
 {
     if planning.multicast {
-        empty_tree(alloc, store)
+        tree_by(alloc, store, &planning.rule)
     } else {
         Ok(Vec::new(alloc))
     }
 }
 
-/// Builds a tree.
-fn empty_tree(alloc: Global, store: &Store) -> Result<Vec<TreePorts>, AllocError>
-    ensures { IfOk result (λ tree. tree.items ≡ map (λ g. record { guid = g; ports = [] }) (switches (cells_of store.now))) }
+/// Returns the ports in the tree of each usable switch, for the order of `rule`.
+fn tree_by(alloc: Global, store: &Store, rule: &Rule) -> Result<Vec<SwitchPorts>, AllocError>
+    ensures { IfOk result (λ tree. tree.items ≡ tree_of (value_of rule.now) (cells_of store.now)) }
 {
-    let Ok(subnet) = Subnet::of(alloc, store) else {
+    let Ok(wires) = Wires::of(alloc, store) else {
         return Err(AllocError);
     };
-    let mut tree = Vec::new(alloc);
-    for guid in subnet.switches() {
-        tree.push(TreePorts {
-            guid: *guid,
-            ports: Vec::new(alloc),
-        })?;
-    }
-    Ok(tree)
+    let Ok(graph) = SwitchGraph::of(alloc, &wires) else {
+        return Err(AllocError);
+    };
+    plan_tree(alloc, &wires, &graph, rule)
 }

@@ -12,7 +12,7 @@ use Rattle.plan_steps.specs.LidSteps.{own_lid}
 use Rattle.plan_steps.specs.Phase.{Phase}
 use Rattle.plan_steps.proofs.Bounds.{phase_bound_law}
 use Rattle.plan_steps.proofs.Trees.{planned_tree_fits}
-use Rattle.plan_steps.specs.Tree.{planned_tree}
+use Rattle.plan_steps.specs.PlannedTree.{planned_tree}
 use Rattle.plan_steps.specs.Plan.{plan_of}
 use Rattle.request_table.proofs.Indices.{some_is}
 use Rattle.sm_state.specs.declared.state.SmState.TheVariants.{Master}

@@ -9,7 +9,7 @@ use Rattle.smp_bytes.specs.Header.{done}
 use Rattle.plan_steps.specs.declared.step.Step.{Step}
 use Rattle.plan_steps.specs.Phase.{Phase, phases_of}
 use Rattle.plan_steps.specs.Step.{set_packet}
-use Rattle.plan_steps.specs.Tree.{planned_tree}
+use Rattle.plan_steps.specs.PlannedTree.{planned_tree}
 use Rattle.sweep.specs.Sweep.{Sweep, is_done}
 use Rattle.sm_manager.specs.declared.fault.ManagerFault.{ManagerFault}
 use Rattle.sm_manager.specs.declared.fault.ManagerFault.TheVariants.{NotMaster, SweepRunning, WritingRunning}

@@ -35,7 +35,8 @@ use Rattle.sweep.specs.Sweep.{Sweep}
 use Rattle.plan_steps.specs.LidSteps.{own_lid}
 use Rattle.plan_steps.specs.MaskSteps.{position_count}
 use Rattle.plan_steps.specs.Phase.{Phase}
-use Rattle.plan_steps.specs.Tree.{TreePorts, planned_tree}
+use Rattle.plan_steps.specs.PlannedTree.{planned_tree}
+use Rattle.plan_steps.specs.Tree.{TreePorts}
 use Rattle.plan_steps.proofs.Trees.{planned_among}
 use Rattle.sm_manager.specs.Writing.{phases_by}
 use Rattle.manager_laws.specs.Managing.{Managing, ManagerEvent, Begin, after_manager_event, after_manager_events}

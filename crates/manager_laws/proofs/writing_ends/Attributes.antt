@@ -17,7 +17,8 @@ use Rattle.plan_steps.specs.BlockSteps.{block_step, block_steps, switch_steps, t
 use Rattle.plan_steps.specs.LidSteps.{lid_step, lid_steps, own_lid, owner_step}
 use Rattle.plan_steps.specs.MaskSteps.{clear_steps, has_table, mask_step, multicast_forwarding_table, position_count, switch_mask_steps, tree_steps}
 use Rattle.plan_steps.specs.Phase.{phases_by as phases_along}
-use Rattle.plan_steps.specs.Tree.{TreePorts, planned_tree}
+use Rattle.plan_steps.specs.PlannedTree.{planned_tree}
+use Rattle.plan_steps.specs.Tree.{TreePorts}
 use Rattle.plan_steps.specs.Plan.{PlanValue, block_at, plan_of, switches_of}
 use Rattle.plan_steps.specs.StateSteps.{is_due, state_step, state_steps, wired_ports}
 use Rattle.plan_steps.specs.Step.{step_at}

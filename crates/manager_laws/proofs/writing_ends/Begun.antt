@@ -11,7 +11,7 @@ use Rattle.plan_steps.specs.LidSteps.{own_lid}
 use Rattle.plan_steps.specs.Phase.{Phase}
 use Rattle.plan_steps.specs.Plan.{plan_of}
 use Rattle.plan_steps.specs.declared.step.Step.{Step}
-use Rattle.plan_steps.specs.Tree.{planned_tree}
+use Rattle.plan_steps.specs.PlannedTree.{planned_tree}
 use Rattle.plan_steps.proofs.Bounds.{phase_bound_law}
 use Rattle.plan_steps.proofs.Trees.{planned_tree_fits}
 use Rattle.sweep.specs.Sweep.{Sweep, is_done}
