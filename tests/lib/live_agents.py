@@ -145,7 +145,9 @@ class Agents:
             if is_set:
                 self.tables[name, modifier] = packet[64:128]
             data[:] = self.tables.get((name, modifier), b"\xff" * BLOCK)
-        elif attribute == GROUPS and is_switch and not is_set:
+        elif attribute == GROUPS and is_switch:
+            if is_set:
+                self.groups[name, modifier] = packet[64:128]
             data[:] = self.groups.get((name, modifier), bytes(BLOCK))
         else:
             return None

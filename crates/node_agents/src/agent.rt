@@ -36,12 +36,22 @@ impl Model for Agent {
 
     ghost Value = { AgentState };
 
-    ghost view = { λ a. record { node = a.node; ports = a.ports.items; table = a.table.items; top = a.top;
-        masks = a.masks.items } };
+    ghost view = { λ a. record {
+      node = a.node;
+      ports = a.ports.items;
+      table = a.table.items;
+      top = a.top;
+      masks = a.masks.items;
+    } };
 
     ghost invariant = { λ a.
-        IsAgent (record { node = a.node; ports = a.ports.items; table = a.table.items; top = a.top;
-            masks = a.masks.items }) };
+        IsAgent (record {
+          node = a.node;
+          ports = a.ports.items;
+          table = a.table.items;
+          top = a.top;
+          masks = a.masks.items;
+        }) };
 }
 
 impl Agent {

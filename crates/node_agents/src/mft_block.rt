@@ -48,11 +48,7 @@ pub(crate) fn set(agent: &mut Agent, modifier: u32, payload: &[u8; MASKS]) -> bo
 {
     let has_masks = has_masks(agent, modifier);
     if has_masks {
-        put_bytes(
-            &mut agent.masks,
-            position_in(modifier) * MASKS,
-            payload,
-        );
+        put_bytes(&mut agent.masks, position_in(modifier) * MASKS, payload);
     }
     has_masks
 }
