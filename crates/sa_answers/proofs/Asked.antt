@@ -1,5 +1,5 @@
 -- A path that is told is that between the two ends that were asked for, and each end has the LID that is told.
-use Rattle.std.proofs.Common.{◌≡◌, ℕ, Bool, true, false, cond, ◌==◌, ◌&&◌, List, Option, None, Some, refl, sym, ap, ◌∙◌, subst}
+use Rattle.std.proofs.Common.{true≢false, ◌≡◌, ℕ, Bool, true, false, cond, ◌==◌, ◌&&◌, List, Option, None, Some, refl, sym, ap, ◌∙◌, subst}
 use Rattle.std.proofs.lemmas.Option.{same_Some}
 use Rattle.std.specs.Prelude.{Contains, nat_lt, option_map}
 use Rattle.smp_bytes.specs.Field.{bytes_in, number_in}
@@ -24,9 +24,9 @@ use Rattle.sa_answers.specs.Ends.{both_ends, end_asked, end_by_gid, end_by_guid,
 use Rattle.sa_answers.specs.PathReply.{gives, life_of, path_between, path_of, path_or_none, path_reply, path_with, reply_between, source_said, suits_path, target_said}
 use Rattle.sa_answers.specs.NodeReply.{description_bit, first_node, nodes_suited, only_node}
 use Rattle.sa_answers.specs.PortReply.{end_port_lid_bit, goes_by, most_of_mask, port_num_bit, port_told, port_with, reply_of_owner}
-use Rattle.sa_answers.specs.Reply.{as_table, record_reply, reply_to, reply_to_get}
+use Rattle.sa_answers.specs.Reply.{as_table, other_reply, record_reply, reply_to, reply_to_change, reply_to_get}
 use Rattle.sa_answers.specs.Told.{Told}
-use Rattle.sa_answers.proofs.Gets.{table_path}
+use Rattle.sa_answers.proofs.Gets.{change_of_group, is_of_group, other_of_group, table_path}
 use Rattle.sa_answers.specs.Way.{bound_of_way}
 use Rattle.sa_answers.specs.declared.bound.Bound.{Bound}
 use Rattle.sa_answers.specs.declared.ends.EndAsked.{EndAsked}
@@ -155,14 +155,15 @@ no_path told attribute request path e =
   where
     go : (a b d m l : Bool) (count : ℕ) (first : Option NodeRecord) (named : Bool) (port : ℕ) (owner : Option EndPort)
         → cond a (cond d (Refused NotSupported) (only_node count first))
-        (cond b (cond m (Refused NotSupported) (cond l (reply_of_owner told named port owner) (Refused InsufficientComponents))) (Refused NotSupported)) ≡ Path path
+        (cond b (cond m (Refused NotSupported) (cond l (reply_of_owner told named port owner) (Refused InsufficientComponents))) (other_reply told attribute request)) ≡ Path path
         → ⊥
     go true b true m l count first named port owner u = absurd (cc)
     go true b false m l count first named port owner u = no_node_path count first path u
     go false true d true l count first named port owner u = absurd (cc)
     go false true d false true count first named port owner u = no_path_at told named port owner path u
     go false true d false false count first named port owner u = absurd (cc)
-    go false false d m l count first named port owner u = absurd (cc)
+    go false false d m l count first named port owner u =
+        absurd (true≢false (sym (other_of_group told attribute request) ∙ ap is_of_group u))
 
 -- it is told for a request that asks for a path
 asked_for : (told : Told) (request : List ℕ) (path : PathRecord) → reply_to told request ≡ Path path
@@ -178,13 +179,13 @@ asked_for told request path e =
     of_get false false u = absurd (no_path told (number_in attribute_id request) request path u)
 
     get : (a t : Bool) → cond a (reply_to_get told (number_in attribute_id request) request)
-        (cond t (as_table (reply_to_get told (number_in attribute_id request) request)) (Refused NotSupported)) ≡ Path path
+        (cond t (as_table (reply_to_get told (number_in attribute_id request) request)) (reply_to_change told request)) ≡ Path path
         → path_reply told (number_in component_mask request) (path_record_in (bytes_in path_data request)) ≡ Path path
     get true t u = of_get (number_in attribute_id request == 0x0001) (number_in attribute_id request == 0x0035) u
     get false true u =
         of_get (number_in attribute_id request == 0x0001) (number_in attribute_id request == 0x0035)
         (table_path (reply_to_get told (number_in attribute_id request) request) path u)
-    get false false u = absurd (cc)
+    get false false u = absurd (true≢false (sym (change_of_group told request) ∙ ap is_of_group u))
 
 pub told_between : (told : Told) (request : List ℕ) (path : PathRecord) → reply_to told request ≡ Path path
     → Between told (number_in component_mask request) (path_record_in (bytes_in path_data request)) path

@@ -26,14 +26,15 @@ use Rattle.sa_answers.specs.PathReply.{gives, path_between, path_or_none, path_r
 use Rattle.sa_answers.specs.PortReply.{end_port_lid_bit, goes_by, most_of_mask, port_num_bit, info_at, port_reply, port_told, port_with, reply_at, reply_of_owner}
 use Rattle.sa_answers.specs.RecordLaws.{AsksForPort, IsPortOfOwner, NodesAreTold, NodesToldAreThePlans, PortsAreTold, PortsToldAreThePlans, suits_request}
 use Rattle.sa_answers.specs.Ends.{end_asked}
-use Rattle.sa_answers.specs.Reply.{as_table, record_reply, reply_to, reply_to_get}
+use Rattle.sa_answers.specs.Reply.{as_table, other_reply, record_reply, reply_to, reply_to_change, reply_to_get}
+use Rattle.sa_answers.proofs.Gets.{change_of_group, is_of_group, other_of_group}
 use Rattle.sa_answers.specs.Told.{Told}
 use Rattle.sa_answers.specs.declared.ends.EndAsked.{EndAsked}
 use Rattle.sa_answers.specs.declared.ends.EndAsked.TheVariants.{Nobody, Unknown, Known}
 use Rattle.sa_answers.specs.declared.reply.Reply.{Reply}
-use Rattle.sa_answers.specs.declared.reply.Reply.TheVariants.{Refused, Info, Path, Node, Port, Empty}
+use Rattle.sa_answers.specs.declared.reply.Reply.TheVariants.{Refused, Info, Path, Node, Port, Member, Empty}
 use Rattle.sa_answers.specs.declared.reply.SaRefusal.{SaRefusal}
-use Rattle.sa_answers.specs.declared.reply.SaRefusal.TheVariants.{NotSupported, NoRecords, TooManyRecords, InsufficientComponents}
+use Rattle.sa_answers.specs.declared.reply.SaRefusal.TheVariants.{NotSupported, NoRecords, TooManyRecords, InsufficientComponents, InvalidGid, InvalidRequest}
 
 -- a reply is about a record, and not a refusal, ClassPortInfo or a path
 abbrev is_record : Reply → Bool
@@ -42,7 +43,18 @@ is_record Info = false
 is_record (Path path) = false
 is_record (Node r) = true
 is_record (Port r) = true
+is_record (Member r) = false
 is_record Empty = false
+
+-- it is none about a group
+record_of_group : (r s : Reply) → is_of_group r ≡ true → is_record s ≡ true → r ≡ s → ⊥
+record_of_group (Refused refusal) s of_group some e = true≢false (sym some ∙ ap is_record (sym e))
+record_of_group Info s of_group some e = true≢false (sym of_group)
+record_of_group (Path path) s of_group some e = true≢false (sym of_group)
+record_of_group (Node r) s of_group some e = true≢false (sym of_group)
+record_of_group (Port r) s of_group some e = true≢false (sym of_group)
+record_of_group (Member r) s of_group some e = true≢false (sym some ∙ ap is_record (sym e))
+record_of_group Empty s of_group some e = true≢false (sym of_group)
 
 -- a test that came out true
 yes : (m n : ℕ) → (m == n) ≡ true → m ≡ n
@@ -68,10 +80,13 @@ table_record (Refused NoRecords) s some e = absurd (true≢false (sym some ∙ a
 table_record (Refused NotSupported) s some e = absurd (true≢false (sym some ∙ ap is_record (sym e)))
 table_record (Refused TooManyRecords) s some e = absurd (true≢false (sym some ∙ ap is_record (sym e)))
 table_record (Refused InsufficientComponents) s some e = absurd (true≢false (sym some ∙ ap is_record (sym e)))
+table_record (Refused InvalidGid) s some e = absurd (true≢false (sym some ∙ ap is_record (sym e)))
+table_record (Refused InvalidRequest) s some e = absurd (true≢false (sym some ∙ ap is_record (sym e)))
 table_record Info s some e = absurd (true≢false (sym some ∙ ap is_record (sym e)))
 table_record (Path path) s some e = absurd (true≢false (sym some ∙ ap is_record (sym e)))
 table_record (Node r) s some e = e
 table_record (Port r) s some e = e
+table_record (Member r) s some e = absurd (true≢false (sym some ∙ ap is_record (sym e)))
 table_record Empty s some e = absurd (true≢false (sym some ∙ ap is_record (sym e)))
 
 -- the replies about paths and about ports
@@ -106,13 +121,13 @@ asked_is told request r some e = go (number_in method request == sa_get) (number
 
     go : (a t : Bool) → (number_in method request == sa_get) ≡ a → (number_in method request == sa_get_table) ≡ t
         → cond a (reply_to_get told (number_in attribute_id request) request)
-        (cond t (as_table (reply_to_get told (number_in attribute_id request) request)) (Refused NotSupported)) ≡ r → Asked told request r
+        (cond t (as_table (reply_to_get told (number_in attribute_id request) request)) (reply_to_change told request)) ≡ r → Asked told request r
     go true t a_is t_is u =
         of_get (inl (yes (number_in method request) sa_get a_is)) (number_in attribute_id request == 0x0001) (number_in attribute_id request == 0x0035) refl refl u
     go false true a_is t_is u =
         of_get (inr (yes (number_in method request) sa_get_table t_is)) (number_in attribute_id request == 0x0001) (number_in attribute_id request == 0x0035) refl refl
         (table_record (reply_to_get told (number_in attribute_id request) request) r some u)
-    go false false a_is t_is u = absurd (true≢false (sym some ∙ ap is_record (sym u)))
+    go false false a_is t_is u = absurd (record_of_group (reply_to_change told request) r (change_of_group told request) some u)
 
 -- ports ----------------------------------------------------------------------------------------------------------
 
@@ -258,13 +273,14 @@ node_asked told request r e =
 
     go : (a b d : Bool) → (number_in attribute_id request == 0x0011) ≡ a
         → cond a (cond d (Refused NotSupported) (only_node (count_by (suits_request told request) told.plan.given.ports)
-        (option_and_then (node_told told) (find (suits_request told request) told.plan.given.ports)))) (cond b (port_of told request) (Refused NotSupported)) ≡ Node r
+        (option_and_then (node_told told) (find (suits_request told request) told.plan.given.ports)))) (cond b (port_of told request) (other_reply told (number_in attribute_id request) request)) ≡ Node r
         → ((number_in attribute_id request == 0x0011) ≡ true)
         × Found told (count_by (suits_request told request) told.plan.given.ports) (find (suits_request told request) told.plan.given.ports) r
     go true b false a u = (a, found_is told (count_by (suits_request told request) told.plan.given.ports) (find (suits_request told request) told.plan.given.ports) r u)
     go true b true a u = absurd (cc)
     go false true d a u = absurd (no_node u)
-    go false false d a u = absurd (cc)
+    go false false d a u = absurd (record_of_group (other_reply told (number_in attribute_id request) request) (Node r)
+        (other_of_group told (number_in attribute_id request) request) refl u)
 
 -- the reply to a request for another record than a path, if a table leaves it as it is
 gets : (told : Told) (request : List ℕ) (r : Reply) → (number_in method request ≡ sa_get) ⊎ (number_in method request ≡ sa_get_table)
@@ -272,12 +288,12 @@ gets : (told : Told) (request : List ℕ) (r : Reply) → (number_in method requ
     → record_reply told (number_in attribute_id request) request ≡ r → as_table r ≡ r → reply_to told request ≡ r
 gets told request r (inl get) no_info no_path e stays =
     (λ i. cond (get i == 0x01) (reply_to_get told (number_in attribute_id request) request)
-    (cond (get i == 0x12) (as_table (reply_to_get told (number_in attribute_id request) request)) (Refused NotSupported)))
+    (cond (get i == 0x12) (as_table (reply_to_get told (number_in attribute_id request) request)) (reply_to_change told request)))
     ∙ (λ i. cond (no_info i) Info (cond (no_path i) (paths_of told request) (record_reply told (number_in attribute_id request) request)))
     ∙ e
 gets told request r (inr table) no_info no_path e stays =
     (λ i. cond (table i == 0x01) (reply_to_get told (number_in attribute_id request) request)
-    (cond (table i == 0x12) (as_table (reply_to_get told (number_in attribute_id request) request)) (Refused NotSupported)))
+    (cond (table i == 0x12) (as_table (reply_to_get told (number_in attribute_id request) request)) (reply_to_change told request)))
     ∙ (λ i. as_table (cond (no_info i) Info (cond (no_path i) (paths_of told request) (record_reply told (number_in attribute_id request) request))))
     ∙ ap as_table e ∙ stays
 
@@ -298,13 +314,14 @@ port_asked told request r e =
         by false w = absurd (cc)
 
     go : (a b d : Bool) (count : ℕ) (o : Option NodeRecord) → (number_in attribute_id request == 0x0012) ≡ b
-        → cond a (cond d (Refused NotSupported) (only_node count o)) (cond b (port_of told request) (Refused NotSupported)) ≡ Port r
+        → cond a (cond d (Refused NotSupported) (only_node count o)) (cond b (port_of told request) (other_reply told (number_in attribute_id request) request)) ≡ Port r
         → ((number_in attribute_id request == 0x0012) ≡ true)
         × (port_reply told (number_in component_mask request) (number_in lid_data request) (number_in port_data request) ≡ Port r)
     go true b false count o is u = absurd (no_port count o u)
     go true b true count o is u = absurd (cc)
     go false true d count o is u = (is, u)
-    go false false d count o is u = absurd (cc)
+    go false false d count o is u = absurd (record_of_group (other_reply told (number_in attribute_id request) request) (Port r)
+        (other_of_group told (number_in attribute_id request) request) refl u)
 
 -- the reply about the port that is asked for
 of_owner : (told : Told) (request : List ℕ) (e : EndPort) (port : ℕ) → owner_of told.plan.given (number_in lid_data request) ≡ Some e → AsksForPort request e port
@@ -380,7 +397,7 @@ nodes_told told request asks by_name one =
     (λ i. only_node (one i) (option_and_then (node_told told) (found.1 i))) ∙ ap (only_node 1) has.1 in
     let told_node : record_reply told n request ≡ Node has.0 =
     ap (λ b. cond b (node_reply told (number_in component_mask request) (number_in lid_data request) (node_info_in (bytes_in attribute_data request)))
-    (cond (n == 0x0012) (port_reply told (number_in component_mask request) (number_in lid_data request) (number_in port_data request)) (Refused NotSupported)))
+    (cond (n == 0x0012) (port_reply told (number_in component_mask request) (number_in lid_data request) (number_in port_data request)) (other_reply told n request)))
     (eq-eqb n node_record asks.1)
     ∙ ap (λ b. cond b (Refused NotSupported) (only_node (count_by (suits_request told request) told.plan.given.ports)
     (option_and_then (node_told told) (find (suits_request told request) told.plan.given.ports)))) by_name
@@ -403,6 +420,6 @@ ports_told told request e port lid image asks owns asks_port first kept =
     let made = of_owner told request e port owns asks_port in
     gets told request (Port (record { lid = lid; port = port; info = info_at told e lid port image })) asks.0 (ap (λ k. k == 0x0001) asks.1) (ap (λ k. k == 0x0035) asks.1)
     (ap (λ k. cond (k == 0x0011) (node_reply told (number_in component_mask request) (number_in lid_data request) (node_info_in (bytes_in attribute_data request)))
-    (cond (k == 0x0012) (port_reply told (number_in component_mask request) (number_in lid_data request) (number_in port_data request)) (Refused NotSupported))) asks.1
+    (cond (k == 0x0012) (port_reply told (number_in component_mask request) (number_in lid_data request) (number_in port_data request)) (other_reply told k request))) asks.1
     ∙ made ∙ told_port)
     refl

@@ -1,5 +1,5 @@
 -- In a triangle of switches, a request that gives the GID of one adapter and the second LID of another is answered with a path.
-use Rattle.std.proofs.Common.{◌≡◌, ◌≢◌, ◌<◌, ◌++◌, ℕ, zero, suc, List, [], ◌∷◌, Option, Some, refl, sym, ap, ◌∙◌, subst, arith}
+use Rattle.std.proofs.Common.{false, ◌≡◌, ◌≢◌, ◌<◌, ◌++◌, ℕ, zero, suc, List, [], ◌∷◌, Option, Some, refl, sym, ap, ◌∙◌, subst, arith}
 use Rattle.std.proofs.lemmas.Bool.{true≢false}
 use Rattle.std.proofs.lemmas.Option.{same_Some}
 use Rattle.std.specs.Prelude.{replicate, slice_index_or}
@@ -26,7 +26,7 @@ use Rattle.sa_answers.specs.declared.reply.Reply.TheVariants.{Path}
 
 -- the facts, their plan, and no PortInfo
 abbrev told : Told
-told = record { cells = cells; plan = plan_of up_and_down 1 cells; images = []; own = 0 }
+told = record { cells = cells; plan = plan_of up_and_down 1 cells; images = []; own = 0; multicast = false }
 
 abbrev one : EndPort
 one = record { node = 256; port = 1 }

@@ -30,7 +30,7 @@ use Rattle.sa_answers.specs.AnsweredRequests.{AsksForPath, NamesEnd, PathAsked, 
 use Rattle.sa_answers.specs.Bound.{bound_at, lesser}
 use Rattle.sa_answers.specs.Ends.{both_ends, end_asked, end_by_gid, end_by_guid, end_by_lid, end_of, has_guid, is_guid}
 use Rattle.sa_answers.specs.PathReply.{if_suited, life_of, path_between, path_of, path_or_none, path_reply, path_with, reply_between, source_said, suits_path, target_said}
-use Rattle.sa_answers.specs.Reply.{as_table, record_reply, reply_to, reply_to_get}
+use Rattle.sa_answers.specs.Reply.{as_table, other_reply, record_reply, reply_to, reply_to_change, reply_to_get}
 use Rattle.sa_answers.specs.Told.{Told}
 use Rattle.sa_answers.specs.Way.{bound_of_way, most_steps}
 use Rattle.sa_answers.specs.declared.bound.Bound.{Bound}
@@ -110,7 +110,7 @@ reply_made told request source slid target dlid asks from to path made =
     (λ i. path_with mask asked source slid target dlid (made.sgid_is i) (made.dgid_is i) (made.there_is i) (made.back_is i))
     ∙ ap (if_suited mask asked) (sym made.path_is) in
     ap (λ t. cond t (reply_to_get told (number_in attribute_id request) request)
-    (cond (number_in method request == sa_get_table) (as_table (reply_to_get told (number_in attribute_id request) request)) (Refused NotSupported))) (eq-eqb (number_in method request) sa_get asks.is_get)
+    (cond (number_in method request == sa_get_table) (as_table (reply_to_get told (number_in attribute_id request) request)) (reply_to_change told request))) (eq-eqb (number_in method request) sa_get asks.is_get)
     ∙ ap (λ t. cond t Info (cond (number_in attribute_id request == path_record) (path_reply told mask asked) (record_reply told (number_in attribute_id request) request)))
     (ap (λ n. n == class_port_info) asks.of_path)
     ∙ ap (λ t. cond t (path_reply told mask asked) (record_reply told (number_in attribute_id request) request)) (eq-eqb (number_in attribute_id request) path_record asks.of_path)

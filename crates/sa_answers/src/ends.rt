@@ -78,7 +78,7 @@ fn both_ends(by_gid: Option<(EndPort, Lid)>, by_lid: Option<(EndPort, Lid)>) -> 
 }
 
 /// Returns the end port with this GID, and its first LID.
-fn end_by_gid(told: &Told<'_>, prefix: u64, guid: Guid) -> Option<(EndPort, Lid)>
+pub(crate) fn end_by_gid(told: &Told<'_>, prefix: u64, guid: Guid) -> Option<(EndPort, Lid)>
     ensures { result ≡ end_by_gid (value_of told.now) prefix guid }
 {
     if prefix == LINK_LOCAL_PREFIX {

@@ -5,6 +5,7 @@ mod answer;
 mod bound;
 mod ends;
 pub mod laws;
+mod member_reply;
 mod node_reply;
 mod path_reply;
 mod port_reply;

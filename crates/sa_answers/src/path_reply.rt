@@ -44,7 +44,7 @@ const RATE: u32 = 18;
 const LIFE: u32 = 20;
 
 /// The time that a packet may live: 4.096 us * 2^18.
-const ONE_SECOND: u8 = 18;
+pub(crate) const ONE_SECOND: u8 = 18;
 
 /// What a path tells of an end: one of its LIDs, and its port GUID.
 #[derive(Drop)]
@@ -199,7 +199,7 @@ fn path_of(
 }
 
 /// Returns the field that says that a number of at most 6 bits is exact.
-fn exactly(number: u8) -> u8
+pub(crate) fn exactly(number: u8) -> u8
     ensures { result ≡ exactly number }
 {
     0x80 + number % 64
@@ -222,7 +222,7 @@ fn suits_path(mask: u64, asked: &PathRecord, path: &PathRecord) -> bool
 {
     suits_lane(mask, asked)
         && suits(mask, MTU, asked.mtu, path.mtu % 64)
-        && suits_rate(mask, asked.rate, path.rate % 64)
+        && suits_rate(mask, RATE, asked.rate, path.rate % 64)
         && suits(
             mask,
             LIFE,
@@ -240,18 +240,19 @@ fn suits_lane(mask: u64, asked: &PathRecord) -> bool
 }
 
 /// Returns whether `value` is as asked, if the request gives selector and number of `field` (`bit` and the next).
-fn suits(mask: u64, bit: u32, field: u8, value: u8) -> bool
+pub(crate) fn suits(mask: u64, bit: u32, field: u8, value: u8) -> bool
     requires { bit < 63 }
     ensures { result ≡ suits (λ n. n) mask bit field value }
 {
     !gives_both(mask, bit) || is_selected(field, u16::from(field % 64), u16::from(value), value)
 }
 
-/// Returns whether the rate with the number `value` is as the request asks.
-fn suits_rate(mask: u64, field: u8, value: u8) -> bool
-    ensures { result ≡ suits rate_of_number mask RATE field value }
+/// Returns whether the rate with the number `value` is as asked, if the request gives selector and number of `field`.
+pub(crate) fn suits_rate(mask: u64, bit: u32, field: u8, value: u8) -> bool
+    requires { bit < 63 }
+    ensures { result ≡ suits rate_of_number mask bit field value }
 {
-    !gives_both(mask, RATE)
+    !gives_both(mask, bit)
         || is_selected(
             field,
             rate_of_number(field % 64),

@@ -1,7 +1,7 @@
 ghost use Rattle.std.specs.Prelude.{◌≡◌};
 ghost use Rattle.sa_answers.specs.Reply.{refusal_status};
 
-use sa_bytes::{NodeRecord, PathRecord, PortInfoRecord, SaStatus};
+use sa_bytes::{MemberRecord, NodeRecord, PathRecord, PortInfoRecord, SaStatus};
 
 /// Why a request is refused.
 #[derive(Clone, Copy, Debug, PartialEq, Eq)]
@@ -12,8 +12,13 @@ pub enum SaRefusal {
     NoRecords,
     /// More than one record is as a request for one asks.
     TooManyRecords,
-    /// The request names only one end of the path, or none, or no end port whose ports it asks for.
+    /// The request names only one end of the path, or none, or no end port whose ports it asks for, or it lacks what a
+    /// group needs.
     InsufficientComponents,
+    /// The GID of a group is no multicast GID, or that of a port is not that of an adapter in the plan.
+    InvalidGid,
+    /// The group cannot be as the request asks.
+    InvalidRequest,
 }
 
 impl SaRefusal {
@@ -26,6 +31,8 @@ impl SaRefusal {
             SaRefusal::NoRecords => SaStatus::NO_RECORDS,
             SaRefusal::TooManyRecords => SaStatus::TOO_MANY_RECORDS,
             SaRefusal::InsufficientComponents => SaStatus::INSUFFICIENT_COMPONENTS,
+            SaRefusal::InvalidGid => SaStatus::INVALID_GID,
+            SaRefusal::InvalidRequest => SaStatus::INVALID_REQUEST,
         }
     }
 }
@@ -39,6 +46,7 @@ pub enum Reply {
     Path(PathRecord),
     Node(NodeRecord),
     Port(PortInfoRecord),
+    Member(MemberRecord),
     /// A table without a record.
     Empty,
 }

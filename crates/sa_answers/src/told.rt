@@ -4,7 +4,7 @@ use smp_bytes::Guid;
 use sweep::Sweep;
 
 /// What subnet administration tells of: the facts, the plan that was written, the sweep that kept the PortInfo of
-/// ports, and the manager.
+/// ports, the manager, and whether there is a multicast tree.
 #[derive(Drop)]
 pub struct Told<'t> {
     pub store: &'t Store,
@@ -12,4 +12,6 @@ pub struct Told<'t> {
     pub sweep: &'t Sweep,
     /// The port GUID of the manager.
     pub own: Guid,
+    /// Whether the manager also writes the multicast tree.
+    pub multicast: bool,
 }

@@ -11,8 +11,9 @@ use Rattle.smp_bytes.proofs.FieldLaws.{is_apart_from, length-with_bytes, length-
 use Rattle.smp_bytes.proofs.OffsetLaws.{bytes_in-with_bytes}
 use Rattle.attr_codec.specs.RoundTrip.{number_in-image}
 use Rattle.sa_bytes.specs.Answer.{answer_entries, sa_answer}
+use Rattle.sa_bytes.specs.MemberRecord.{member_entries}
 use Rattle.sa_bytes.specs.PathRecord.{path_entries}
-use Rattle.sa_bytes.specs.ReadBack.{PathReadsBack, SaAnswerReadsBack}
+use Rattle.sa_bytes.specs.ReadBack.{MemberReadsBack, PathReadsBack, SaAnswerReadsBack}
 use Rattle.sa_bytes.specs.SaPacket.{component_mask, sm_key}
 
 pub path_back : PathReadsBack
@@ -35,6 +36,26 @@ path_back path fits =
       rate = number_in-image es fits 13 _ refl refl j;
       packet_life_time = number_in-image es fits 14 _ refl refl j;
       preference = number_in-image es fits 15 _ refl refl j;
+    }
+
+pub member_back : MemberReadsBack
+member_back member fits =
+    let es = member_entries member in
+    λ j. record {
+      mgid_high = number_in-image es fits 0 _ refl refl j;
+      mgid_low = number_in-image es fits 1 _ refl refl j;
+      port_prefix = number_in-image es fits 2 _ refl refl j;
+      port_guid = number_in-image es fits 3 _ refl refl j;
+      q_key = number_in-image es fits 4 _ refl refl j;
+      mlid = number_in-image es fits 5 _ refl refl j;
+      mtu = number_in-image es fits 6 _ refl refl j;
+      traffic_class = number_in-image es fits 7 _ refl refl j;
+      p_key = number_in-image es fits 8 _ refl refl j;
+      rate = number_in-image es fits 9 _ refl refl j;
+      packet_life_time = number_in-image es fits 10 _ refl refl j;
+      sl_flow_and_hops = number_in-image es fits 11 _ refl refl j;
+      scope_and_state = number_in-image es fits 12 _ refl refl j;
+      proxy_join = number_in-image es fits 13 _ refl refl j;
     }
 
 -- the method of an answer is a byte with the R bit

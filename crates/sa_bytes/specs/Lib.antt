@@ -1,5 +1,6 @@
 pub mod Answer
 pub mod ClassPortInfo
+pub mod MemberRecord
 pub mod NodeRecord
 pub mod Numbers
 pub mod PathRecord

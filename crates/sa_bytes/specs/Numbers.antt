@@ -22,6 +22,10 @@ sa_set = 0x02
 abbrev pub sa_get_table : ℕ
 sa_get_table = 0x12
 
+-- the method Delete
+abbrev pub sa_delete : ℕ
+sa_delete = 0x15
+
 -- the method GetResp, the answer to Get and to Set
 abbrev pub sa_get_resp : ℕ
 sa_get_resp = 0x81
@@ -42,6 +46,10 @@ port_info_record = 0x0012
 abbrev pub path_record : ℕ
 path_record = 0x0035
 
+-- the attribute MCMemberRecord
+abbrev pub member_record : ℕ
+member_record = 0x0038
+
 -- the status of a request that was done
 abbrev pub sa_done : ℕ
 sa_done = 0x0000
@@ -50,6 +58,10 @@ sa_done = 0x0000
 abbrev pub not_supported : ℕ
 not_supported = 0x000C
 
+-- the status of a request with a component that cannot be
+abbrev pub invalid_request : ℕ
+invalid_request = 0x0200
+
 -- the status of a request to which no record answers
 abbrev pub no_records : ℕ
 no_records = 0x0300
@@ -57,6 +69,10 @@ no_records = 0x0300
 -- the status of a request for one record to which more than one answers
 abbrev pub too_many_records : ℕ
 too_many_records = 0x0400
+
+-- the status of a request with a GID that it cannot have
+abbrev pub invalid_gid : ℕ
+invalid_gid = 0x0500
 
 -- the status of a request that lacks components
 abbrev pub insufficient_components : ℕ

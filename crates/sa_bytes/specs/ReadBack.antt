@@ -7,9 +7,11 @@ use Rattle.sa_bytes.specs.Numbers.{sa_class, sa_version}
 use Rattle.sa_bytes.specs.SaPacket.{attribute_offset, component_mask, payload_length, record_data, rmpp_kind, segment_number, sm_key}
 use Rattle.attr_codec.specs.NodeInfo.{node_info_bytes}
 use Rattle.sa_bytes.specs.Answer.{answering, kind_of, sa_answer, segment_of}
+use Rattle.sa_bytes.specs.MemberRecord.{FitsMemberRecord, member_record_bytes, member_record_in}
 use Rattle.sa_bytes.specs.NodeRecord.{node_info_data, node_lid, node_record_bytes}
 use Rattle.sa_bytes.specs.PathRecord.{FitsPathRecord, path_record_bytes, path_record_in}
 use Rattle.sa_bytes.specs.PortInfoRecord.{port_info_data, port_info_record_bytes, port_lid, port_number}
+use Rattle.sa_bytes.specs.declared.member_record.MemberRecord.{MemberRecord}
 use Rattle.sa_bytes.specs.declared.node_record.NodeRecord.{NodeRecord}
 use Rattle.sa_bytes.specs.declared.port_info_record.PortInfoRecord.{PortInfoRecord}
 use Rattle.sa_bytes.specs.declared.path_record.PathRecord.{PathRecord}
@@ -48,6 +50,11 @@ SaAnswerReadsBack =
 -- a path whose numbers fit in their fields is read back from the bytes that spell it
 abbrev pub PathReadsBack : Type 0
 PathReadsBack = (path : PathRecord) → FitsPathRecord path → path_record_in (path_record_bytes path) ≡ path
+
+-- a membership whose numbers fit in their fields is read back from the bytes that spell it
+abbrev pub MemberReadsBack : Type 0
+MemberReadsBack =
+    (member : MemberRecord) → FitsMemberRecord member → member_record_in (member_record_bytes member) ≡ member
 
 -- the record of a node has its LID, if that fits, and NodeInfo
 abbrev pub NodeReadsBack : Type 0

@@ -11,6 +11,8 @@ impl SaMethod {
     /// A request for all records that are as it asks.
     pub const GET_TABLE: SaMethod = SaMethod(0x12);
 
+    pub const DELETE: SaMethod = SaMethod(0x15);
+
     /// The answer to a Get or a Set.
     pub const GET_RESP: SaMethod = SaMethod(0x81);
 }
@@ -27,6 +29,8 @@ impl SaAttributeId {
     pub const PORT_INFO_RECORD: SaAttributeId = SaAttributeId(0x0012);
 
     pub const PATH_RECORD: SaAttributeId = SaAttributeId(0x0035);
+
+    pub const MEMBER_RECORD: SaAttributeId = SaAttributeId(0x0038);
 }
 
 /// The outcome of a request.
@@ -38,11 +42,17 @@ impl SaStatus {
 
     pub const METHOD_AND_ATTRIBUTE_NOT_SUPPORTED: SaStatus = SaStatus(0x000C);
 
+    /// A component of the request cannot be.
+    pub const INVALID_REQUEST: SaStatus = SaStatus(0x0200);
+
     /// No record is as the request asks.
     pub const NO_RECORDS: SaStatus = SaStatus(0x0300);
 
     /// More than one record is as a request for one asks.
     pub const TOO_MANY_RECORDS: SaStatus = SaStatus(0x0400);
+
+    /// The request has a GID that it cannot have.
+    pub const INVALID_GID: SaStatus = SaStatus(0x0500);
 
     /// The component mask lacks components that the request needs.
     pub const INSUFFICIENT_COMPONENTS: SaStatus = SaStatus(0x0600);
