@@ -10,7 +10,7 @@ use Rattle.sa_answers.specs.Told.{Told}
 use Rattle.acting_manager.specs.Administration.{told_by}
 
 pub told_is : (answer : Told → List ℕ) (m : Manager) (o : Option Sweep) (k : Option PlanValue) (s : Sweep) (plan : PlanValue) → o ≡ Some s → k ≡ Some plan
-    → option_map answer (told_by m o k) ≡ Some (answer (record { cells = cells_of m.store; plan = plan; images = s.images.ports; own = m.standing.guid }))
+    → option_map answer (told_by m o k) ≡ Some (answer (record { cells = cells_of m.store; plan = plan; images = s.images.ports; own = m.standing.guid; multicast = m.planning.multicast }))
 told_is answer m o k s plan e h =
     ap (λ (x : Option Sweep). option_map answer (told_by m x k)) e ∙ ap (λ (x : Option PlanValue). option_map answer (told_by m (Some s) x)) h
 

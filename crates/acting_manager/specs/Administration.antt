@@ -22,11 +22,17 @@ stands a = is_in Master a.manager.standing && (a.policy.written.stands && is_wri
 abbrev pub standing_sweep : Acting → Option Sweep
 standing_sweep a = if stands a && is_whole a.manager then swept_of a.manager.sweep else None
 
--- what is told by the facts of a manager, its last sweep if that is done, and the plan of its last writing, if there is
--- one
+-- what is told by the facts of a manager, its last sweep if that is done, the plan of its last writing, if there is one,
+-- and whether the manager writes the multicast tree
 abbrev pub told_by : Manager → Option Sweep → Option PlanValue → Option Told
 told_by m (Some s) (Some plan) =
-    Some (record { cells = cells_of m.store; plan = plan; images = s.images.ports; own = m.standing.guid })
+    Some (record {
+      cells = cells_of m.store;
+      plan = plan;
+      images = s.images.ports;
+      own = m.standing.guid;
+      multicast = m.planning.multicast;
+    })
 told_by m s plan = None
 
 -- what is told: nothing if the manager is not master, if the plan of its last writing is not written, if another manager

@@ -74,6 +74,7 @@ impl ActingManager {
             plan,
             sweep,
             own: self.manager.info().guid,
+            multicast: self.manager.multicast(),
         };
         Some(answer_of(&told, request))
     }

@@ -6,6 +6,7 @@ pub mod Gets
 pub mod HeldPaths
 pub mod HeldWays
 pub mod Least
+pub mod Members
 pub mod Records
 pub mod Replies
 pub mod SomePath

@@ -3,6 +3,7 @@ pub mod AnsweredRequests
 pub mod Bound
 pub mod Ends
 pub mod PathLaws
+pub mod MemberLaws
 pub mod MemberReply
 pub mod NodeReply
 pub mod PathReply

@@ -1,6 +1,7 @@
 //! The laws of what subnet administration tells.
 ghost use Rattle.sa_answers.specs.AnswerLaws.{AnswersAreTheRequests, DoneIfTold};
 ghost use Rattle.sa_answers.specs.AnsweredRequests.{PathsAreTold, SomePathIsTold};
+ghost use Rattle.sa_answers.specs.MemberLaws.{BroadcastIsJoined, JoinedPortsAreAdapters};
 ghost use Rattle.sa_answers.specs.PathLaws.{PathsToldAreHeld};
 ghost use Rattle.sa_answers.specs.RecordLaws.{NodesAreTold, NodesToldAreThePlans, PortsAreTold, PortsToldAreThePlans};
 
@@ -58,4 +59,17 @@ pub fn ports_told_are_the_plans()
 /// answered with that port. A request for the port of an adapter may leave out the number.
 pub fn ports_are_told()
     ensures { PortsAreTold }
+{}
+
+/// A port that is told that it joined a multicast group is a port of an adapter that the plan gives a LID, and the
+/// manager writes the multicast tree, whose LID it is told.
+pub fn joined_ports_are_adapters()
+    ensures { JoinedPortsAreAdapters }
+{}
+
+/// If the manager writes the multicast tree, a request for the broadcast group by MGID, PortGID, P_Key and JoinState, of
+/// an adapter port that the plan gives a LID, is answered with the membership that it asks for.
+#[tactic(auto, using(crate::proofs::Members::broadcast_is_joined))]
+pub fn broadcast_is_joined()
+    ensures { BroadcastIsJoined }
 {}

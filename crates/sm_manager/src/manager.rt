@@ -203,6 +203,13 @@ impl Manager {
         &self.store
     }
 
+    /// Returns whether the manager also writes the multicast tree.
+    pub fn multicast(&self) -> bool
+        ensures { result ≡ self.now.planning.multicast }
+    {
+        self.planning.multicast
+    }
+
     /// Returns the SMInfo that the manager reports.
     pub fn info(&self) -> SmInfo
         ensures { result ≡ info_of self.now.standing }

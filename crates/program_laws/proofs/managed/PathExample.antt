@@ -45,7 +45,7 @@ told =
 -- what is told, if all that this takes is so
 told_so : (a : Acting) (s : Sweep) (p : PlanValue) → is_in Master a.manager.standing ≡ true → a.policy.written.stands ≡ true
     → is_written a.manager ≡ true → swept_of a.manager.sweep ≡ Some s → a.kept ≡ Some p
-    → told_of a ≡ Some (record { cells = cells_of a.manager.store; plan = p; images = s.images.ports; own = a.manager.standing.guid })
+    → told_of a ≡ Some (record { cells = cells_of a.manager.store; plan = p; images = s.images.ports; own = a.manager.standing.guid; multicast = a.manager.planning.multicast })
 told_so a s p master stands is_done swept kept i =
     cond (master i && (stands i && is_done i)) (told_by a.manager (swept i) (kept i)) None
 

@@ -16,6 +16,6 @@ returns c =
     let plan = c.in-Some-kept.plan in
     let swept : swept_of m.sweep ≡ Some s = search rules in
     let kept : (value_of c.args.self.now).kept ≡ Some plan = search rules in
-    let answered : c.answer_of.result ≡ answer_to (record { cells = cells_of m.store; plan = plan; images = s.images.ports; own = m.standing.guid }) request =
-    c.answer_of.ensures ∙ (λ i. answer_to (record { cells = cells_of (c.store.ensures i); plan = plan; images = s.images.ports; own = (ap (λ (x : SmInfo). x.guid) c.info.ensures) i }) request) in
+    let answered : c.answer_of.result ≡ answer_to (record { cells = cells_of m.store; plan = plan; images = s.images.ports; own = m.standing.guid; multicast = m.planning.multicast }) request =
+    c.answer_of.ensures ∙ (λ i. answer_to (record { cells = cells_of (c.store.ensures i); plan = plan; images = s.images.ports; own = (ap (λ (x : SmInfo). x.guid) c.info.ensures) i; multicast = c.multicast.ensures i }) request) in
     ap (λ (x : List ℕ). Some x) answered ∙ sym (told_is (λ told. answer_to told request) m (swept_of m.sweep) (value_of c.args.self.now).kept s plan swept kept)
