@@ -14,8 +14,8 @@ COMMANDS = {
     "audit": "--all --max-load --loads --way --lanes",
     "next": f"{PLANS} --last-order",
     "run": PLANS,
-    "serve": f"--sm-key {PLANS}",
-    "manage": f"--sm-key {PLANS} --every --poll --timeout --tries --outstanding --strict --newest",
+    "serve": f"--sm-key --multicast {PLANS}",
+    "manage": f"--sm-key --multicast {PLANS} --every --poll --timeout --tries --outstanding --strict --newest",
     "help": "",
 }
 RULES = "updown spread balance"

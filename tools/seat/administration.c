@@ -9,7 +9,7 @@
 
 enum { CLASS_VERSION = 2, SA_KEY = 36, OFFSET = 44, RMPP_TYPE = 25, RMPP_FLAGS = 26, NOT_SUPPORTED = 0x000c };
 enum { RMPP_DATA = 1, RMPP_ACTIVE = 1 };
-enum { CLASS_PORT_INFO = 0x01, NODE_RECORD = 0x11, PORT_INFO_RECORD = 0x12, PATH_RECORD = 0x35 };
+enum { CLASS_PORT_INFO = 0x01, NODE_RECORD = 0x11, PORT_INFO_RECORD = 0x12, PATH_RECORD = 0x35, MEMBER_RECORD = 0x38 };
 #define Q_KEY 0x80010000	/* of queue pair 1, to which answers go */
 
 static int agent = -1;
@@ -66,6 +66,8 @@ static int may_be_answered(const uint8_t *packet)
 
 	if (attribute == CLASS_PORT_INFO)
 		return packet[3] == GET;
+	if (attribute == MEMBER_RECORD)
+		return seat.multicast && packet[3] != GET_TRACE_TABLE && packet[3] != GET_MULTI;
 	return (packet[3] == GET || packet[3] == GET_TABLE)
 	       && (attribute == NODE_RECORD || attribute == PORT_INFO_RECORD || attribute == PATH_RECORD);
 }

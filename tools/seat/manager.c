@@ -100,6 +100,8 @@ void start_manager(uint32_t newest)
 	add_number(words, &count, "--newest", newest, numbers[5], sizeof numbers[5]);
 	if (!seat.partial)
 		words[count++] = "--strict";
+	if (seat.multicast)
+		words[count++] = "--multicast";
 	words[count++] = guid;
 	words[count++] = port;
 	words[count++] = priority;

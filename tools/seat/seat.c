@@ -26,9 +26,10 @@ static volatile sig_atomic_t ended_by, hung_up;
 static const char usage_text[] =
 " [OPTION]...\n"
 "Runs `ibsm manage` as subnet manager at a port: carries its packets, and tells it the time.\n"
-"Of subnet administration it has single records: while it is master, no host has more, whatever else runs, so IPoIB and\n"
-"most of rdma_cm do not work. Only OpenSM as master, with `send` or `round --direct`, keeps it. A whole plan is written\n"
-"at once, not by steps: meanwhile packets that arrived before can be lost or go round.\n"
+"Of subnet administration it has single records, and joins with --multicast: while it is master, no host has more,\n"
+"whatever else runs, so without --multicast IPoIB and most of rdma_cm do not work. Only OpenSM as master, with `send` or\n"
+"`round --direct`, keeps it. A whole plan is written at once, not by steps: meanwhile packets that arrived before can be\n"
+"lost or go round.\n"
 "\n"
 "  -p, --priority N       of this manager, 0 to 15 (0)\n"
 "      --sm-key HEX       its SM_Key, 1 to 16 hex digits: that of the other managers, and not 0 beside OpenSM (1, as\n"
@@ -37,6 +38,7 @@ static const char usage_text[] =
 "  -R, --routing RULE     the rule of routing, as of `ibsm plan` (spread)\n"
 "  -f, --roots FILE       with spread: the switches from which it counts distances\n"
 "  -o, --order FILE       with spread or balance: the order by which it grows\n"
+"      --multicast        also write one multicast tree with all adapters in it, and answer hosts that join groups\n"
 "  -i, --ibsm PROGRAM     the program; else the one beside this one, that of this checkout, or ibsm on the path\n"
 "  -s, --sweep S          as master, a sweep each S seconds, 1 to 60 (10)\n"
 "      --heavy S          as master, a sweep each S seconds, 1 to 3600, and each --sweep seconds a light one, which asks\n"
@@ -109,12 +111,12 @@ static void catch_signals(void)
 	signal(SIGXFSZ, SIG_IGN);
 }
 
-enum { PARTIAL = 256, SM_KEY, ONCE, HEAVY, CHILD_MEMORY, CHILD_TIME };
+enum { PARTIAL = 256, MULTICAST, SM_KEY, ONCE, HEAVY, CHILD_MEMORY, CHILD_TIME };
 
 static const struct option words[] = {
 	{ "priority", 1, 0, 'p' }, { "sm-key", 1, 0, SM_KEY }, { "lmc", 1, 0, 'l' }, { "routing", 1, 0, 'R' },
 	{ "roots", 1, 0, 'f' },
-	{ "order", 1, 0, 'o' }, { "ibsm", 1, 0, 'i' }, { "sweep", 1, 0, 's' }, { "heavy", 1, 0, HEAVY },
+	{ "order", 1, 0, 'o' }, { "multicast", 0, 0, MULTICAST }, { "ibsm", 1, 0, 'i' }, { "sweep", 1, 0, 's' }, { "heavy", 1, 0, HEAVY },
 	{ "poll", 1, 0, 'm' },
 	{ "after", 1, 0, 'a' }, { "dry-run", 0, 0, 'd' }, { "status", 1, 0, 'S' }, { "names", 1, 0, 'N' },
 	{ "partial", 0, 0, PARTIAL }, { "once", 0, 0, ONCE },
@@ -155,6 +157,7 @@ static void take_option(int letter)
 	case 'd': seat.dry_run = 1; break;
 	case 'S': seat.status_file = optarg; break;
 	case 'N': seat.names_file = optarg; break;
+	case MULTICAST: seat.multicast = 1; break;
 	case PARTIAL: seat.partial = 1; break;
 	case ONCE: seat.once = 1; break;
 	case CHILD_MEMORY: seat.child_mbytes = number_in(optarg, "--child-memory", 1, 1 << 30); break;

@@ -14,7 +14,7 @@ enum administration_method { GET_TABLE = 0x12, GET_TRACE_TABLE = 0x13, GET_MULTI
 
 struct seat_options {
 	char *program, *status_file, *names_file, *sm_key, *lmc, *routing, *roots, *order;
-	int priority, sweep_seconds, heavy_seconds, poll_ms, dry_run, partial, once;	/* no heavy_seconds: 0 */
+	int priority, sweep_seconds, heavy_seconds, poll_ms, dry_run, partial, multicast, once;	/* no heavy_seconds: 0 */
 	int child_mbytes, child_seconds;	/* what the process may take, 0 for as much as it likes */
 };
 

@@ -73,8 +73,8 @@ const SERVE_END: &str =
 
 const MANAGE_END: &str =
     "It decides by itself when to sweep, to plan and to write, and when to yield to another manager. \
-     Of subnet administration it tells single records; it has no multicast groups, and knows no partitions and \
-     no lanes.\n\n\
+     Of subnet administration it tells single records, and answers hosts that join multicast groups if it has \
+     their tree; it knows no partitions and no lanes.\n\n\
      Exit status:\n  0  done\n  2  the command line is wrong\n  3  a file is refused\n  \
      4  a file or standard input cannot be opened or read, or the output takes no more\n  \
      5  out of memory\n\nExample:\n  ibsm manage --every 10000 0000000000000101 1 5";
