@@ -67,7 +67,7 @@ module _ (position : ℕ → ℕ) where
       either None p = (p, refl)
       either (Some x) p = (x, refl)
 
-given_is : (o : Option ℕ) (p : ℕ) → is_given o p ≡ true → o ≡ Some p
+pub given_is : (o : Option ℕ) (p : ℕ) → is_given o p ≡ true → o ≡ Some p
 given_is None p h = absurd (cc)
 given_is (Some q) p h = ap Some (eqb-true q p h)
 

@@ -1,42 +1,26 @@
 -- Where masks are the tree of a rule, each adapter of the sender's component gets a copy.
-use Rattle.std.proofs.Common.{◌≡◌, ◌≢◌, ◌≤◌, ◌<◌, ◌+◌, ◌-◌, ℕ, suc, List, refl, sym, ap, ◌∙◌, subst, arith, Bool, true, false, ◌||◌, Option}
-use Rattle.std.proofs.lemmas.Bool.{eq-eqb}
-use Rattle.std.proofs.lemmas.List.FromFn.{get_or-range_with_len, length-range_with_len}
+use Rattle.std.proofs.Common.{◌≡◌, ◌≢◌, ◌<◌, ◌+◌, ℕ, suc, List, sym, ◌∙◌, subst, arith, Bool, true, false, Option}
 use Rattle.std.proofs.lemmas.Option.{same_Some}
-use Rattle.std.specs.Prelude.{Some, Contains, not}
-use Rattle.std.specs.List.{range_with_len}
+use Rattle.std.specs.Prelude.{Some, Contains}
 use Rattle.fact_store.specs.View.{Facts, cells_of}
-use Rattle.smp_bytes.proofs.Members.{contains_filter}
 use Rattle.port_graph.specs.Walks.{Walk}
-use Rattle.port_graph.proofs.Lists.{contains_mapped}
 use Rattle.port_graph.proofs.Paths.{walk_reverse}
-use Rattle.subnet_view.specs.Reading.{Cells, is_usable, port_count_of, switches}
+use Rattle.subnet_view.specs.Reading.{Cells, is_usable, switches}
 use Rattle.subnet_view.specs.Wires.{across}
 use Rattle.subnet_view.specs.SwitchEdges.{SwitchEdges}
 use Rattle.subnet_view.specs.Graph.{edges_at, graph_of, neighbors}
 use Rattle.subnet_view.specs.GraphLaws.{IsGraph, IsSwitch}
 use Rattle.subnet_view.proofs.EdgeLists.{has_end}
-use Rattle.subnet_view.proofs.Graphs.{edge_from_switch, edge_is_wire, graph_law, wire_end}
+use Rattle.subnet_view.proofs.Graphs.{edge_from_switch, edge_is_wire, graph_law}
 use Rattle.subnet_view.proofs.GraphSwitches.{graph_guids, switch_usable, usable_switch}
-use Rattle.subnet_view.proofs.WireEnds.{linked}
 use Rattle.plan_order.specs.PlanOrder.{positions_by}
 use Rattle.multicast_tree.specs.Copies.{CopyGoes, Copying}
-use Rattle.multicast_tree.specs.Tree.{copying_in, is_below, is_given, is_tree_port, parent_port, position_in, tree_at, tree_by, tree_ports}
+use Rattle.multicast_tree.specs.Tree.{copying_in, is_tree_port, parent_port, position_in, tree_by}
 use Rattle.multicast_tree.specs.TreeLaws.{EachGetsACopy, IsWhole}
 use Rattle.multicast_tree.proofs.Ordered.{AreOrdered, rules_order}
 use Rattle.multicast_tree.proofs.Reached.{IsWholeForest, no_side, reach}
+use Rattle.multicast_tree.proofs.TreePorts.{down_passes, listed, out_passes, up_passes}
 use Rattle.multicast_tree.proofs.Trees.{IsSender, attached_is, first_is, has_first, parent_up, tree_is_forest}
-
--- the numbers from 1 on, so many
-in_range : (n p : ℕ) → 1 ≤ p → p ≤ n → Contains (range_with_len 1 n) p
-in_range n p l h = (p - 1, omega (arith, length-range_with_len 1 n), get_or-range_with_len 1 n (p - 1) p (omega arith) ∙ omega arith)
-
-or_right : (a b : Bool) → b ≡ true → (a || b) ≡ true
-or_right true b e = refl
-or_right false b e = e
-
-or_left : (a b : Bool) → a ≡ true → (a || b) ≡ true
-or_left a b e = ap (λ t. t || b) e
 
 module _ (facts : Facts) (position : ℕ → ℕ) (group : ℕ → ℕ → Bool) (ordered : AreOrdered (graph_of (cells_of facts)) position)
     (whole : IsWhole (tree_by (cells_of facts) (parent_port (graph_of (cells_of facts)) position)) group) where
@@ -60,30 +44,16 @@ module _ (facts : Facts) (position : ℕ → ℕ) (group : ℕ → ℕ → Bool)
 
   -- a port with a wire is in the masks if it is in the tree
   has_port : (g p : ℕ) (q : ℕ × ℕ) → is_usable cells g ≡ true → across cells g p ≡ Some q → is_tree_port cells parent g p ≡ true → group g p ≡ true
-  has_port g p q u w is =
-      let port = (wire_end cells g p (linked cells g p q w).here).is_port in
-      (whole g p).1 (
-        tree_ports cells parent g,
-        contains_mapped (tree_at cells parent) (switches cells) g (usable_switch facts g u),
-        contains_filter (is_tree_port cells parent g) (range_with_len 1 (port_count_of cells g)) p (in_range (port_count_of cells g) p port.0 port.1) is,
-      )
+  has_port g p q u w is = (whole g p).1 (listed cells parent g p q (usable_switch facts g u) w is)
 
   up_there : (g p : ℕ) → is_usable cells g ≡ true → parent g ≡ Some p → group g p ≡ true
-  up_there g p u e =
-      let i = parent_up cells position g p e in
-      has_port g p (i.parent, i.port) u i.wire (or_left (is_given (parent g) p) (is_below cells parent (across cells g p)) (ap (λ o. is_given o p) e ∙ eq-eqb p p refl))
+  up_there g p u e = let i = parent_up cells position g p e in has_port g p (i.parent, i.port) u i.wire (up_passes cells parent g p e)
 
   down_there : (g p h q : ℕ) → is_usable cells g ≡ true → across cells g p ≡ Some (h, q) → parent h ≡ Some q → group g p ≡ true
-  down_there g p h q u w e =
-      has_port g p (h, q) u w
-      (or_right (is_given (parent g) p) (is_below cells parent (across cells g p))
-      (ap (is_below cells parent) w ∙ or_right (not (is_usable cells h)) (is_given (parent h) q) (ap (λ o. is_given o q) e ∙ eq-eqb q q refl)))
+  down_there g p h q u w e = has_port g p (h, q) u w (down_passes cells parent g p h q w e)
 
   out_there : (g p h q : ℕ) → is_usable cells g ≡ true → across cells g p ≡ Some (h, q) → is_usable cells h ≡ false → group g p ≡ true
-  out_there g p h q u w leaf =
-      has_port g p (h, q) u w
-      (or_right (is_given (parent g) p) (is_below cells parent (across cells g p))
-      (ap (is_below cells parent) w ∙ or_left (not (is_usable cells h)) (is_given (parent h) q) (ap not leaf)))
+  out_there g p h q u w leaf = has_port g p (h, q) u w (out_passes cells parent g p h q w leaf)
 
   to_switch : (g p h q : ℕ) → parent g ≡ Some p → across cells g p ≡ Some (h, q) → is_usable cells h ≡ true
   to_switch g p h q e w =

@@ -4,7 +4,7 @@ use Rattle.std.specs.Prelude.{◌≡◌, ◌<◌, ◌≤◌, ◌⊎◌, true, �
 use Rattle.multicast_tree.specs.Copies.{Copying, CopyGoes, GoesUpThenDown}
 
 -- the group of `by` is within the forest in which the wire in the port `parent g` leads from `g` to its parent. Wires
--- lead both ways, parents have a lesser `position`, and each port of the group from a switch to a switch leads from a
+-- lead both ways, parents have a lesser position, and each port of the group from a switch to a switch leads from a
 -- switch to its parent, or back
 pub record IsWithinForest (by : Copying) (parent : ℕ → Option ℕ) (position : ℕ → ℕ) : Type 0 where
   pub both_ways : (g p h q : ℕ) → by.across g p ≡ Some (h, q) → by.across h q ≡ Some (g, p)
@@ -26,7 +26,7 @@ FewSwitchesPassed = (by : Copying) (parent : ℕ → Option ℕ) (position : ℕ
     → (switches : List ℕ) → ((g p : ℕ) → by.is_switch g ≡ true → by.group g p ≡ true → Contains switches g)
     → (at end : ℕ × ℕ) (ports : List ℕ) → CopyGoes by at ports end → length ports ≤ length switches
 
--- if a group is within a forest, each copy goes up and then down by `position`
+-- if a group is within a forest, each copy goes up and then down by their positions
 abbrev pub UpThenDown : Type 0
 UpThenDown = (by : Copying) (parent : ℕ → Option ℕ) (position : ℕ → ℕ) → IsWithinForest by parent position
     → (at end : ℕ × ℕ) (ports : List ℕ) → CopyGoes by at ports end → GoesUpThenDown by position at ports

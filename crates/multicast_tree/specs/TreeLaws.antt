@@ -51,7 +51,8 @@ NoneToTheSender = (facts : Facts) (positions : List ℕ) (group : ℕ → ℕ �
 -- if the masks of a group have exactly the ports of the tree of a rule, a copy of what an adapter port sends comes to
 -- each other adapter port that is attached to a usable switch in the sender's component
 abbrev pub EachGetsACopy : Type 0
-EachGetsACopy = (rule : RuleValue) (facts : Facts) (group : ℕ → ℕ → Bool) → IsWhole (tree_of rule (cells_of facts)) group
+EachGetsACopy = (rule : RuleValue) (facts : Facts) (group : ℕ → ℕ → Bool)
+    → IsWhole (tree_of rule (cells_of facts)) group
     → (sender receiver at there : ℕ × ℕ) (n : ℕ) → sender ≢ receiver
     → attached (cells_of facts) sender.0 sender.1 ≡ Some at
     → attached (cells_of facts) receiver.0 receiver.1 ≡ Some there
