@@ -8,3 +8,4 @@ pub mod Ordered
 pub mod Whole
 pub mod InWords
 pub mod TreePorts
+pub mod ChannelTurns

@@ -1,8 +1,8 @@
 //! The laws of the tree, and of the copies of multicast packets.
 ghost use Rattle.multicast_tree.specs.Forest.{EachPortOnce, FewSwitchesPassed, UpThenDown};
 ghost use Rattle.multicast_tree.specs.TreeInWords.{ParentLaw, TreeLaw};
-ghost use Rattle.multicast_tree.specs.TreeLaws.{EachGetsACopy, NoLongWay, NoPortTwice, NoUpAfterDown};
-ghost use Rattle.multicast_tree.specs.TreeLaws.{NoneToTheSender};
+ghost use Rattle.multicast_tree.specs.TreeLaws.{CopyTurnsRise, EachGetsACopy, NoLongWay, NoPortTwice};
+ghost use Rattle.multicast_tree.specs.TreeLaws.{NoUpAfterDown, NoneToTheSender, OneWithoutParent};
 
 /// The parent of a switch is the first of its neighbors in the order, if that neighbor is before the switch. The port
 /// to the parent is the least that leads there. A switch with no neighbor before it has no parent.
@@ -14,6 +14,11 @@ pub fn parents_are_in_words()
 /// parent is the other end, or to an adapter.
 pub fn the_tree_is_in_words()
     ensures { TreeLaw }
+{}
+
+/// In the tree of a rule, of the usable switches of one component at most one has no parent.
+pub fn one_switch_has_no_parent()
+    ensures { OneWithoutParent }
 {}
 
 /// If the masks of a group are within a forest (`IsWithinForest`), no two copies of one packet arrive at the same port.
@@ -58,4 +63,10 @@ pub fn the_sender_gets_no_copy()
 /// port in its component.
 pub fn each_adapter_gets_a_copy()
     ensures { EachGetsACopy }
+{}
+
+/// If the masks of a group are within the tree of a rule, and a copy goes from one switch to a second and on to a third,
+/// the rule's number of the second channel is greater than that of the first.
+pub fn channels_rise_along_copies()
+    ensures { CopyTurnsRise }
 {}
