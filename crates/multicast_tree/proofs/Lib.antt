@@ -9,3 +9,4 @@ pub mod Whole
 pub mod InWords
 pub mod TreePorts
 pub mod ChannelTurns
+pub mod Masks

@@ -1,9 +1,9 @@
 -- The tree of an order of switches. The parent of a switch is the first of its neighbors before it in the order. The
 -- tree has the wires between switches and their parents, and the wires of adapters.
-use Rattle.std.specs.Prelude.{ℕ, Bool, false, List, [], ◌∷◌, map, filter, Contains, Option, None, Some, ◌==◌, ◌||◌}
-use Rattle.std.specs.Prelude.{not, nat_lt, slice_index, slice_index_or, if◌then◌else◌}
+use Rattle.std.specs.Prelude.{ℕ, Bool, false, List, [], ◌∷◌, map, filter, Contains, Option, None, Some, ◌==◌, ◌&&◌}
+use Rattle.std.specs.Prelude.{◌||◌, not, nat_lt, slice_index, slice_index_or, if◌then◌else◌}
 use Rattle.std.specs.Option.{option_map_or, option_or}
-use Rattle.std.specs.List.{range_with_len}
+use Rattle.std.specs.List.{list_any, range_with_len}
 use Rattle.port_graph.specs.declared.edge.Edge.{Edge}
 use Rattle.spread_labels.specs.Orders.{position_of}
 use Rattle.subnet_view.specs.Reading.{Cells, is_usable, port_count_of, switches}
@@ -82,6 +82,10 @@ tree_of rule cells = tree_in cells (positions_by rule cells)
 -- how the packets of a group are copied on the wires of a view
 abbrev pub copying_in : Cells → (ℕ → ℕ → Bool) → Copying
 copying_in cells group = record { across = across cells; is_switch = is_usable cells; group = group }
+
+-- the masks of a tree: whether the tree has port `p` of switch `g`
+abbrev pub masks_of : List TreePorts → ℕ → ℕ → Bool
+masks_of tree g p = list_any (λ x. x.guid == g && list_any (λ q. q == p) x.ports) tree
 
 -- port `p` of switch `g` is in the tree
 abbrev pub InTree : List TreePorts → ℕ → ℕ → Type 0

@@ -9,7 +9,7 @@ use Rattle.subnet_view.specs.Graph.{graph_of, neighbors}
 use Rattle.lft_blocks.specs.Rule.{RuleValue, routing_by}
 use Rattle.plan_order.specs.PlanOrder.{positions_by}
 use Rattle.multicast_tree.specs.Copies.{CopyGoes, GoesUpThenDown, IsCopied}
-use Rattle.multicast_tree.specs.Tree.{InTree, TreePorts, copying_in, parent_port, position_in, tree_in, tree_of}
+use Rattle.multicast_tree.specs.Tree.{InTree, TreePorts, copying_in, masks_of, parent_port, position_in, tree_in, tree_of}
 
 -- each port that the masks of a group have is in the tree
 abbrev pub IsWithin : List TreePorts → (ℕ → ℕ → Bool) → Type 0
@@ -18,6 +18,10 @@ IsWithin tree group = (g p : ℕ) → group g p ≡ true → InTree tree g p
 -- the masks of a group have exactly the ports of the tree
 abbrev pub IsWhole : List TreePorts → (ℕ → ℕ → Bool) → Type 0
 IsWhole tree group = (g p : ℕ) → (group g p ≡ true) ↔ InTree tree g p
+
+-- the masks of a tree have exactly its ports
+abbrev pub MasksAreWhole : Type 0
+MasksAreWhole = (tree : List TreePorts) → IsWhole tree (masks_of tree)
 
 -- for any positions of switches and any group within their tree, two copies of a packet that came in by one port, and
 -- that arrive at one port, go by the same ports. So a packet comes to no port twice, and none goes round

@@ -1,8 +1,8 @@
 //! The laws of the tree, and of the copies of multicast packets.
 ghost use Rattle.multicast_tree.specs.Forest.{EachPortOnce, FewSwitchesPassed, UpThenDown};
 ghost use Rattle.multicast_tree.specs.TreeInWords.{ParentLaw, TreeLaw};
-ghost use Rattle.multicast_tree.specs.TreeLaws.{CopyTurnsRise, EachGetsACopy, NoLongWay, NoPortTwice};
-ghost use Rattle.multicast_tree.specs.TreeLaws.{NoUpAfterDown, NoneToTheSender, OneWithoutParent};
+ghost use Rattle.multicast_tree.specs.TreeLaws.{CopyTurnsRise, EachGetsACopy, MasksAreWhole, NoLongWay};
+ghost use Rattle.multicast_tree.specs.TreeLaws.{NoPortTwice, NoUpAfterDown, NoneToTheSender, OneWithoutParent};
 
 /// The parent of a switch is the first of its neighbors in the order, if that neighbor is before the switch. The port
 /// to the parent is the least that leads there. A switch with no neighbor before it has no parent.
@@ -19,6 +19,11 @@ pub fn the_tree_is_in_words()
 /// In the tree of a rule, of the usable switches of one component at most one has no parent.
 pub fn one_switch_has_no_parent()
     ensures { OneWithoutParent }
+{}
+
+/// The masks of a tree have exactly the ports of the tree.
+pub fn masks_are_whole()
+    ensures { MasksAreWhole }
 {}
 
 /// If the masks of a group are within a forest (`IsWithinForest`), no two copies of one packet arrive at the same port.
