@@ -9,7 +9,8 @@ use Rattle.subnet_view.specs.Graph.{graph_of, neighbors}
 use Rattle.lft_blocks.specs.Rule.{RuleValue, routing_by}
 use Rattle.plan_order.specs.PlanOrder.{positions_by}
 use Rattle.multicast_tree.specs.Copies.{CopyGoes, GoesUpThenDown, IsCopied}
-use Rattle.multicast_tree.specs.Tree.{InTree, TreePorts, copying_in, masks_of, parent_port, position_in, tree_in, tree_of}
+use Rattle.multicast_tree.specs.Tree.{InTree, TreePorts, copying_in, masks_of, parent_port, position_in}
+use Rattle.multicast_tree.specs.Tree.{tree_in, tree_of}
 
 -- each port that the masks of a group have is in the tree
 abbrev pub IsWithin : List TreePorts → (ℕ → ℕ → Bool) → Type 0
@@ -31,8 +32,8 @@ NoPortTwice = (facts : Facts) (positions : List ℕ) (group : ℕ → ℕ → Bo
     → CopyGoes (copying_in (cells_of facts) group) at ports end
     → CopyGoes (copying_in (cells_of facts) group) at others end → ports ≡ others
 
--- for any positions of switches and any group within their tree, a copy of a packet that came in at a usable switch
--- passes at most as many switches as there are usable ones
+-- for any positions of switches and any group within their tree, a copy of a packet passes at most as many switches as
+-- there are usable ones
 abbrev pub NoLongWay : Type 0
 NoLongWay = (facts : Facts) (positions : List ℕ) (group : ℕ → ℕ → Bool)
     → IsWithin (tree_in (cells_of facts) positions) group → (at end : ℕ × ℕ) (ports : List ℕ)

@@ -70,7 +70,7 @@ pub fn each_adapter_gets_a_copy()
     ensures { EachGetsACopy }
 {}
 
-/// If the masks of a group are within the tree of a rule, and a copy goes from one switch to a second and on to a third,
+/// If the masks of a group are within the tree of a rule, and a copy goes from a switch to a second and on to a third,
 /// the rule's number of the second channel is greater than that of the first.
 pub fn channels_rise_along_copies()
     ensures { CopyTurnsRise }
