@@ -1,5 +1,5 @@
 //! The laws of the tree, and of the copies of multicast packets.
-ghost use Rattle.multicast_tree.specs.Forest.{EachPortOnce, FewSwitchesPassed, UpThenDown};
+ghost use Rattle.multicast_tree.specs.Forest.{EachEndReached, EachPortOnce, FewSwitchesPassed, UpThenDown};
 ghost use Rattle.multicast_tree.specs.TreeInWords.{ParentLaw, TreeLaw};
 ghost use Rattle.multicast_tree.specs.TreeLaws.{CopyTurnsRise, EachGetsACopy, MasksAreWhole, NoLongWay};
 ghost use Rattle.multicast_tree.specs.TreeLaws.{NoPortTwice, NoUpAfterDown, NoneToTheSender, OneWithoutParent};
@@ -40,6 +40,12 @@ pub fn few_switches_are_passed()
 /// If the masks of a group are within a forest (`IsWithinForest`), each copy goes up and then down.
 pub fn copies_go_up_then_down()
     ensures { UpThenDown }
+{}
+
+/// If the masks of a group are a whole forest (`IsWholeForest`), a copy of what one port sends comes to each other port
+/// that is attached to a switch joined to that of the sender.
+pub fn each_end_is_reached()
+    ensures { EachEndReached }
 {}
 
 /// If the masks of a group are within the tree, no two copies of one packet arrive at the same port, in whatever order
