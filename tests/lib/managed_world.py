@@ -29,9 +29,9 @@ LINGERS = 1000
 SOON = 150
 # The most switches on a way by LIDs.
 FAR = 64
-# At how many lines with nothing but the time, told at one time, a manager must be done: five phases of a writing are
+# At how many lines with nothing but the time, told at one time, a manager must be done: seven phases of a writing are
 # dropped and the writing ends, one line each; then it polls, announces itself and begins a sweep. One is to spare.
-MOST_LINES = 10
+MOST_LINES = 12
 # How many lines in a row with nothing but the time may have no effect: none but those that end a wait.
 MOST_VAIN = 3
 

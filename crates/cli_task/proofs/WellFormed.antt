@@ -6,7 +6,7 @@ use Rattle.clap.specs.declared.parser.matches.ArgMatches.{ArgMatches}
 use Rattle.cli_arguments.specs.WellFormed.{AreNamed, HasItsWords, IsGiven, IsNumberWithin, IsRouting, IsWellFormed, NamesFiles, NamesOrder, NamesPlanning, NamesSeat}
 use Rattle.cli_arguments.specs.WellFormed.{NamesPace, facts, join, plan, order, audit, next, run, serve, manage}
 use Rattle.cli_arguments.specs.WayWord.{is_way, packet_named}
-use Rattle.cli_arguments.specs.Words.{files_named, has_conflict_of, is_guid, is_key, order_rule, word_named}
+use Rattle.cli_arguments.specs.Words.{is_set, files_named, has_conflict_of, is_guid, is_key, order_rule, word_named}
 use Rattle.sm_cli.specs.declared.audit_asked.WayAsked.{WayAsked}
 use Rattle.sm_cli.specs.declared.asked.RuleAsked.{RuleAsked}
 use Rattle.sm_cli.specs.declared.asked.RuleAsked.TheVariants.{UpDown, Spread, SpreadFromRoots, SpreadInOrder, Balance, BalanceInOrder}

@@ -6,3 +6,7 @@ pub mod Trees
 pub mod ParentPorts
 pub mod Ordered
 pub mod Whole
+pub mod InWords
+pub mod TreePorts
+pub mod ChannelTurns
+pub mod Masks

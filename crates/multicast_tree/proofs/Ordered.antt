@@ -51,7 +51,7 @@ module _ (graph : List SwitchEdges) (good : IsGraph graph) where
       omega (arith, less, length-filter (λ x. is_before graph x b) (guids_of graph), length-filter (λ x. is_before graph x a) (guids_of graph))
 
   -- of two switches, the one at the lesser position is before the other
-  is_less : (a b : ℕ) → IsSwitch graph a → rank_position graph b < rank_position graph a → is_before graph b a ≡ true
+  pub is_less : (a b : ℕ) → IsSwitch graph a → rank_position graph b < rank_position graph a → is_before graph b a ≡ true
   is_less a b ha l =
       elim (is_before graph b a) as (λ t. is_before graph b a ≡ t → t ≡ true) [
         | true ↦ λ e. refl
@@ -176,19 +176,35 @@ in_order_is : (graph : List SwitchEdges) (adapters : List ℕ) (order : OrderVal
 unfolding switches_in_order
 in_order_is graph adapters order = refl
 
-pub rules_order : (rule : RuleValue) (facts : Facts) → AreOrdered (graph_of (cells_of facts)) (position_in (switches (cells_of facts)) (positions_by rule (cells_of facts)))
+-- the position of a switch in the order by rank
+pub ranked_position : (facts : Facts) (g : ℕ) → IsSwitch (graph_of (cells_of facts)) g
+    → position_in (switches (cells_of facts)) (positions_by up_and_down (cells_of facts)) g ≡ rank_position (graph_of (cells_of facts)) g
+ranked_position facts g h =
+    let cells = cells_of facts in
+    let graph = graph_of cells in
+    ap (λ (gs : List ℕ). position_in gs (positions_by up_and_down cells) g) (sym (graph_guids cells))
+    ∙ position_value (rank_position graph) (guids_of graph) g h
+
+-- the position of a switch in the order of a rule that spreads
+pub spread_position : (order : OrderValue) (facts : Facts) (g : ℕ) → IsSwitch (graph_of (cells_of facts)) g
+    → position_in (switches (cells_of facts)) (positions_by (spread_in order) (cells_of facts)) g
+    ≡ position (graph_of (cells_of facts)) (keys_by (graph_of (cells_of facts)) (adapters_of (cells_of facts)) order) g
+spread_position order facts g h =
+    let cells = cells_of facts in
+    let graph = graph_of cells in
+    ap (λ (gs : List ℕ). position_in gs (positions_by (spread_in order) cells) g) (sym (graph_guids cells))
+    ∙ position_value (position_of (order_of order cells)) (guids_of graph) g h
+    ∙ ap (λ (vs : List ℕ). position_of vs g) (in_order_is graph (adapters_of cells) order)
+    ∙ position_named graph (keys_by graph (adapters_of cells) order) (graph_law facts) g h
+
+pub rules_order : (rule : RuleValue) (facts : Facts)
+    → AreOrdered (graph_of (cells_of facts)) (position_in (switches (cells_of facts)) (positions_by rule (cells_of facts)))
 rules_order up_and_down facts =
     let cells = cells_of facts in
-    let graph = graph_of cells in
-    subst (λ (gs : List ℕ). AreOrdered graph (position_in gs (positions_by up_and_down cells))) (graph_guids cells)
-    (ordered_alike graph (rank_position graph) (position_in (guids_of graph) (positions_by up_and_down cells)) (graph_law facts)
-    (λ g h. position_value (rank_position graph) (guids_of graph) g h) (ranks_are_ordered graph (graph_law facts)))
+    ordered_alike (graph_of cells) (rank_position (graph_of cells)) (position_in (switches cells) (positions_by up_and_down cells)) (graph_law facts)
+    (ranked_position facts) (ranks_are_ordered (graph_of cells) (graph_law facts))
 rules_order (spread_in order) facts =
     let cells = cells_of facts in
-    let graph = graph_of cells in
-    let keys = keys_by graph (adapters_of cells) order in
-    subst (λ (gs : List ℕ). AreOrdered graph (position_in gs (positions_by (spread_in order) cells))) (graph_guids cells)
-    (ordered_alike graph (position graph keys) (position_in (guids_of graph) (positions_by (spread_in order) cells)) (graph_law facts)
-    (λ g h. position_value (position_of (order_of order cells)) (guids_of graph) g h
-    ∙ ap (λ (vs : List ℕ). position_of vs g) (in_order_is graph (adapters_of cells) order)
-    ∙ position_named graph keys (graph_law facts) g h) (grown_are_ordered graph keys (graph_law facts)))
+    let keys = keys_by (graph_of cells) (adapters_of cells) order in
+    ordered_alike (graph_of cells) (position (graph_of cells) keys) (position_in (switches cells) (positions_by (spread_in order) cells)) (graph_law facts)
+    (spread_position order facts) (grown_are_ordered (graph_of cells) keys (graph_law facts))

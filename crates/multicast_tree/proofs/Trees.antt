@@ -19,7 +19,7 @@ use Rattle.subnet_view.proofs.UsableSwitches.{usable_law}
 use Rattle.subnet_view.proofs.WireLaws.{wire_law}
 use Rattle.subnet_view.proofs.WireEnds.{wires_go_both_ways}
 use Rattle.multicast_tree.specs.Copies.{CopyGoes}
-use Rattle.multicast_tree.specs.Forest.{IsWithinForest}
+use Rattle.multicast_tree.specs.Forest.{IsAttachedAt, IsWithinForest}
 use Rattle.multicast_tree.specs.Tree.{first_before, parent_port, is_given, is_below, is_tree_port, tree_at, tree_ports, tree_by, tree_in, position_in, copying_in, InTree, TreePorts}
 use Rattle.multicast_tree.specs.TreeLaws.{IsWithin, NoPortTwice, NoLongWay, NoUpAfterDown, NoneToTheSender}
 use Rattle.multicast_tree.proofs.Forests.{each_port_once, few_switches_passed, none_back, up_then_down}
@@ -67,7 +67,7 @@ module _ (position : ℕ → ℕ) where
       either None p = (p, refl)
       either (Some x) p = (x, refl)
 
-given_is : (o : Option ℕ) (p : ℕ) → is_given o p ≡ true → o ≡ Some p
+pub given_is : (o : Option ℕ) (p : ℕ) → is_given o p ≡ true → o ≡ Some p
 given_is None p h = absurd (cc)
 given_is (Some q) p h = ap Some (eqb-true q p h)
 
@@ -153,14 +153,9 @@ no_long_way facts positions group within at end ports c =
     few_switches_passed (copying_in cells group) parent position (tree_is_forest cells position group within) (switches cells)
     (λ g p s h. tree_switch cells position parent g p (within g p h)) at end ports c
 
--- a port to which an adapter is attached has a wire to it, and its node is a usable switch
-pub record IsSender (cells : Cells) (a : ℕ × ℕ) (s : ℕ × ℕ) : Type 0 where
-  pub not_a_switch : is_usable cells a.0 ≡ false
-  pub at_switch : is_usable cells s.0 ≡ true
-  pub wire : across cells s.0 s.1 ≡ Some a
-
-pub attached_is : (cells : Cells) (a s : ℕ × ℕ) → attached cells a.0 a.1 ≡ Some s → IsSender cells a s
-attached_is cells a s h =
+-- an attached port is a node's that is not a usable switch, and has a wire to one
+pub attached_is : (cells : Cells) (group : ℕ → ℕ → Bool) (a s : ℕ × ℕ) → attached cells a.0 a.1 ≡ Some s → IsAttachedAt (copying_in cells group) a s
+attached_is cells group a s h =
     let i = (attached_law cells a.0 a.1 s.0 s.1).0 h in
     record {
       not_a_switch = not_usable i.not_a_switch;
@@ -176,12 +171,12 @@ attached_is cells a s h =
         ] refl
 
 none_to_sender : (cells : Cells) (positions : List ℕ) (group : ℕ → ℕ → Bool) → IsWithin (tree_in cells positions) group → (sender at : ℕ × ℕ) (ports : List ℕ)
-    → IsSender cells sender at → CopyGoes (copying_in cells group) at ports sender → ⊥
-none_to_sender cells positions group within sender at [] i c = absurd (cc (i.not_a_switch, i.at_switch, ap (λ (x : ℕ × ℕ). is_usable cells x.0) c))
+    → IsAttachedAt (copying_in cells group) sender at → CopyGoes (copying_in cells group) at ports sender → ⊥
+none_to_sender cells positions group within sender at [] i c = absurd (let e = ap (λ (x : ℕ × ℕ). is_usable cells x.0) c in let u : is_usable cells sender.0 ≡ true = sym e ∙ i.at_switch in cc (i.not_a_switch))
 none_to_sender cells positions group within sender at (p ∷ ps) i c =
     let position = position_in (switches cells) positions in
     none_back (copying_in cells group) (parent_port (graph_of cells) position) position (tree_is_forest cells position group within) at p ps sender i.wire c
 
 pub none_to_the_sender : NoneToTheSender
 none_to_the_sender facts positions group within sender at ports a c =
-    none_to_sender (cells_of facts) positions group within sender at ports (attached_is (cells_of facts) sender at a) c
+    none_to_sender (cells_of facts) positions group within sender at ports (attached_is (cells_of facts) group sender at a) c

@@ -2,3 +2,4 @@ pub mod Copies
 pub mod Forest
 pub mod Tree
 pub mod TreeLaws
+pub mod TreeInWords

@@ -1,6 +1,30 @@
 //! The laws of the tree, and of the copies of multicast packets.
-ghost use Rattle.multicast_tree.specs.Forest.{EachPortOnce, FewSwitchesPassed, UpThenDown};
-ghost use Rattle.multicast_tree.specs.TreeLaws.{EachGetsACopy, NoLongWay, NoPortTwice, NoUpAfterDown, NoneToTheSender};
+ghost use Rattle.multicast_tree.specs.Forest.{EachEndReached, EachPortOnce, FewSwitchesPassed, UpThenDown};
+ghost use Rattle.multicast_tree.specs.TreeInWords.{ParentLaw, TreeLaw};
+ghost use Rattle.multicast_tree.specs.TreeLaws.{CopyTurnsRise, EachGetsACopy, MasksAreWhole, NoLongWay};
+ghost use Rattle.multicast_tree.specs.TreeLaws.{NoPortTwice, NoUpAfterDown, NoneToTheSender, OneWithoutParent};
+
+/// The parent of a switch is the first of its neighbors in the order, if that neighbor is before the switch. The port
+/// to the parent is the least that leads there. A switch with no neighbor before it has no parent.
+pub fn parents_are_in_words()
+    ensures { ParentLaw }
+{}
+
+/// A port of a usable switch is in the tree exactly if its wire leads to the parent, to a switch whose port to its
+/// parent is the other end, or to an adapter.
+pub fn the_tree_is_in_words()
+    ensures { TreeLaw }
+{}
+
+/// In the tree of a rule, of the usable switches of one component at most one has no parent.
+pub fn one_switch_has_no_parent()
+    ensures { OneWithoutParent }
+{}
+
+/// The masks of a tree have exactly the ports of the tree.
+pub fn masks_are_whole()
+    ensures { MasksAreWhole }
+{}
 
 /// If the masks of a group are within a forest (`IsWithinForest`), no two copies of one packet arrive at the same port.
 pub fn each_port_gets_one_copy()
@@ -16,6 +40,12 @@ pub fn few_switches_are_passed()
 /// If the masks of a group are within a forest (`IsWithinForest`), each copy goes up and then down.
 pub fn copies_go_up_then_down()
     ensures { UpThenDown }
+{}
+
+/// If the masks of a group are a whole forest (`IsWholeForest`), a copy of what one port sends comes to each other port
+/// that is attached to a switch joined to that of the sender.
+pub fn each_end_is_reached()
+    ensures { EachEndReached }
 {}
 
 /// If the masks of a group are within the tree, no two copies of one packet arrive at the same port, in whatever order
@@ -35,13 +65,19 @@ pub fn no_copy_goes_up_after_down()
     ensures { NoUpAfterDown }
 {}
 
-/// If the masks of a group are within the tree, no copy of a packet comes back to the adapter that sent it.
+/// If the masks of a group are within the tree, no copy of a packet comes back to the adapter port that sent it.
 pub fn the_sender_gets_no_copy()
     ensures { NoneToTheSender }
 {}
 
-/// If the masks of a group are the tree of a rule, a copy of what an adapter port sends comes to each other adapter port
-/// in its component.
+/// If the masks of a group are the tree of a rule, a copy of what an adapter port sends comes to each other adapter
+/// port in its component.
 pub fn each_adapter_gets_a_copy()
     ensures { EachGetsACopy }
+{}
+
+/// If the masks of a group are within the tree of a rule, and a copy goes from a switch to a second and on to a third,
+/// the rule's number of the second channel is greater than that of the first.
+pub fn channels_rise_along_copies()
+    ensures { CopyTurnsRise }
 {}

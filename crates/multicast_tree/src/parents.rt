@@ -1,8 +1,7 @@
 //! The port of each switch to its parent in the tree of an order.
-ghost use Rattle.std.specs.Prelude.{◌≡◌, ◌<◌, IfOk, length, map, slice_index};
-ghost use Rattle.subnet_view.specs.Graph.{guids_of};
+ghost use Rattle.std.specs.Prelude.{◌≡◌, ◌<◌, IfOk, length, slice_index};
 ghost use Rattle.subnet_view.specs.SwitchGraph.{LeadBelow};
-ghost use Rattle.multicast_tree.specs.Tree.{first_before, parent_port, position_in};
+ghost use Rattle.multicast_tree.specs.Tree.{first_before, parent_ports};
 
 use port_graph::Edge;
 use smp_bytes::PortNum;
@@ -18,7 +17,7 @@ pub(crate) fn parent_ports(
 ) -> Result<Vec<Option<PortNum>>, AllocError>
     requires { length positions.now ≡ length graph.now }
     ensures { IfOk result (λ ports.
-        ports.items ≡ map (parent_port graph.now (position_in (guids_of graph.now) positions.now)) (guids_of graph.now)) }
+        ports.items ≡ parent_ports graph.now positions.now) }
 {
     let mut ports = Vec::new(alloc);
     for index in 0..graph.len() {

@@ -5,7 +5,8 @@ ghost use Rattle.fact_store.specs.View.{cells_of};
 ghost use Rattle.subnet_view.specs.Graph.{graph_of};
 ghost use Rattle.subnet_view.specs.Reading.{switches};
 ghost use Rattle.lft_blocks.specs.Rule.{value_of};
-ghost use Rattle.multicast_tree.specs.Tree.{is_below, is_given, is_tree_port, parent_in, tree_by, tree_in, tree_of, tree_ports};
+ghost use Rattle.multicast_tree.specs.Tree.{is_below, is_given, is_tree_port, parent_in, tree_by};
+ghost use Rattle.multicast_tree.specs.Tree.{tree_in, tree_of, tree_ports};
 
 use crate::parents::parent_ports;
 use lft_blocks::Rule;
@@ -64,8 +65,8 @@ pub fn plan_tree(
 
 /// Returns the ports in the tree of each usable switch, in ascending order of GUID, for the order in which the switches
 /// have `positions`, which are in ascending order of GUID too. `graph` must be the graph of `wires`. Walks the edges
-/// once. For each port of a switch, does at most two binary searches among the ports that can have a wire, one among the
-/// cells, and two among the switches. Returns an error if memory runs out.
+/// once. For each port of a switch, does at most two binary searches among the ports that can have a wire, one among
+/// the cells, and two among the switches. Returns an error if memory runs out.
 pub fn tree_in(
     alloc: Global,
     wires: &Wires,

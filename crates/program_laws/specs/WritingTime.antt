@@ -36,8 +36,8 @@ turns_of tries sets controls = tries * (sets + controls) + controls
 
 -- what is so while a writing runs that the manager `m` has begun, after these lines
 pub record WritesOn (m : Manager) (a : Acting) (lines : List Line) : Type 0 where
-  -- the plan has five phases with at most `most_steps` Sets each
-  pub plan : length (planned_steps m) ≤ 5 * most_steps (cells_of m.store)
+  -- the writing has seven phases with at most `most_steps` Sets each
+  pub plan : length (planned_steps m) ≤ 7 * most_steps (cells_of m.store)
   -- at most so many wakes have been met
   pub few : wakes_met lines a ≤ turns_of a.window.limits.tries (length (planned_steps m)) (controls_in lines)
   -- if no line comes late, the lines take no longer than so many turns and one more

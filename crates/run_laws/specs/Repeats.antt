@@ -1,5 +1,5 @@
 -- The output of a run is a function of its two texts, the LMC and the rule.
-use Rattle.std.specs.Prelude.{◌≡◌, ℕ, List, Option, Some}
+use Rattle.std.specs.Prelude.{◌≡◌, ℕ, List, Option, Some, false}
 use Rattle.std.specs.Io.KnownBytes.{Appends}
 use Rattle.byte_io.specs.Source.{SourceState}
 use Rattle.sm_cli.specs.declared.asked.RuleAsked.{RuleAsked}

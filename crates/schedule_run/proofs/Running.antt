@@ -1,5 +1,5 @@
 -- A run of two texts without a fault: what it prints, and why it fails.
-use Rattle.std.proofs.Common.{◌≡◌, ◌∙◌, ℕ, Bool, List, Option, inr, sym, ap, subst}
+use Rattle.std.proofs.Common.{◌≡◌, ◌∙◌, ℕ, Bool, List, Option, inr, sym, ap, subst, false}
 use Rattle.topo_file.specs.Topology.{Layout}
 use Rattle.schedule_file.specs.Schedule.{Script}
 use Rattle.lft_blocks.specs.Planning.{Planning}

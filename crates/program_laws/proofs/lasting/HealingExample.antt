@@ -114,6 +114,7 @@ over_is1 = refl
 abbrev pub phases : List Phase
 phases =
     record { counts = true; steps = step ∷ [] } ∷ record { counts = true; steps = [] } ∷ record { counts = true; steps = [] }
+    ∷ record { counts = true; steps = [] } ∷ record { counts = true; steps = [] }
     ∷ record { counts = false; steps = [] } ∷ record { counts = false; steps = [] } ∷ []
 
 pub phases_are : phases_with alone x1.manager (Some (sweep_in x1.manager.sweep)) (cells_at 1 (tells 1 0)) ≡ phases

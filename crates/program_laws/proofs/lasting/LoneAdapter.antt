@@ -63,6 +63,7 @@ adapter lid =
           ∷ record { base_lid = lid; lmc = 0; master_sm_lid = lid; state = Down; is_sm = true } ∷ [];
       table = [];
       top = 0;
+      masks = [];
     }
 
 -- the bytes of the first request that is out
