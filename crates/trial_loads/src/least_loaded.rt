@@ -55,7 +55,8 @@ fn least_loaded_among(
 ) -> Result<Vec<VertexKey>, AllocError>
     requires keys { length keys.now ≡ length graph.now.edges.now }
     requires symmetric { IsSymmetric graph.now.edges.now }
-    ensures { IfOk result (λ found. found.items ≡ least_loaded_among graph.now.edges.now graph.now.adapters.now keys.now) }
+    ensures { IfOk result (λ found. found.items
+        ≡ least_loaded_among graph.now.edges.now graph.now.adapters.now keys.now) }
 {
     let keys_tried = Vec::from_slice(alloc, keys)?;
     let loads = trial_loads(alloc, graph, keys)?;
@@ -85,9 +86,10 @@ fn try_by_depth(
     requires symmetric { IsSymmetric graph.now.edges.now }
     requires starts { All (λ start. start < length graph.now.edges.now) starts.now }
     requires first { first.load ≡ trial_load graph.now.edges.now graph.now.adapters.now first.keys.items }
-    ensures keys { IfOk result (λ best. best.keys.items ≡ least_by (trial_load graph.now.edges.now graph.now.adapters.now)
-        first.keys.items (map (keys_by_depth graph.now.edges.now keys.now direction) starts.now)) }
-    ensures load { IfOk result (λ best. best.load ≡ trial_load graph.now.edges.now graph.now.adapters.now best.keys.items) }
+    ensures keys { IfOk result (λ best. best.keys.items
+        ≡ least_by (trial_load graph.now.edges.now graph.now.adapters.now) first.keys.items (map (keys_by_depth graph.now.edges.now keys.now direction) starts.now)) }
+    ensures load { IfOk result (λ best.
+        best.load ≡ trial_load graph.now.edges.now graph.now.adapters.now best.keys.items) }
 {
     let mut best = first;
     for start in starts {
@@ -103,7 +105,8 @@ fn trial_of(alloc: Global, graph: &AdapterGraph, keys: Vec<VertexKey>) -> Result
     requires keys { length keys.items ≡ length graph.now.edges.now }
     requires symmetric { IsSymmetric graph.now.edges.now }
     ensures keys { IfOk result (λ found. found.keys.items ≡ keys.items) }
-    ensures load { IfOk result (λ found. found.load ≡ trial_load graph.now.edges.now graph.now.adapters.now keys.items) }
+    ensures load { IfOk result (λ found.
+        found.load ≡ trial_load graph.now.edges.now graph.now.adapters.now keys.items) }
 {
     let load = trial_load(alloc, graph, &keys)?;
     Ok(Trial { keys, load })

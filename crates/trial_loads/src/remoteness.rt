@@ -72,7 +72,8 @@ fn add_shares(
     requires few { length targets.now ≤ 64 }
     requires vertices { All (λ target. target < length graph.now.edges.now) targets.now }
     requires sums { length sums.old ≡ length graph.now.edges.now }
-    ensures { OnOk result (AreWithShares graph.now.edges.now graph.now.adapters.now targets.now (length graph.now.edges.now) sums.old sums.new) }
+    ensures { OnOk result (AreWithShares graph.now.edges.now graph.now.adapters.now targets.now
+        (length graph.now.edges.now) sums.old sums.new) }
 {
     let mut near = at_targets(alloc, graph.edges.len(), targets)?;
     for distance in 1..graph.edges.len() {

@@ -27,7 +27,8 @@ pub(crate) fn add_packets_between(
     requires few { length targets.now ≤ 64 }
     requires targets { All (λ target. target < length graph.now.edges.now) targets.now }
     requires loads { length loads.old ≡ 256 * length graph.now.edges.now }
-    ensures { OnOk result (loads.new ≡ carried_between graph.now.edges.now graph.now.adapters.now loads.old targets.now) }
+    ensures { OnOk result (loads.new
+        ≡ carried_between graph.now.edges.now graph.now.adapters.now loads.old targets.now) }
 {
     let (edges, adapters) = (graph.edges, graph.adapters);
     let sets = CandidateSets::towards(alloc, edges, targets)?;
@@ -45,14 +46,15 @@ pub(crate) fn add_packets_between(
     Ok(())
 }
 
-/// Adds to the load of each channel the packets that it carries to target `k`, by the candidates of `ways`. `had` has the
-/// packets that each position starts with, and gets those that reach it on the way added.
+/// Adds to the load of each channel the packets that it carries to target `k`, by the candidates of `ways`. `had` has
+/// the packets that each position starts with, and gets those that reach it on the way added.
 fn add_packets_to(ways: &CandidateWays, k: usize, had: &mut [usize], loads: &mut [usize])
     requires target { k < 64 }
     requires had { length had.old ≡ length ways.now.graph.now }
     requires loads { length loads.old ≡ 256 * length ways.now.graph.now }
     ensures { loads.new
-        ≡ carried_to (candidates_in ways.now.graph.now ways.now.sets.now k) (length ways.now.graph.now) had.old loads.old }
+        ≡ carried_to (candidates_in ways.now.graph.now ways.now.sets.now k) (length ways.now.graph.now)
+        had.old loads.old }
 {
     share_up(ways, k, had, loads);
     share_down(ways, k, had, loads);
@@ -75,7 +77,8 @@ fn share_up(ways: &CandidateWays, k: usize, had: &mut [usize], loads: &mut [usiz
     requires loads { length loads.old ≡ 256 * length ways.now.graph.now }
     ensures { record { had = had.new; carried = loads.new }
         ≡ shared (candidates_in ways.now.graph.now ways.now.sets.now k)
-        (filter (goes_up (candidates_in ways.now.graph.now ways.now.sets.now k)) (last_first (length ways.now.graph.now)))
+        (filter (goes_up (candidates_in ways.now.graph.now ways.now.sets.now k))
+        (last_first (length ways.now.graph.now)))
         (record { had = had.old; carried = loads.old }) }
 {
     for position in (0..ways.graph.len()).rev() {
@@ -93,7 +96,8 @@ fn share_down(ways: &CandidateWays, k: usize, had: &mut [usize], loads: &mut [us
     requires loads { length loads.old ≡ 256 * length ways.now.graph.now }
     ensures { record { had = had.new; carried = loads.new }
         ≡ shared (candidates_in ways.now.graph.now ways.now.sets.now k)
-        (filter (λ s. not (goes_up (candidates_in ways.now.graph.now ways.now.sets.now k) s)) (numbers_from 0 (length ways.now.graph.now)))
+        (filter (λ s. not (goes_up (candidates_in ways.now.graph.now ways.now.sets.now k) s))
+        (numbers_from 0 (length ways.now.graph.now)))
         (record { had = had.old; carried = loads.old }) }
 {
     for position in 0..ways.graph.len() {
