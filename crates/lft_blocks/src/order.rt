@@ -5,7 +5,7 @@ ghost use Rattle.spread_routes.specs.SwitchOrder.{order_value_of};
 ghost use Rattle.lft_blocks.specs.Rule.{order_of};
 
 use smp_bytes::Guid;
-use spread_routes::{SwitchOrder, adapters_of, switches_in_order};
+use spread_routes::{SwitchAdapters, SwitchOrder, adapters_of, switches_in_order};
 use std::alloc::{AllocError, Global};
 use subnet_view::WiredGraph;
 
@@ -20,5 +20,9 @@ pub fn switch_order(
         found.items ≡ order_of (order_value_of order.now) (cells_of wired.now.wires.now)) }
 {
     let adapters = adapters_of(alloc, wired)?;
-    switches_in_order(alloc, wired.graph, &adapters, order)
+    let given = SwitchAdapters {
+        graph: wired.graph,
+        adapters: &adapters,
+    };
+    switches_in_order(alloc, &given, order)
 }

@@ -18,7 +18,7 @@ use crate::table::Table;
 use crate::table_row::{TableRow, lids_by_switch};
 use attr_codec::Lmc;
 use smp_bytes::{Guid, Lid};
-use spread_routes::{Exits, Spread, SwitchOrder, Towards, adapters_of};
+use spread_routes::{Exits, Spread, SwitchAdapters, SwitchOrder, Towards, adapters_of};
 use std::alloc::{AllocError, Global};
 use std::mem;
 use subnet_view::WiredGraph;
@@ -45,9 +45,13 @@ pub(crate) fn spread_tables(
     let graph = wired.graph;
     let guids = graph.switches();
     let adapters = adapters_of(alloc, wired)?;
-    let numbering = find_numbering(alloc, graph, &adapters, lmc)?;
+    let given = SwitchAdapters {
+        graph,
+        adapters: &adapters,
+    };
+    let numbering = find_numbering(alloc, &given, lmc)?;
     let numbers = lid_numbers(alloc, &numbering, attachments)?;
-    let spread = Spread::of(alloc, graph, &adapters, order)?;
+    let spread = Spread::of(alloc, &given, order)?;
     let mut rows = rows(alloc, &spread, attachments, &numbers, guids.len())?;
     tables_of(alloc, guids, &mut rows, count)
 }

@@ -24,13 +24,11 @@ use Rattle.lft_blocks.proofs.LidNumbers.{number_same}
 use Rattle.lft_blocks.proofs.RowSteps.{tables_are}
 use Rattle.lft_blocks.proofs.spread_table.spread_tables.Goals as goal
 
-pub find_numbering-requires : goal.find_numbering-requires
-find_numbering-requires c =
-    ap length (c.deref.ensures.value ∙ c.in_ok-adapters.ensures) ∙ adapters_long (cells_of c.args.wired.now.wires.now) ∙ sym (ap length c.args.wired.now.is_graph)
-
-pub of-requires : goal.of-requires
-of-requires c =
-    ap length (c.deref-2.ensures.value ∙ c.in_ok-adapters.ensures) ∙ adapters_long (cells_of c.args.wired.now.wires.now) ∙ sym (ap length c.args.wired.now.is_graph)
+pub invariant_of-given : goal.invariant_of-given
+invariant_of-given c = record {
+  have_adapters =
+      ap length (c.deref.ensures.value ∙ c.in_ok-adapters.ensures) ∙ adapters_long (cells_of c.args.wired.now.wires.now) ∙ sym (ap length c.args.wired.now.is_graph);
+}
 
 -- each switch has one
 numbers_of_leaves_long : (graph : List SwitchEdges) (adapters : List ℕ) → length (guids_of graph) ≡ length (leaf_numbers graph adapters)
@@ -47,7 +45,7 @@ lid_numbers-requires c =
 
 pub rows-requires-clause-numbers : goal.rows-requires-clause-numbers
 rows-requires-clause-numbers c =
-    ap length (c.deref-3.ensures.value ∙ c.in_ok-numbers.ensures)
+    ap length (c.deref-2.ensures.value ∙ c.in_ok-numbers.ensures)
     ∙ length-map-range_with_len (indexed_number c.in_ok-numbering.numbering c.args.attachments.now) 0 (length c.args.attachments.now)
 
 pub returns : goal.returns
@@ -64,14 +62,14 @@ returns c =
     let theirs = c.switches-guids.ensures in
     let numbers = c.in_ok-numbers.numbers.items in
     let is : c.in_ok-spread.spread ≡ by =
-    c.in_ok-spread.ensures ∙ ap (λ counts. grading_of graph counts order) (c.deref-2.ensures.value ∙ c.in_ok-adapters.ensures) in
+    c.in_ok-spread.ensures ∙ ap (λ counts. grading_of graph counts order) (c.deref.ensures.value ∙ c.in_ok-adapters.ensures) in
     let rising : IsStrictlyIncreasing guids =
     subst (λ (g : List SwitchEdges). IsStrictlyIncreasing (guids_of g)) (sym c.args.wired.now.is_graph) (switches_rise c.args.wired.now.wires.now) in
     let numbering = numbering_of c.args.lmc (cells_of c.args.wired.now.wires.now) in
     let is_numbering : c.in_ok-numbering.numbering ≡ numbering =
     c.in_ok-numbering.ensures ∙ (λ i. numbering_by c.args.lmc (c.args.wired.now.is_graph i) ((c.deref.ensures.value ∙ c.in_ok-adapters.ensures) i)) in
-    let same : (lid : ℕ) → get_or c.deref-3.result.now lid 0 ≡ number_of numbering guids (attachment_by_index guids attachments) lid =
-    number_same numbering guids rising attachments c.requires.within c.deref-3.result.now (c.deref-3.ensures.value ∙ c.in_ok-numbers.ensures
+    let same : (lid : ℕ) → get_or c.deref-2.result.now lid 0 ≡ number_of numbering guids (attachment_by_index guids attachments) lid =
+    number_same numbering guids rising attachments c.requires.within c.deref-2.result.now (c.deref-2.ensures.value ∙ c.in_ok-numbers.ensures
     ∙ ap (λ p. indexed_numbers p attachments) is_numbering) in
     let number : ℕ → ℕ = number_of numbering guids (attachment_by_index guids attachments) in
     let next = (numbered number (spread_at by)).next in
