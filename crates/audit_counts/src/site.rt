@@ -3,7 +3,7 @@ ghost use Rattle.std.specs.Prelude.{◌≡◌, false, Contains, IfOk, count_by, 
 ghost use Rattle.std.specs.Option.{option_map_or};
 ghost use Rattle.fact_store.specs.View.{cells_of};
 ghost use Rattle.subnet_view.specs.EndPort.{end_ports};
-ghost use Rattle.subnet_view.specs.Graph.{graph_of, guids_of};
+ghost use Rattle.subnet_view.specs.Graph.{guids_of};
 ghost use Rattle.subnet_view.specs.Components.{root_of};
 ghost use Rattle.audit_ways.specs.Ways.{is_adapter};
 ghost use Rattle.audit_counts.specs.Site.{IsCensus, IsSiteOf, is_of};
@@ -16,7 +16,7 @@ use audit_ways::is_adapter;
 use packet_walks::is_same_end;
 use smp_bytes::{Guid, PortNum};
 use std::alloc::{AllocError, Global};
-use subnet_view::{EndPort, Subnet, SwitchGraph, Wires, is_usable};
+use subnet_view::{EndPort, Subnet, WiredGraph, Wires, is_usable};
 
 /// Where an end port lies.
 #[derive(Clone, Copy, Debug, PartialEq, Eq)]
@@ -157,36 +157,37 @@ pub fn sites(alloc: Global, subnet: &Subnet) -> Result<Vec<Site>, AllocError>
 {
     let graph = subnet.graph(alloc)?;
     let roots = graph.roots(alloc)?;
-    sites_of(alloc, subnet.wires(), &graph, &roots, subnet.end_ports())
+    let wired = WiredGraph {
+        wires: subnet.wires(),
+        graph: &graph,
+    };
+    sites_of(alloc, &wired, &roots, subnet.end_ports())
 }
 
 /// Returns the sites of `ports`, in the order of `ports`.
 fn sites_of(
     alloc: Global,
-    wires: &Wires,
-    graph: &SwitchGraph,
+    wired: &WiredGraph,
     roots: &[Option<Guid>],
     ports: &[EndPort],
 ) -> Result<Vec<Site>, AllocError>
-    requires graph { graph.now ≡ graph_of (cells_of wires.now) }
-    requires roots { roots.now ≡ map (root_of graph.now) (guids_of graph.now) }
-    ensures { IfOk result (λ sites. sites.items ≡ map (site_of (cells_of wires.now)) ports.now) }
+    requires { roots.now ≡ map (root_of wired.now.graph.now) (guids_of wired.now.graph.now) }
+    ensures { IfOk result (λ sites. sites.items ≡ map (site_of (cells_of wired.now.wires.now)) ports.now) }
 {
     let mut sites = Vec::with_capacity(alloc, ports.len())?;
     for port in ports {
-        sites.push(site_of(wires, graph, roots, port))?;
+        sites.push(site_of(wired, roots, port))?;
     }
     Ok(sites)
 }
 
 /// Returns the site of `port`.
-fn site_of(wires: &Wires, graph: &SwitchGraph, roots: &[Option<Guid>], port: &EndPort) -> Site
-    requires graph { graph.now ≡ graph_of (cells_of wires.now) }
-    requires roots { roots.now ≡ map (root_of graph.now) (guids_of graph.now) }
-    ensures { result ≡ site_of (cells_of wires.now) port.now }
+fn site_of(wired: &WiredGraph, roots: &[Option<Guid>], port: &EndPort) -> Site
+    requires { roots.now ≡ map (root_of wired.now.graph.now) (guids_of wired.now.graph.now) }
+    ensures { result ≡ site_of (cells_of wired.now.wires.now) port.now }
 {
-    let root = root_at(wires, graph, roots, port);
-    let across = wires.across(port.node, port.port);
+    let root = root_at(wired, roots, port);
+    let across = wired.wires.across(port.node, port.port);
     Site {
         port: *port,
         root,
@@ -195,18 +196,12 @@ fn site_of(wires: &Wires, graph: &SwitchGraph, roots: &[Option<Guid>], port: &En
 }
 
 /// Returns the root of the component in which `port` lies, or `None` if `port` lies at no usable switch.
-fn root_at(
-    wires: &Wires,
-    graph: &SwitchGraph,
-    roots: &[Option<Guid>],
-    port: &EndPort,
-) -> Option<Guid>
-    requires graph { graph.now ≡ graph_of (cells_of wires.now) }
-    requires roots { roots.now ≡ map (root_of graph.now) (guids_of graph.now) }
-    ensures { result ≡ root_at (cells_of wires.now) port.now }
+fn root_at(wired: &WiredGraph, roots: &[Option<Guid>], port: &EndPort) -> Option<Guid>
+    requires { roots.now ≡ map (root_of wired.now.graph.now) (guids_of wired.now.graph.now) }
+    ensures { result ≡ root_at (cells_of wired.now.wires.now) port.now }
 {
-    let switch = switch_of(wires, port)?;
-    let index = graph.index_of(switch)?;
+    let switch = switch_of(wired.wires, port)?;
+    let index = wired.graph.index_of(switch)?;
     roots[index]
 }
 

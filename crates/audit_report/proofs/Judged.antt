@@ -29,6 +29,7 @@ use Rattle.audit_counts.specs.declared.sent_packet.SentPacket.{SentPacket}
 use Rattle.audit_counts.specs.declared.packet_tally.PacketTally.{PacketTally}
 use Rattle.audit_counts.specs.declared.unmatched.Unmatched.{Unmatched}
 use Rattle.audit_counts.specs.Packets.{arrives, packet_of, packets_for, packets_of, sent_to}
+use Rattle.audit_counts.specs.declared.site.Site.{Site}
 use Rattle.audit_report.specs.Passing.{EachArrives, IsFound}
 use Rattle.audit_counts.specs.Site.{in_one_component}
 
@@ -127,10 +128,10 @@ rise_is F cycle b waits is = (
   λ rise. is ∙ eq-eqb (length cycle) 0 (ap length (no_cycle_at_all F rise cycle waits)),
 )
 
-pub arrive_is : (most : ℕ) (seen : Seen) (tally : PacketTally) (unmatched : Unmatched) (count : ℕ) (ways : WayFigures) (cycle : List ℕ) (b : Bool)
-    → IsFound most seen tally unmatched count ways cycle → b ≡ (tally.all.arrived == tally.all.sent)
+pub arrive_is : (most : ℕ) (seen : Seen) (tally : PacketTally) (unmatched : Unmatched) (count : ℕ) (ways : WayFigures) (cycle : List ℕ)
+    (sites : List Site) (b : Bool) → IsFound most seen tally unmatched count ways cycle sites → b ≡ (tally.all.arrived == tally.all.sent)
     → IsTrue b ↔ EachArrives (cells_of seen.facts) seen.held
-arrive_is most seen tally unmatched count ways cycle b found is =
+arrive_is most seen tally unmatched count ways cycle sites b found is =
     let cells = cells_of seen.facts in
     let held = seen.held in
     let counted = found.counted.all in (

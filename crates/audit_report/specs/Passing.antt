@@ -1,5 +1,5 @@
 -- Which held tables pass an audit: they are whole and sound for facts, and within a bound of load.
-use Rattle.std.specs.Prelude.{◌≡◌, ℕ, Bool, true, List, [], ◌∷◌, Contains, Option, None, Some, nat_le}
+use Rattle.std.specs.Prelude.{◌≡◌, ℕ, Bool, true, List, [], ◌∷◌, Contains, Option, None, Some, map, nat_le}
 use Rattle.std.specs.Coded.{Coded, code_by, coded×, coded_ℕ}
 use Rattle.std.specs.Prelude.{refl}
 use base.Stored.{coded_list}
@@ -27,7 +27,8 @@ use Rattle.audit_counts.specs.declared.packet_tally.PacketTally.{PacketTally}
 use Rattle.audit_counts.specs.declared.unmatched.Unmatched.{Unmatched}
 use Rattle.audit_counts.specs.DisputedFacts.{disputed}
 use Rattle.audit_counts.specs.Packets.{packets_of}
-use Rattle.audit_counts.specs.Site.{in_one_component}
+use Rattle.audit_counts.specs.Site.{in_one_component, site_of}
+use Rattle.audit_counts.specs.declared.site.Site.{Site}
 use Rattle.audit_counts.specs.PacketTally.{IsTally}
 use Rattle.audit_counts.specs.Unmatched.{IsUnmatched}
 
@@ -123,10 +124,11 @@ audited_code =
 
 -- the packets, differences, disputed facts, figures of routes and credit loop of an audit are those of the facts and
 -- tables in `seen`
-pub record IsFound (most : ℕ) (seen : Seen) (tally : PacketTally) (unmatched : Unmatched) (count : ℕ) (ways : WayFigures)
-    (cycle : List ℕ) : Type 0 where
+pub record IsFound (most : ℕ) (seen : Seen) (tally : PacketTally) (unmatched : Unmatched) (count : ℕ)
+    (ways : WayFigures) (cycle : List ℕ) (sites : List Site) : Type 0 where
   pub counted : IsTally most (packets_of (cells_of seen.facts) seen.held) tally
   pub differ : IsUnmatched most (cells_of seen.facts) seen.held unmatched
   pub count_is : count ≡ disputed (cells_of seen.facts)
   pub told : AreWayFigures (cells_of seen.facts) seen.held ways
   pub waits : IsCycleIfAny (WaitsFor (cells_of seen.facts) seen.held) cycle
+  pub sites_are : sites ≡ map (site_of (cells_of seen.facts)) (end_ports (cells_of seen.facts))

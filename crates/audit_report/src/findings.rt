@@ -1,10 +1,12 @@
-ghost use Rattle.std.specs.Prelude.{◌≡◌, ◌↔◌, IfOk, IsTrue};
+ghost use Rattle.std.specs.Prelude.{◌≡◌, ◌↔◌, IfOk, IsTrue, map};
 ghost use Rattle.fact_store.specs.View.{cells_of};
 ghost use Rattle.audit_channels.specs.ChannelOrders.{CanRise, IsCycleIfAny, NoneShorter};
 ghost use Rattle.audit_channels.specs.Waiting.{WaitsFor};
 ghost use Rattle.audit_counts.specs.Figures.{figures_of};
 ghost use Rattle.audit_counts.specs.Ways.{AreKnownToArrive, AreWayFigures, loads_of};
 ghost use Rattle.audit_counts.specs.Packets.{packets_of};
+ghost use Rattle.audit_counts.specs.Site.{site_of};
+ghost use Rattle.subnet_view.specs.EndPort.{end_ports};
 ghost use Rattle.audit_counts.specs.PacketTally.{IsTally};
 ghost use Rattle.audit_counts.specs.Unmatched.{IsUnmatched};
 ghost use Rattle.audit_report.specs.Passing.{EachArrives, EachHasTables, EachHoldsLid, EachNodeIsKnown};
@@ -12,8 +14,8 @@ ghost use Rattle.audit_report.specs.Passing.{IsFound, is_within};
 
 use audit_channels::{channel_order, cycle_in};
 use audit_counts::{
-    Figures, PacketSurvey, PacketTally, Unmatched, WayFigures, disputed, figures_of_ways_known,
-    sites, survey,
+    Figures, PacketTally, Site, Unmatched, WayFigures, disputed, figures_of_ways_known, sites,
+    survey,
 };
 use fact_store::Refused;
 use held_tables::{Held, WiredSubnet};
@@ -41,6 +43,8 @@ pub(crate) struct Findings {
     pub(crate) ways: WayFigures,
     /// The channels of a shortest credit loop; empty if there is no credit loop.
     pub(crate) cycle: Vec<usize>,
+    /// Where the end ports lie, in the order of the end ports.
+    sites: Vec<Site>,
 }
 
 impl<'a> Model for Audit<'a> {
@@ -58,7 +62,7 @@ impl<'a> Model for Audit<'a> {
     } };
 
     ghost invariant = { λ a. IsFound a.most a.network a.findings.tally a.findings.unmatched a.findings.disputed
-        a.findings.ways a.findings.cycle.items };
+        a.findings.ways a.findings.cycle.items a.findings.sites.items };
 }
 
 impl<'a> Audit<'a> {
@@ -139,6 +143,14 @@ impl<'a> Audit<'a> {
         self.findings.tally.all.arrived == self.findings.tally.all.sent
     }
 
+    /// Returns the sites of the end ports, in the order of the end ports.
+    pub fn sites(&self) -> &[Site]
+        ensures { result.now
+            ≡ map (site_of (cells_of self.now.facts)) (end_ports (cells_of self.now.facts)) }
+    {
+        &self.findings.sites
+    }
+
     /// Returns the network of the audit.
     pub fn network(&self) -> &Network<'a>
         ensures facts { result.now.facts ≡ self.now.facts }
@@ -160,11 +172,13 @@ fn is_within(bound: Option<u64>, load: &Option<Figures>) -> bool
 
 /// Collects what an audit finds in `network`. Keeps the first `most` lines of each kind.
 fn findings_of(alloc: Global, most: usize, network: &Network) -> Result<Findings, Refused>
-    ensures found { IfOk result (λ f. IsFound most network.now f.tally f.unmatched f.disputed f.ways f.cycle.items) }
+    ensures found { IfOk result (λ f. IsFound most network.now f.tally f.unmatched f.disputed f.ways f.cycle.items
+        f.sites.items) }
     ensures shortest { IfOk result (λ f.
         NoneShorter (WaitsFor (cells_of network.now.facts) network.now.held) f.cycle.items) }
 {
-    let (tally, ways) = packets_and_ways(alloc, most, network)?;
+    let sites = sites(alloc, network.subnet())?;
+    let (tally, ways) = packets_and_ways(alloc, most, network, &sites)?;
     let (unmatched, cycle) = unmatched_and_cycle(alloc, most, network)?;
     let disputed = disputed(network.subnet().store());
     Ok(Findings {
@@ -173,32 +187,26 @@ fn findings_of(alloc: Global, most: usize, network: &Network) -> Result<Findings
         disputed,
         ways,
         cycle,
+        sites,
     })
 }
 
 /// Counts the packets, and computes the figures of the wires and channels that packets between adapter ports take.
+/// `sites` must be the sites of the end ports, in the order of the end ports.
 fn packets_and_ways(
     alloc: Global,
     most: usize,
     network: &Network,
+    sites: &[Site],
 ) -> Result<(PacketTally, WayFigures), Refused>
+    requires { sites.now ≡ map (site_of (cells_of network.now.facts)) (end_ports (cells_of network.now.facts)) }
     ensures tally { IfOk result (λ both.
         IsTally most (packets_of (cells_of network.now.facts) network.now.held) both.0) }
     ensures ways { IfOk result (λ both. AreWayFigures (cells_of network.now.facts) network.now.held both.1) }
 {
-    let survey = survey_of(alloc, most, network)?;
+    let survey = survey(alloc, most, network, sites)?;
     let ways = figures_of_ways_known(alloc, network, &survey.told)?;
     Ok((survey.tally, ways))
-}
-
-/// Counts the packets, and finds lines whose packets are known to arrive.
-fn survey_of(alloc: Global, most: usize, network: &Network) -> Result<PacketSurvey, Refused>
-    ensures tally { IfOk result (λ survey.
-        IsTally most (packets_of (cells_of network.now.facts) network.now.held) survey.tally) }
-    ensures told { IfOk result (λ survey. AreKnownToArrive (cells_of network.now.facts) network.now.held survey.told.items) }
-{
-    let sites = sites(alloc, network.subnet())?;
-    Ok(survey(alloc, most, network, &sites)?)
 }
 
 /// Returns where tables and facts differ, and the channels of a shortest credit loop, if there is one.

@@ -108,7 +108,7 @@ fn findings(
 ) -> Result<LaneFindings, Refused>
     ensures { IfOk result (IsFoundByLane most (seen_of audit.now.facts audit.now.held lanes.now)) }
 {
-    let missing = pairs_without_level(alloc, most, audit.network(), lanes)?;
+    let missing = pairs_without_level(alloc, most, audit.network(), audit.sites(), lanes)?;
     let (order, answers) = orders(alloc, audit, lanes)?;
     Ok(LaneFindings {
         missing,

@@ -9,8 +9,7 @@ ghost use Rattle.audit_run.specs.LevelRow.{missing_in_row, sender_lacks};
 ghost use Rattle.audit_run.specs.LevelsMissing.{missing_levels};
 
 use crate::level_row::{LevelRow, RowSender};
-use audit_counts::{FirstFew, Site, are_adapters, index_of, site_in, sites};
-use fact_store::Refused;
+use audit_counts::{FirstFew, Site, are_adapters, index_of, site_in};
 use held_tables::HeldLid;
 use lanes_file::Lanes;
 use packet_walks::{Network, is_same_end};
@@ -26,25 +25,26 @@ pub struct PacketPair {
 }
 
 /// Counts the packets without a service level that adapter ports send to the LIDs of other adapter ports of their
-/// components. Keeps the first `most` packets, in the order of the held LIDs and then of the end ports. Takes constant
-/// time if `lanes` has a line `level`, which gives each packet a level. Otherwise takes the time of `sites`, the time
-/// of `LevelRow::of` each time that the next held LID is in another block, and time linear in the number of held LIDs
-/// times the number of end ports.
+/// components. Keeps the first `most` packets, in the order of the held LIDs and then of the end ports. `sites` must be
+/// the sites of the end ports, in the order of the end ports. Takes constant time if `lanes` has a line `level`, which
+/// gives each packet a level. Otherwise takes the time of `LevelRow::of` each time that the next held LID is in another
+/// block, and time linear in the number of held LIDs times the number of end ports.
 #[tactic(auto, using(crate::proofs::NoneMissing::nothing_listed))]
 pub fn pairs_without_level(
     alloc: Global,
     most: usize,
     network: &Network,
+    sites: &[Site],
     lanes: &Lanes,
-) -> Result<FirstFew<PacketPair>, Refused>
+) -> Result<FirstFew<PacketPair>, AllocError>
+    requires { sites.now ≡ map (site_of (cells_of network.now.facts)) (end_ports (cells_of network.now.facts)) }
     ensures { IfOk result (λ few. few
         ≡ all_listed most (missing_levels lanes.now (cells_of network.now.facts) network.now.held)) }
 {
     if lanes.has_level_for_all() {
         return Ok(FirstFew::new(alloc, most));
     }
-    let sites = sites(alloc, network.subnet())?;
-    Ok(pairs_at_sites(alloc, most, network, &sites, lanes)?)
+    pairs_at_sites(alloc, most, network, sites, lanes)
 }
 
 /// Counts the packets without a service level that adapter ports send to the LIDs of other adapter ports of their

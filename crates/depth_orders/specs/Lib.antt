@@ -1,1 +1,2 @@
 pub mod DepthOrder
+pub mod KeyedGraph

@@ -4,9 +4,11 @@ ghost use Rattle.port_graph.specs.Heads.{LeadToVertices};
 ghost use Rattle.spread_labels.specs.KeyOrder.{before_by};
 ghost use Rattle.spread_labels.specs.Growth.{earlier_of};
 ghost use Rattle.depth_orders.specs.DepthOrder.{best_beside, deepest, first_left, flag_at, goes_before};
+ghost use Rattle.depth_orders.specs.KeyedGraph.{preferred};
 ghost use Rattle.depth_orders.specs.DepthOrder.{next_by_depth, order_by_depth, turned};
 
 use crate::direction::Direction;
+use crate::keyed_graph::KeyedGraph;
 use port_graph::{Adjacency, Edge};
 use spread_labels::VertexKey;
 use std::alloc::{AllocError, Global};
@@ -29,12 +31,17 @@ pub fn order_by_depth(
     ensures { IfOk result (λ vertices. vertices.items
         ≡ order_by_depth edges.now (turned direction (before_by keys.now)) root) }
 {
+    let graph = KeyedGraph {
+        edges: &*edges,
+        keys: &*keys,
+        direction,
+    };
     let mut placed = vec![in alloc; false; edges.len()]?;
     let mut vertices = Vec::with_capacity(alloc, edges.len())?;
     vertices.push(root)?;
     placed[root] = true;
     for _ in 0..edges.len() {
-        if let Some(vertex) = next_by_depth(edges, keys, direction, &placed, &vertices) {
+        if let Some(vertex) = next_by_depth(&graph, &placed, &vertices) {
             vertices.push(vertex)?;
             placed[vertex] = true;
         }
@@ -43,43 +50,27 @@ pub fn order_by_depth(
 }
 
 /// Returns the vertex that is placed after `vertices`, or `None` if all vertices are placed.
-fn next_by_depth(
-    edges: &Adjacency,
-    keys: &[VertexKey],
-    direction: Direction,
-    placed: &[bool],
-    vertices: &[usize],
-) -> Option<usize>
-    requires keys { length keys.now ≡ length edges.now }
-    requires lead { LeadToVertices edges.now }
-    ensures next { result ≡ next_by_depth edges.now (turned direction (before_by keys.now))
+fn next_by_depth(graph: &KeyedGraph, placed: &[bool], vertices: &[usize]) -> Option<usize>
+    ensures next { result ≡ next_by_depth graph.now.edges.now (preferred graph.now)
         (flag_at placed.now) vertices.now }
-    ensures vertex { MatchOption result (Unit {0}) (λ vertex. vertex < length edges.now) }
+    ensures vertex { MatchOption result (Unit {0}) (λ vertex. vertex < length graph.now.edges.now) }
 {
-    match deepest(edges, keys, direction, placed, vertices) {
+    match deepest(graph, placed, vertices) {
         Some(vertex) => Some(vertex),
-        None => first_left(keys, direction, placed),
+        None => first_left(graph.keys, graph.direction, placed),
     }
 }
 
 /// Returns the first unplaced neighbor, by `goes_before`, of the last of `vertices` that has one, or `None`.
-fn deepest(
-    edges: &Adjacency,
-    keys: &[VertexKey],
-    direction: Direction,
-    placed: &[bool],
-    vertices: &[usize],
-) -> Option<usize>
-    requires keys { length keys.now ≡ length edges.now }
-    requires lead { LeadToVertices edges.now }
-    ensures deepest { result ≡ deepest edges.now (turned direction (before_by keys.now))
+fn deepest(graph: &KeyedGraph, placed: &[bool], vertices: &[usize]) -> Option<usize>
+    ensures deepest { result ≡ deepest graph.now.edges.now (preferred graph.now)
         (flag_at placed.now) vertices.now (length vertices.now) }
-    ensures vertex { MatchOption result (Unit {0}) (λ vertex. vertex < length edges.now) }
+    ensures vertex { MatchOption result (Unit {0}) (λ vertex. vertex < length graph.now.edges.now) }
 {
     let mut behind = vertices.len();
     while behind > 0 {
         behind -= 1;
-        let found = best_beside(edges, keys, direction, placed, vertices[behind]);
+        let found = best_beside(graph, placed, vertices[behind]);
         if found.is_some() {
             return found;
         }
@@ -88,67 +79,43 @@ fn deepest(
 }
 
 /// Returns the first, by `goes_before`, of the unplaced neighbors of `vertex`, or `None` if it has none.
-fn best_beside(
-    edges: &Adjacency,
-    keys: &[VertexKey],
-    direction: Direction,
-    placed: &[bool],
-    vertex: usize,
-) -> Option<usize>
-    requires keys { length keys.now ≡ length edges.now }
-    requires lead { LeadToVertices edges.now }
-    ensures best { result ≡ best_beside edges.now (turned direction (before_by keys.now))
+fn best_beside(graph: &KeyedGraph, placed: &[bool], vertex: usize) -> Option<usize>
+    ensures best { result ≡ best_beside graph.now.edges.now (preferred graph.now)
         (flag_at placed.now) vertex }
-    ensures vertex { MatchOption result (Unit {0}) (λ vertex. vertex < length edges.now) }
+    ensures vertex { MatchOption result (Unit {0}) (λ vertex. vertex < length graph.now.edges.now) }
 {
     let mut found = None;
-    for edge in edges.at(vertex) {
+    for edge in graph.edges.at(vertex) {
         if !is_placed(placed, edge.to) {
-            found = Some(better(edges, keys, direction, placed, found, edge.to));
+            found = Some(better(graph, placed, found, edge.to));
         }
     }
     found
 }
 
 /// Returns `vertex` if `found` is `None` or `vertex` goes before `found` (`goes_before`), and otherwise `found`.
-fn better(
-    edges: &Adjacency,
-    keys: &[VertexKey],
-    direction: Direction,
-    placed: &[bool],
-    found: Option<usize>,
-    vertex: usize,
-) -> usize
-    requires keys { length keys.now ≡ length edges.now }
-    requires vertex { vertex < length edges.now }
-    requires found { MatchOption found (Unit {0}) (λ other. other < length edges.now) }
-    ensures { result ≡ earlier_of (goes_before edges.now (turned direction (before_by keys.now))
+fn better(graph: &KeyedGraph, placed: &[bool], found: Option<usize>, vertex: usize) -> usize
+    requires vertex { vertex < length graph.now.edges.now }
+    requires found { MatchOption found (Unit {0}) (λ other. other < length graph.now.edges.now) }
+    ensures { result ≡ earlier_of (goes_before graph.now.edges.now (preferred graph.now)
         (flag_at placed.now)) found vertex }
 {
     match found {
-        Some(other) if !goes_before(edges, keys, direction, placed, vertex, other) => other,
+        Some(other) if !goes_before(graph, placed, vertex, other) => other,
         _ => vertex,
     }
 }
 
 /// Returns whether `one` has more edges to placed vertices than `other`, or as many and `direction` prefers `one`.
-fn goes_before(
-    edges: &Adjacency,
-    keys: &[VertexKey],
-    direction: Direction,
-    placed: &[bool],
-    one: usize,
-    other: usize,
-) -> bool
-    requires keys { length keys.now ≡ length edges.now }
-    requires one { one < length edges.now }
-    requires other { other < length edges.now }
-    ensures { result ≡ goes_before edges.now (turned direction (before_by keys.now)) (flag_at placed.now)
+fn goes_before(graph: &KeyedGraph, placed: &[bool], one: usize, other: usize) -> bool
+    requires one { one < length graph.now.edges.now }
+    requires other { other < length graph.now.edges.now }
+    ensures { result ≡ goes_before graph.now.edges.now (preferred graph.now) (flag_at placed.now)
         one other }
 {
-    let to_placed = count_placed(edges.at(one), placed);
-    let others = count_placed(edges.at(other), placed);
-    others < to_placed || (to_placed == others && direction.takes(keys, one, other))
+    let to_placed = count_placed(graph.edges.at(one), placed);
+    let others = count_placed(graph.edges.at(other), placed);
+    others < to_placed || (to_placed == others && graph.direction.takes(graph.keys, one, other))
 }
 
 /// Returns the number of `edges` that lead to placed vertices.

@@ -3,6 +3,7 @@
 
 mod depth_order;
 mod direction;
+mod keyed_graph;
 
 pub use depth_order::order_by_depth;
 pub use direction::Direction;

@@ -1,11 +1,11 @@
 ghost use Rattle.std.specs.Prelude.{◌≡◌};
 ghost use Rattle.std.specs.List.Sorted.{IsStrictlyIncreasing};
 ghost use Rattle.fact_store.specs.View.{cells_of};
-ghost use Rattle.subnet_view.specs.Reading.{port_count_of, switches};
+ghost use Rattle.subnet_view.specs.Reading.{port_count_of};
 ghost use Rattle.held_tables.specs.Switches.{far_of, index_in, switch_over};
 
 use smp_bytes::{Guid, PortNum};
-use subnet_view::{EndPort, Wires};
+use subnet_view::{EndPort, Subnet};
 
 /// Where the wire in a port leads.
 #[derive(Clone, Copy, Debug, PartialEq, Eq)]
@@ -19,26 +19,24 @@ pub enum Far {
 }
 
 /// Returns the far end of the wire in `port` of `node`, in constant time if `port` is above `ports`, or `Nothing`.
-pub(crate) fn far_within(wires: &Wires, guids: &[Guid], node: Guid, ports: u8, port: PortNum) -> Far
-    requires guids { guids.now ≡ switches (cells_of wires.now) }
-    requires ports { ports ≡ port_count_of (cells_of wires.now) node }
-    ensures { result ≡ far_of (cells_of wires.now) node port }
+pub(crate) fn far_within(subnet: &Subnet, node: Guid, ports: u8, port: PortNum) -> Far
+    requires ports { ports ≡ port_count_of (cells_of subnet.now) node }
+    ensures { result ≡ far_of (cells_of subnet.now) node port }
 {
     if ports < port.number() {
         Far::Nothing
     } else {
-        far_of(wires, guids, node, port)
+        far_of(subnet, node, port)
     }
 }
 
 /// Returns the far end of the wire in `port` of `node`, or `Nothing` if there is no wire.
-pub(crate) fn far_of(wires: &Wires, guids: &[Guid], node: Guid, port: PortNum) -> Far
-    requires { guids.now ≡ switches (cells_of wires.now) }
-    ensures { result ≡ far_of (cells_of wires.now) node port }
+pub(crate) fn far_of(subnet: &Subnet, node: Guid, port: PortNum) -> Far
+    ensures { result ≡ far_of (cells_of subnet.now) node port }
 {
-    match wires.across(node, port) {
+    match subnet.wires().across(node, port) {
         None => Far::Nothing,
-        Some((node, port)) => match index(guids, node) {
+        Some((node, port)) => match index(subnet.switches(), node) {
             Some(index) => Far::Switch(index),
             None => Far::Port(EndPort { node, port }),
         },

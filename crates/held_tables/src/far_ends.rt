@@ -1,6 +1,5 @@
 ghost use Rattle.std.specs.Prelude.{◌≡◌, ◌<◌, ◌≤◌, ◌-◌, ◌^◌, ◌++◌, slice_index_or, IfOk, length, replicate, take};
 ghost use Rattle.fact_store.specs.View.{cells_of};
-ghost use Rattle.subnet_view.specs.Reading.{switches};
 ghost use Rattle.held_tables.specs.Switches.{row_of, switch_over};
 ghost use Rattle.held_tables.specs.FarEnds.{padded, wired_more};
 
@@ -8,7 +7,7 @@ use crate::far_end::{Far, far_within};
 use smp_bytes::{Guid, PortNum};
 use std::alloc::{AllocError, Global};
 use std::marker::Model;
-use subnet_view::{Wires, port_count};
+use subnet_view::{Subnet, port_count};
 
 /// Where the wires in a switch's ports lead.
 #[derive(Drop)]
@@ -73,34 +72,22 @@ fn switch_at(fars: &[Far], port: u8) -> Option<usize>
 }
 
 /// Returns the far ends of the wires in the ports of `node`.
-pub(crate) fn row_of(
-    alloc: Global,
-    wires: &Wires,
-    guids: &[Guid],
-    node: Guid,
-) -> Result<FarEnds, AllocError>
-    requires { guids.now ≡ switches (cells_of wires.now) }
-    ensures { IfOk result (λ row. row ≡ row_of (cells_of wires.now) node) }
+pub(crate) fn row_of(alloc: Global, subnet: &Subnet, node: Guid) -> Result<FarEnds, AllocError>
+    ensures { IfOk result (λ row. row ≡ row_of (cells_of subnet.now) node) }
 {
-    let fars = all_fars(alloc, wires, guids, node)?;
+    let fars = all_fars(alloc, subnet, node)?;
     let fars = shortened(alloc, &fars)?;
     Ok(FarEnds { fars })
 }
 
 /// Returns the far ends of the wires in ports 0 to 254 of `node`, in the order of the ports.
-fn all_fars(
-    alloc: Global,
-    wires: &Wires,
-    guids: &[Guid],
-    node: Guid,
-) -> Result<Vec<Far>, AllocError>
-    requires { guids.now ≡ switches (cells_of wires.now) }
-    ensures { IfOk result (λ fars. fars.items ≡ row_of (cells_of wires.now) node) }
+fn all_fars(alloc: Global, subnet: &Subnet, node: Guid) -> Result<Vec<Far>, AllocError>
+    ensures { IfOk result (λ fars. fars.items ≡ row_of (cells_of subnet.now) node) }
 {
-    let ports = port_count(wires.store(), node);
+    let ports = port_count(subnet.store(), node);
     let mut fars = Vec::with_capacity(alloc, 255)?;
     for port in 0..255u8 {
-        fars.push(far_within(wires, guids, node, ports, PortNum::new(port)))?;
+        fars.push(far_within(subnet, node, ports, PortNum::new(port)))?;
     }
     Ok(fars)
 }

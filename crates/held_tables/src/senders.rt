@@ -1,12 +1,12 @@
 ghost use Rattle.std.specs.Prelude.{◌≡◌, IfOk, map};
 ghost use Rattle.fact_store.specs.View.{cells_of};
-ghost use Rattle.subnet_view.specs.Reading.{switches};
+ghost use Rattle.subnet_view.specs.EndPort.{end_ports};
 ghost use Rattle.held_tables.specs.Switches.{all_begin, far_of, first_switch, is_among, sender_of, switch_over};
 
 use crate::far_end::{Far, far_of, index, switch_over};
 use smp_bytes::Guid;
 use std::alloc::{AllocError, Global};
-use subnet_view::{EndPort, Wires};
+use subnet_view::{EndPort, Subnet};
 
 /// An end port that sends packets.
 #[derive(Clone, Copy, Debug, PartialEq, Eq)]
@@ -19,20 +19,16 @@ pub struct Sender {
     pub far: Far,
 }
 
-/// Returns the end ports `ports` as senders, in the order of `ports`.
-pub(crate) fn sources(
-    alloc: Global,
-    wires: &Wires,
-    guids: &[Guid],
-    ports: &[EndPort],
-) -> Result<Vec<Sender>, AllocError>
-    requires { guids.now ≡ switches (cells_of wires.now) }
-    ensures { IfOk result (λ sources. sources.items ≡ map (sender_of (cells_of wires.now)) ports.now) }
+/// Returns the end ports of `subnet` as senders, in the order of `Subnet::end_ports`.
+pub(crate) fn sources(alloc: Global, subnet: &Subnet) -> Result<Vec<Sender>, AllocError>
+    ensures { IfOk result (λ sources. sources.items
+        ≡ map (sender_of (cells_of subnet.now)) (end_ports (cells_of subnet.now))) }
 {
+    let ports = subnet.end_ports();
     let mut sources = Vec::with_capacity(alloc, ports.len())?;
     for port in ports {
-        let switch = index(guids, port.node);
-        let far = far_of(wires, guids, port.node, port.port);
+        let switch = index(subnet.switches(), port.node);
+        let far = far_of(subnet, port.node, port.port);
         sources.push(Sender {
             port: *port,
             switch,

@@ -48,10 +48,8 @@ impl<'s> WiredSubnet<'s> {
     pub fn of(alloc: Global, subnet: &'s Subnet<'s>) -> Result<Self, AllocError>
         ensures { IfOk result (λ wired. wired ≡ subnet.now) }
     {
-        let wires = subnet.wires();
-        let guids = subnet.switches();
-        let switches = wired_switches(alloc, wires, guids)?;
-        let sources = sources(alloc, wires, guids, subnet.end_ports())?;
+        let switches = wired_switches(alloc, subnet)?;
+        let sources = sources(alloc, subnet)?;
         let firsts = firsts(alloc, &sources)?;
         let begin = all_begin(switches.len(), &firsts);
         Ok(WiredSubnet {

@@ -18,8 +18,7 @@ use Rattle.lane_channels.specs.AnyTables.{IsDroppedByAny, IsSomeDropByAny, Waits
 use Rattle.lane_channels.specs.declared.dropped.Dropped.{Dropped}
 use Rattle.lane_channels.specs.LaneNetwork.{SeenByLane}
 use Rattle.lane_channels.specs.Senders.{IsNothing, SentFor}
-use Rattle.lane_channels.specs.Stops.{Columns, ComesAfter, HasEdge, edge_by}
-use Rattle.lane_channels.specs.Visit.{AreWithin}
+use Rattle.lane_channels.specs.Stops.{AreWithin, Columns, ComesAfter, HasEdge, edge_by}
 use Rattle.lane_channels.specs.Walk.{AreFollowed, Beginnings, IsDone, IsDroppedOne, IsMarked, IsWhole, OneTakes, Walked}
 use Rattle.lane_channels.proofs.Visits.{index_within, no_column}
 

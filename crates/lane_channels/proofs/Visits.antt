@@ -12,9 +12,9 @@ use Rattle.audit_channels.specs.ChannelOrders.{Follows, IsWith}
 use Rattle.audit_channels.proofs.Columns.{within}
 use Rattle.lanes_file.specs.Lanes.{LanesSaid}
 use Rattle.lane_channels.specs.declared.dropped.Dropped.{Dropped}
-use Rattle.lane_channels.specs.Stops.{Columns, HasEdge, carried, edge_by, lane_between, lane_by, lane_if_carried, lane_number, port_across, stop_at}
+use Rattle.lane_channels.specs.Stops.{AreWithin, Columns, HasEdge, carried, edge_by, lane_between, lane_by, lane_if_carried, lane_number, port_across, stop_at}
 use Rattle.lane_channels.specs.LaneTurns.{TakesByLane}
-use Rattle.lane_channels.specs.Visit.{AreLeft, AreWithin, DropsAlong, Edges, FirstEdges, GoesAlong, IsNoOther, IsWithNexts, LeavesAlong, TakesAlong, Walking}
+use Rattle.lane_channels.specs.Visit.{AreLeft, DropsAlong, Edges, FirstEdges, GoesAlong, IsNoOther, IsWithNexts, LeavesAlong, TakesAlong, Walking}
 
 -- a lane, if packets on it are carried
 pub is_carried : (lane n : ℕ) → lane_if_carried lane ≡ Some n → (n ≡ lane) × (lane < 15)

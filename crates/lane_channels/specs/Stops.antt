@@ -1,7 +1,7 @@
 -- Where packets come in at usable switches, and where they go from there. A stop is a port by which packets come in at
 -- a usable switch. Its number is 256 times the index of the switch, plus the port. The port is 0 for packets that the
 -- switch itself sends.
-use Rattle.std.specs.Prelude.{◌≡◌, ℕ, zero, suc, ◌/◌, ◌%◌, ◌+◌, ◌*◌, ◌&&◌, List, [], Option, None, Some, length}
+use Rattle.std.specs.Prelude.{◌≡◌, ◌≤◌, ℕ, zero, suc, ◌/◌, ◌%◌, ◌+◌, ◌*◌, ◌&&◌, List, [], Option, None, Some, length}
 use Rattle.std.specs.Prelude.{nat_lt, slice_index_or, if◌then◌else◌}
 use Rattle.port_graph.specs.declared.edge.Edge.{Edge}
 use Rattle.subnet_view.specs.Reading.{Cells, switches}
@@ -92,3 +92,7 @@ ComesAfter said cells columns level zero first stop = first ≡ Some stop
 ComesAfter said cells columns level (suc count) first stop =
     (before : ℕ) × ComesAfter said cells columns level count first before
     × IsNextStop said cells columns level before stop
+
+-- each column has at most as many edges as there are usable switches
+abbrev pub AreWithin : Cells → Columns → Type 0
+AreWithin cells columns = (nth : ℕ) → length (slice_index_or columns nth []) ≤ length (switches cells)

@@ -1,7 +1,8 @@
 -- Visits of stops. A visit records what packets of one level, for one LID, do at a stop along the edges of several
 -- tables.
-use Rattle.std.specs.Prelude.{◌≡◌, ◌⊎◌, ◌↔◌, ◌<◌, ◌≤◌, ◌*◌, ◌/◌, ℕ, List, [], Contains, None, Some, length, map, slice_index_or, slice_set}
+use Rattle.std.specs.Prelude.{◌≡◌, ◌⊎◌, ◌↔◌, ◌<◌, ◌*◌, ◌/◌, ℕ, List, Contains, None, Some, length, map, slice_set}
 use Rattle.port_graph.specs.declared.edge.Edge.{Edge}
+use Rattle.fact_store.specs.View.{cells_of}
 use Rattle.subnet_view.specs.Reading.{Cells, switches}
 use Rattle.audit_channels.specs.ChannelOrders.{Follows}
 use Rattle.lanes_file.specs.Lanes.{LanesSaid}
@@ -10,7 +11,7 @@ use Rattle.lane_channels.specs.declared.walk_state.LidColumns.{LidColumns}
 use Rattle.lane_channels.specs.declared.walk_state.Walks.{Walks}
 use Rattle.lane_channels.specs.LaneTurns.{DropsBefore, TakesByLane}
 use Rattle.lane_channels.specs.Stops.{Columns, HasEdge, IsNextStop, edge_by, lane_between, lane_number}
-use Rattle.lane_channels.specs.Walk.{IsDone, Walked, mark_number}
+use Rattle.lane_channels.specs.Walk.{AreFollowed, Beginnings, IsDone, Walked, mark_number}
 
 -- a set of edges, by the property that its members have
 abbrev pub Edges : Type 1
@@ -95,10 +96,31 @@ IsVisitIfNew said cells columns lid level stop old new =
     (IsDone (length (switches cells)) lid old.kept.marks level stop × (new ≡ old))
     ⊎ ((stop < 256 * length (switches cells)) × IsVisit said cells columns lid level stop old new)
 
--- each column has at most as many edges as there are usable switches
-abbrev pub AreWithin : Cells → Columns → Type 0
-AreWithin cells columns = (nth : ℕ) → length (slice_index_or columns nth []) ≤ length (switches cells)
-
 -- the columns as lists
 abbrev pub columns_in : LidColumns → Columns
 columns_in c = map (λ column. column.items) c.columns.items
+
+-- the facts of the network of `c`
+abbrev pub cells_at : LidColumns → Cells
+cells_at c = cells_of c.by_lane.now.seen.facts
+
+-- `walks` has an entry for each channel by lane, and a mark for each stop and level
+pub record HasRoom (c : LidColumns) (walks : Walks) : Type 0 where
+  pub waits : length walks.waits ≡ 4096 * length (switches (cells_at c))
+  pub marks : length walks.marks.items ≡ 4096 * length (switches (cells_at c))
+
+-- `new` is `old` after the packets `these` for the LID of `c` were followed too
+abbrev pub AreFollowedBy : LidColumns → Beginnings → Walks → Walks → Type 0
+AreFollowedBy c these old new =
+    AreFollowed c.by_lane.now.said (cells_at c) (columns_in c) c.lid these (walked old) (walked new)
+
+-- `new` is `old` with a record of what a packet of `level` for the LID of `c` does at `stop` along the edges `these`
+abbrev pub AreLeftBy : LidColumns → ℕ → ℕ → Edges → Walks → Walks → Type 0
+AreLeftBy c level stop these old new =
+    AreLeft c.by_lane.now.said (cells_at c) (columns_in c) c.lid level stop these (walking old) (walking new)
+
+-- in `new`, a channel follows `channel` if it does in `old`, or if packets of `level` that come in at the switch at
+-- `index` by port `into` leave it on this channel, along one of the edges `these`
+abbrev pub IsWithNextsBy : LidColumns → Edges → ℕ → ℕ → ℕ → ℕ → List (List ℕ) → List (List ℕ) → Type 0
+IsWithNextsBy c these level index into channel old new =
+    IsWithNexts old channel (LeavesAlong c.by_lane.now.said (cells_at c) these level index into) new

@@ -2,15 +2,13 @@
 ghost use Rattle.std.specs.Prelude.{◌≡◌, ◌<◌, ◌+◌, ◌*◌, ◌/◌, ◌^◌, None, OnOk, Some, length, slice_index_or};
 ghost use Rattle.std.specs.Prelude.{slice_set};
 ghost use Rattle.std.specs.Option.{option_or};
-ghost use Rattle.fact_store.specs.View.{cells_of};
 ghost use Rattle.subnet_view.specs.Reading.{switches};
 ghost use Rattle.lane_channels.specs.Stops.{HasEdge};
-ghost use Rattle.lane_channels.specs.Visit.{AreLeft, AreWithin, IsVisit, IsVisitIfNew, IsWithNexts, LeavesAlong};
+ghost use Rattle.lane_channels.specs.Visit.{AreLeftBy, HasRoom, IsVisit, IsVisitIfNew, IsWithNextsBy, cells_at};
 ghost use Rattle.lane_channels.specs.Visit.{columns_in, walking};
 ghost use Rattle.lane_channels.specs.Walk.{is_done, mark_number};
 
 use crate::dropped::Dropped;
-use crate::lane_network::LaneNetwork;
 use crate::stop::{lane_number, port_of, stop_at};
 use crate::walk_state::{LidColumns, Walks};
 use audit_channels::Waits;
@@ -20,25 +18,21 @@ use std::alloc::AllocError;
 
 /// Visits `stop`, unless it is at no usable switch, or packets of `level` for the LID were followed from there before.
 pub(crate) fn visit_if_new(
-    by_lane: &LaneNetwork,
     columns: &LidColumns,
     level: u8,
     stop: usize,
     walks: &mut Walks,
 ) -> Result<(), AllocError>
-    requires columns { AreWithin (cells_of by_lane.now.seen.facts) (columns_in columns.now) }
-    requires room { 4096 * length (switches (cells_of by_lane.now.seen.facts)) < 2 ^ 64 }
     requires level { level < 16 }
-    requires waits { length walks.old.waits ≡ 4096 * length (switches (cells_of by_lane.now.seen.facts)) }
-    requires marks { length walks.old.marks.items ≡ 4096 * length (switches (cells_of by_lane.now.seen.facts)) }
-    ensures { OnOk result (IsVisitIfNew by_lane.now.said (cells_of by_lane.now.seen.facts) (columns_in columns.now)
-        columns.now.lid level stop (walking walks.old) (walking walks.new)) }
+    requires walks { HasRoom columns.now walks.old }
+    ensures { OnOk result (IsVisitIfNew columns.now.by_lane.now.said (cells_at columns.now)
+        (columns_in columns.now) columns.now.lid level stop (walking walks.old) (walking walks.new)) }
 {
-    let count = by_lane.network().switch_count();
+    let count = columns.by_lane.network().switch_count();
     if is_done(count, columns.lid, &walks.marks, level, stop) {
         return Ok(());
     }
-    visit(by_lane, columns, level, stop, walks)
+    visit(columns, level, stop, walks)
 }
 
 /// Marks `stop` for the LID and `level`, and follows a packet of `level` from there along the edge of each column.
@@ -46,45 +40,27 @@ pub(crate) fn visit_if_new(
 /// For each edge, records which channels the packet can take after the channel of the edge, and adds the stop that the
 /// edge leads to. If the packet is dropped for want of a lane, notes the packet, unless one is noted already. For each
 /// edge, does a binary search among the maps of lanes, and one more for each edge of the next switch.
-fn visit(
-    by_lane: &LaneNetwork,
-    columns: &LidColumns,
-    level: u8,
-    stop: usize,
-    walks: &mut Walks,
-) -> Result<(), AllocError>
-    requires columns { AreWithin (cells_of by_lane.now.seen.facts) (columns_in columns.now) }
-    requires room { 4096 * length (switches (cells_of by_lane.now.seen.facts)) < 2 ^ 64 }
+fn visit(columns: &LidColumns, level: u8, stop: usize, walks: &mut Walks) -> Result<(), AllocError>
     requires level { level < 16 }
-    requires stop { stop < 256 * length (switches (cells_of by_lane.now.seen.facts)) }
-    requires waits { length walks.old.waits ≡ 4096 * length (switches (cells_of by_lane.now.seen.facts)) }
-    requires marks { length walks.old.marks.items ≡ 4096 * length (switches (cells_of by_lane.now.seen.facts)) }
-    ensures { OnOk result (IsVisit by_lane.now.said (cells_of by_lane.now.seen.facts) (columns_in columns.now)
+    requires stop { stop < 256 * length (switches (cells_at columns.now)) }
+    requires walks { HasRoom columns.now walks.old }
+    ensures { OnOk result (IsVisit columns.now.by_lane.now.said (cells_at columns.now) (columns_in columns.now)
         columns.now.lid level stop (walking walks.old) (walking walks.new)) }
 {
     mark(&mut walks.marks, mark_number(level, stop), columns.lid);
-    leave(by_lane, columns, level, stop, walks)
+    leave(columns, level, stop, walks)
 }
 
 /// Follows a packet of `level` from `stop` along the edge of each column.
-fn leave(
-    by_lane: &LaneNetwork,
-    columns: &LidColumns,
-    level: u8,
-    stop: usize,
-    walks: &mut Walks,
-) -> Result<(), AllocError>
-    requires columns { AreWithin (cells_of by_lane.now.seen.facts) (columns_in columns.now) }
-    requires room { 4096 * length (switches (cells_of by_lane.now.seen.facts)) < 2 ^ 64 }
-    requires waits { length walks.old.waits ≡ 4096 * length (switches (cells_of by_lane.now.seen.facts)) }
+fn leave(columns: &LidColumns, level: u8, stop: usize, walks: &mut Walks) -> Result<(), AllocError>
+    requires waits { length walks.old.waits ≡ 4096 * length (switches (cells_at columns.now)) }
     ensures marks { walks.new.marks ≡ walks.old.marks }
-    ensures left { OnOk result (AreLeft by_lane.now.said (cells_of by_lane.now.seen.facts) (columns_in columns.now)
-        columns.now.lid level stop (HasEdge (columns_in columns.now) (stop / 256)) (walking walks.old)
-        (walking walks.new)) }
+    ensures left { OnOk result (AreLeftBy columns.now level stop
+        (HasEdge (columns_in columns.now) (stop / 256)) walks.old walks.new) }
 {
     for nth in 0..columns.columns.len() {
         if let Some(edge) = columns.other_edge(stop / 256, nth) {
-            leave_along(by_lane, columns, level, stop, edge, walks)?;
+            leave_along(columns, level, stop, edge, walks)?;
         }
     }
     Ok(())
@@ -92,25 +68,21 @@ fn leave(
 
 /// Follows a packet of `level` from `stop` along `edge`.
 fn leave_along(
-    by_lane: &LaneNetwork,
     columns: &LidColumns,
     level: u8,
     stop: usize,
     edge: Edge,
     walks: &mut Walks,
 ) -> Result<(), AllocError>
-    requires columns { AreWithin (cells_of by_lane.now.seen.facts) (columns_in columns.now) }
-    requires room { 4096 * length (switches (cells_of by_lane.now.seen.facts)) < 2 ^ 64 }
     requires edge { HasEdge (columns_in columns.now) (stop / 256) edge }
-    requires waits { length walks.old.waits ≡ 4096 * length (switches (cells_of by_lane.now.seen.facts)) }
+    requires waits { length walks.old.waits ≡ 4096 * length (switches (cells_at columns.now)) }
     ensures marks { walks.new.marks ≡ walks.old.marks }
-    ensures left { OnOk result (AreLeft by_lane.now.said (cells_of by_lane.now.seen.facts) (columns_in columns.now)
-        columns.now.lid level stop (λ e. e ≡ edge) (walking walks.old) (walking walks.new)) }
+    ensures left { OnOk result (AreLeftBy columns.now level stop (λ e. e ≡ edge) walks.old walks.new) }
 {
     let at = stop / 256;
     let out = edge.port;
     let to = edge.to;
-    let Some(lane) = by_lane.lane(level, at, port_of(stop), out) else {
+    let Some(lane) = columns.by_lane.lane(level, at, port_of(stop), out) else {
         let dropped = Dropped {
             lid: columns.lid,
             level,
@@ -121,17 +93,9 @@ fn leave_along(
         return Ok(());
     };
     let channel = lane_number(at, out, lane);
-    let into_there = by_lane.port_across(at, out);
-    record(
-        by_lane,
-        columns,
-        level,
-        to,
-        into_there,
-        channel,
-        &mut walks.waits,
-    )?;
-    if to < by_lane.network().switch_count() {
+    let into_there = columns.by_lane.port_across(at, out);
+    record(columns, level, to, into_there, channel, &mut walks.waits)?;
+    if to < columns.by_lane.network().switch_count() {
         walks.stops.push(stop_at(to, into_there))?;
     }
     Ok(())
@@ -147,7 +111,6 @@ fn note(noted: &mut Option<Dropped>, dropped: Dropped)
 /// Adds, to the channels that can come after `channel`, those that packets of `level` that come in by port `into` take
 /// from the switch at `index` along its edge in any column, unless they are dropped there.
 fn record(
-    by_lane: &LaneNetwork,
     columns: &LidColumns,
     level: u8,
     index: usize,
@@ -155,16 +118,14 @@ fn record(
     channel: usize,
     waits: &mut Waits,
 ) -> Result<(), AllocError>
-    requires columns { AreWithin (cells_of by_lane.now.seen.facts) (columns_in columns.now) }
-    requires room { 4096 * length (switches (cells_of by_lane.now.seen.facts)) < 2 ^ 64 }
-    requires waits { length waits.old ≡ 4096 * length (switches (cells_of by_lane.now.seen.facts)) }
+    requires waits { length waits.old ≡ 4096 * length (switches (cells_at columns.now)) }
     requires channel { channel < length waits.old }
-    ensures { OnOk result (IsWithNexts waits.old channel (LeavesAlong by_lane.now.said
-        (cells_of by_lane.now.seen.facts) (HasEdge (columns_in columns.now) index) level index into) waits.new) }
+    ensures { OnOk result (IsWithNextsBy columns.now (HasEdge (columns_in columns.now) index) level index into
+        channel waits.old waits.new) }
 {
     for nth in 0..columns.columns.len() {
         if let Some(edge) = columns.other_edge(index, nth) {
-            record_along(by_lane, level, index, into, edge, channel, waits)?;
+            record_along(columns, level, index, into, edge, channel, waits)?;
         }
     }
     Ok(())
@@ -173,7 +134,7 @@ fn record(
 /// Adds the channel along `edge` from the switch at `index` to those that can come after `channel`, unless packets of
 /// `level` that come in there by port `into` are dropped along it.
 fn record_along(
-    by_lane: &LaneNetwork,
+    columns: &LidColumns,
     level: u8,
     index: usize,
     into: PortNum,
@@ -181,14 +142,12 @@ fn record_along(
     channel: usize,
     waits: &mut Waits,
 ) -> Result<(), AllocError>
-    requires room { 4096 * length (switches (cells_of by_lane.now.seen.facts)) < 2 ^ 64 }
-    requires index { index < length (switches (cells_of by_lane.now.seen.facts)) }
-    requires waits { length waits.old ≡ 4096 * length (switches (cells_of by_lane.now.seen.facts)) }
+    requires index { index < length (switches (cells_at columns.now)) }
+    requires waits { length waits.old ≡ 4096 * length (switches (cells_at columns.now)) }
     requires channel { channel < length waits.old }
-    ensures { OnOk result (IsWithNexts waits.old channel (LeavesAlong by_lane.now.said
-        (cells_of by_lane.now.seen.facts) (λ e. e ≡ edge) level index into) waits.new) }
+    ensures { OnOk result (IsWithNextsBy columns.now (λ e. e ≡ edge) level index into channel waits.old waits.new) }
 {
-    match by_lane.lane(level, index, into, edge.port) {
+    match columns.by_lane.lane(level, index, into, edge.port) {
         Some(lane) => waits.add(channel, lane_number(index, edge.port, lane)),
         None => Ok(()),
     }

@@ -5,14 +5,14 @@ ghost use Rattle.fact_store.specs.View.{cells_of};
 ghost use Rattle.held_tables.specs.Tables.{owners_of};
 ghost use Rattle.lane_channels.specs.LaneNetwork.{lists_of};
 ghost use Rattle.lane_channels.specs.Senders.{AnswersOf, AnswersTo, HasAsked, IsNothing, SentFor, SentFrom};
-ghost use Rattle.lane_channels.specs.Visit.{AreWithin, columns_in, walked};
+ghost use Rattle.lane_channels.specs.Visit.{AreFollowedBy, HasRoom, cells_at, columns_in, walked};
 ghost use Rattle.lane_channels.specs.Waiting.{IsSomeDrop, WaitsByLane};
 ghost use Rattle.audit_channels.specs.ChannelOrders.{AreWaits};
-ghost use Rattle.lane_channels.specs.AnyTables.{lane_channel_count};
-ghost use Rattle.lane_channels.specs.Walk.{AreFollowed, BeginsIf};
+ghost use Rattle.lane_channels.specs.AnyTables.{columns_for, lane_channel_count};
+ghost use Rattle.packet_walks.specs.Edges.{edges_of};
+ghost use Rattle.lane_channels.specs.Walk.{BeginsIf};
 ghost use Rattle.lanes_file.specs.Lanes.{level_of};
 ghost use Rattle.subnet_view.specs.EndPort.{end_ports};
-ghost use Rattle.subnet_view.specs.Reading.{switches};
 
 use crate::dropped::Dropped;
 use crate::held_by::{Asked, asked_of};
@@ -58,9 +58,9 @@ pub fn lane_waits(
         let lid = Lid::new(below + 1);
         cursor.go_to(alloc, lid)?;
         let edges = cursor.edges(alloc)?;
-        let columns = one_column(alloc, lid, edges)?;
+        let columns = one_column(alloc, &*by_lane, lid, edges)?;
         let owners = network.owners(alloc, lid)?;
-        follow_lid(by_lane, &asked, &columns, &owners, &mut walks)?;
+        follow_lid(&asked, &columns, &owners, &mut walks)?;
     }
     Ok(LaneWaits {
         waits: walks.waits,
@@ -69,13 +69,26 @@ pub fn lane_waits(
 }
 
 /// Returns `edges` as the only column of `lid`.
-fn one_column(alloc: Global, lid: Lid, edges: Vec<Option<Edge>>) -> Result<LidColumns, AllocError>
+fn one_column<'a>(
+    alloc: Global,
+    by_lane: &'a LaneNetwork<'a>,
+    lid: Lid,
+    edges: Vec<Option<Edge>>,
+) -> Result<LidColumns<'a>, AllocError>
+    requires lid { 1 ≤ lid }
+    requires edges { edges.items ≡ edges_of (cells_of by_lane.now.seen.facts) by_lane.now.seen.held lid }
+    requires room { lane_channel_count by_lane.now < 2 ^ 64 }
+    ensures by_lane { IfOk result (λ columns. columns.by_lane.now ≡ by_lane.now) }
     ensures lid { IfOk result (λ columns. columns.lid ≡ lid) }
-    ensures columns { IfOk result (λ columns. columns_in columns ≡ edges.items ∷ []) }
+    ensures columns { IfOk result (λ columns. columns_in columns ≡ columns_for by_lane.now [] lid) }
 {
     let mut columns = Vec::with_capacity(alloc, 1)?;
     columns.push(edges)?;
-    Ok(LidColumns { lid, columns })
+    Ok(LidColumns {
+        by_lane,
+        lid,
+        columns,
+    })
 }
 
 /// Returns what is known before any packet is followed, for `count` channels by lane and `count` marks.
@@ -94,58 +107,47 @@ pub(crate) fn nothing_followed(alloc: Global, count: usize) -> Result<Walks, All
 
 /// Follows the packets for the LID of `columns` that end ports send.
 pub(crate) fn follow_lid(
-    by_lane: &LaneNetwork,
     asked: &Asked,
     columns: &LidColumns,
     owners: &[EndPort],
     walks: &mut Walks,
 ) -> Result<(), AllocError>
-    requires columns { AreWithin (cells_of by_lane.now.seen.facts) (columns_in columns.now) }
-    requires room { 4096 * length (switches (cells_of by_lane.now.seen.facts)) < 2 ^ 64 }
-    requires lid { 1 ≤ columns.now.lid }
-    requires asked { HasAsked by_lane.now asked.now }
-    requires owners { owners.now ≡ owners_of by_lane.now.seen.held columns.now.lid }
-    requires waits { length walks.old.waits ≡ 4096 * length (switches (cells_of by_lane.now.seen.facts)) }
-    requires marks { length walks.old.marks.items ≡ 4096 * length (switches (cells_of by_lane.now.seen.facts)) }
-    ensures { OnOk result (AreFollowed by_lane.now.said (cells_of by_lane.now.seen.facts) (columns_in columns.now)
-        columns.now.lid (SentFor by_lane.now asked.now.answers columns.now.lid) (walked walks.old) (walked walks.new)) }
+    requires asked { HasAsked columns.now.by_lane.now asked.now }
+    requires owners { owners.now ≡ owners_of columns.now.by_lane.now.seen.held columns.now.lid }
+    requires walks { HasRoom columns.now walks.old }
+    ensures { OnOk result (AreFollowedBy columns.now
+        (SentFor columns.now.by_lane.now asked.now.answers columns.now.lid) walks.old walks.new) }
 {
-    for index in 0..by_lane.network().sources().len() {
-        follow_sender(by_lane, asked, columns, owners, index, walks)?;
+    for index in 0..columns.by_lane.network().sources().len() {
+        follow_sender(asked, columns, owners, index, walks)?;
     }
     Ok(())
 }
 
 /// Follows the packets for the LID of `columns` that the end port at `index` sends.
 fn follow_sender(
-    by_lane: &LaneNetwork,
     asked: &Asked,
     columns: &LidColumns,
     owners: &[EndPort],
     index: usize,
     walks: &mut Walks,
 ) -> Result<(), AllocError>
-    requires columns { AreWithin (cells_of by_lane.now.seen.facts) (columns_in columns.now) }
-    requires room { 4096 * length (switches (cells_of by_lane.now.seen.facts)) < 2 ^ 64 }
-    requires lid { 1 ≤ columns.now.lid }
-    requires asked { HasAsked by_lane.now asked.now }
-    requires owners { owners.now ≡ owners_of by_lane.now.seen.held columns.now.lid }
-    requires index { index < length (end_ports (cells_of by_lane.now.seen.facts)) }
-    requires waits { length walks.old.waits ≡ 4096 * length (switches (cells_of by_lane.now.seen.facts)) }
-    requires marks { length walks.old.marks.items ≡ 4096 * length (switches (cells_of by_lane.now.seen.facts)) }
-    ensures { OnOk result (AreFollowed by_lane.now.said (cells_of by_lane.now.seen.facts) (columns_in columns.now)
-        columns.now.lid (SentFrom by_lane.now asked.now.answers columns.now.lid index) (walked walks.old)
-        (walked walks.new)) }
+    requires asked { HasAsked columns.now.by_lane.now asked.now }
+    requires owners { owners.now ≡ owners_of columns.now.by_lane.now.seen.held columns.now.lid }
+    requires index { index < length (end_ports (cells_at columns.now)) }
+    requires walks { HasRoom columns.now walks.old }
+    ensures { OnOk result (AreFollowedBy columns.now
+        (SentFrom columns.now.by_lane.now asked.now.answers columns.now.lid index) walks.old walks.new) }
 {
-    let first = first_at(by_lane.firsts(), index);
-    let port = port_at(by_lane.network().sources(), index);
-    let level = level_from(by_lane.lanes(), port, columns.lid);
-    walk_at_level(by_lane, columns, level, first, walks)?;
+    let first = first_at(columns.by_lane.firsts(), index);
+    let port = port_at(columns.by_lane.network().sources(), index);
+    let level = level_from(columns.by_lane.lanes(), port, columns.lid);
+    walk_at_level(columns, level, first, walks)?;
     if !asked.answers {
         return Ok(());
     }
     let lids = lids_at(&asked.held_by, index);
-    follow_answers(by_lane, columns, owners, lids, first, walks)
+    follow_answers(columns, owners, lids, first, walks)
 }
 
 /// Returns the first stop of packets of the end port at `index`, or `None` if these packets reach no switch.
@@ -174,48 +176,36 @@ fn lids_at(held_by: &[Vec<Lid>], index: usize) -> &[Lid]
 
 /// Follows a packet of `level`, starting at the stop `first`, if there are both.
 fn walk_at_level(
-    by_lane: &LaneNetwork,
     columns: &LidColumns,
     level: Option<u8>,
     first: Option<usize>,
     walks: &mut Walks,
 ) -> Result<(), AllocError>
-    requires columns { AreWithin (cells_of by_lane.now.seen.facts) (columns_in columns.now) }
-    requires room { 4096 * length (switches (cells_of by_lane.now.seen.facts)) < 2 ^ 64 }
     requires level { IfSome level (λ l. l < 16) }
-    requires lid { 1 ≤ columns.now.lid }
-    requires waits { length walks.old.waits ≡ 4096 * length (switches (cells_of by_lane.now.seen.facts)) }
-    requires marks { length walks.old.marks.items ≡ 4096 * length (switches (cells_of by_lane.now.seen.facts)) }
-    ensures { OnOk result (AreFollowed by_lane.now.said (cells_of by_lane.now.seen.facts) (columns_in columns.now)
-        columns.now.lid (BeginsIf level first) (walked walks.old) (walked walks.new)) }
+    requires walks { HasRoom columns.now walks.old }
+    ensures { OnOk result (AreFollowedBy columns.now (BeginsIf level first) walks.old walks.new) }
 {
     match level {
-        Some(level) => walk(by_lane, columns, level, first, walks),
+        Some(level) => walk(columns, level, first, walks),
         None => Ok(()),
     }
 }
 
 /// Follows, from the stop `first` on, if there is one, the answers to packets that each of `owners` sends for `lids`.
 fn follow_answers(
-    by_lane: &LaneNetwork,
     columns: &LidColumns,
     owners: &[EndPort],
     lids: &[Lid],
     first: Option<usize>,
     walks: &mut Walks,
 ) -> Result<(), AllocError>
-    requires columns { AreWithin (cells_of by_lane.now.seen.facts) (columns_in columns.now) }
-    requires room { 4096 * length (switches (cells_of by_lane.now.seen.facts)) < 2 ^ 64 }
-    requires lid { 1 ≤ columns.now.lid }
-    requires waits { length walks.old.waits ≡ 4096 * length (switches (cells_of by_lane.now.seen.facts)) }
-    requires marks { length walks.old.marks.items ≡ 4096 * length (switches (cells_of by_lane.now.seen.facts)) }
-    ensures { OnOk result (AreFollowed by_lane.now.said (cells_of by_lane.now.seen.facts) (columns_in columns.now)
-        columns.now.lid (AnswersTo by_lane.now.said owners.now lids.now first) (walked walks.old)
-        (walked walks.new)) }
+    requires walks { HasRoom columns.now walks.old }
+    ensures { OnOk result (AreFollowedBy columns.now
+        (AnswersTo columns.now.by_lane.now.said owners.now lids.now first) walks.old walks.new) }
 {
     for nth in 0..owners.len() {
         let asker = &owners[nth];
-        follow_answers_to(by_lane, columns, asker, lids, first, walks)?;
+        follow_answers_to(columns, asker, lids, first, walks)?;
     }
     Ok(())
 }
@@ -230,25 +220,19 @@ fn level_from(lanes: &Lanes, port: &EndPort, lid: Lid) -> Option<u8>
 
 /// Follows, from the stop `first` on, if there is one, the answers to packets that `asker` sends for each of `lids`.
 fn follow_answers_to(
-    by_lane: &LaneNetwork,
     columns: &LidColumns,
     asker: &EndPort,
     lids: &[Lid],
     first: Option<usize>,
     walks: &mut Walks,
 ) -> Result<(), AllocError>
-    requires columns { AreWithin (cells_of by_lane.now.seen.facts) (columns_in columns.now) }
-    requires room { 4096 * length (switches (cells_of by_lane.now.seen.facts)) < 2 ^ 64 }
-    requires lid { 1 ≤ columns.now.lid }
-    requires waits { length walks.old.waits ≡ 4096 * length (switches (cells_of by_lane.now.seen.facts)) }
-    requires marks { length walks.old.marks.items ≡ 4096 * length (switches (cells_of by_lane.now.seen.facts)) }
-    ensures { OnOk result (AreFollowed by_lane.now.said (cells_of by_lane.now.seen.facts) (columns_in columns.now)
-        columns.now.lid (AnswersOf by_lane.now.said asker.now lids.now (length lids.now) first) (walked walks.old)
-        (walked walks.new)) }
+    requires walks { HasRoom columns.now walks.old }
+    ensures { OnOk result (AreFollowedBy columns.now
+        (AnswersOf columns.now.by_lane.now.said asker.now lids.now (length lids.now) first) walks.old walks.new) }
 {
     for index in 0..lids.len() {
-        let level = level_from(by_lane.lanes(), asker, lids[index]);
-        walk_at_level(by_lane, columns, level, first, walks)?;
+        let level = level_from(columns.by_lane.lanes(), asker, lids[index]);
+        walk_at_level(columns, level, first, walks)?;
     }
     Ok(())
 }

@@ -1,9 +1,11 @@
 //! What is known while packets for one LID are followed from stop to stop.
-ghost use Rattle.std.specs.Prelude.{◌≡◌, MatchOption, Some};
-ghost use Rattle.lane_channels.specs.Stops.{edge_by};
-ghost use Rattle.lane_channels.specs.Visit.{IsNoOther, columns_in};
+ghost use Rattle.std.specs.Prelude.{◌<◌, ◌≤◌, ◌*◌, ◌^◌, length, map};
+ghost use Rattle.fact_store.specs.View.{cells_of};
+ghost use Rattle.subnet_view.specs.Reading.{switches};
+ghost use Rattle.lane_channels.specs.Stops.{AreWithin};
 
 use crate::dropped::Dropped;
+use crate::lane_network::LaneNetwork;
 use audit_channels::{Waits, edge_of};
 use port_graph::Edge;
 use smp_bytes::Lid;
@@ -21,16 +23,24 @@ pub(crate) struct Walks {
     pub(crate) stops: Vec<usize>,
 }
 
-/// The edges for a LID by each of several tables.
+/// The edges for a LID, in a network with lanes, by each of several tables.
 #[derive(Drop)]
-pub(crate) struct LidColumns {
+pub(crate) struct LidColumns<'a> {
+    pub(crate) by_lane: &'a LaneNetwork<'a>,
     pub(crate) lid: Lid,
     /// A column for each table. It has, for each usable switch in ascending order of GUID, the edge along which the
     /// switch forwards packets for the LID to a usable switch, or `None` if there is no such edge.
     pub(crate) columns: Vec<Vec<Option<Edge>>>,
+    ghost is_lid: { 1 ≤ lid },
+    ghost within: { AreWithin (cells_of by_lane.now.seen.facts) (map (λ column. column.items) columns.items) },
+    ghost room: { 4096 * length (switches (cells_of by_lane.now.seen.facts)) < 2 ^ 64 },
 }
 
-impl LidColumns {
+impl<'a> LidColumns<'a> {
+    ghost use Rattle.std.specs.Prelude.{◌≡◌, MatchOption, Some};
+    ghost use Rattle.lane_channels.specs.Stops.{edge_by};
+    ghost use Rattle.lane_channels.specs.Visit.{IsNoOther, columns_in};
+
     /// Returns the edge of the switch at `index` in the column at `nth`. Returns `None` if there is none, or if `nth`
     /// is not 0 and the first column has this edge. Takes constant time.
     pub(crate) fn other_edge(&self, index: usize, nth: usize) -> Option<Edge>

@@ -1,7 +1,7 @@
 ghost use Rattle.std.specs.Prelude.{◌≡◌, ◌*◌, ◌≤◌, IfOk, length};
 ghost use Rattle.fact_store.specs.View.{cells_of};
 ghost use Rattle.std.specs.List.Sorted.{IsStrictlyIncreasing};
-ghost use Rattle.subnet_view.specs.Reading.{switches};
+ghost use Rattle.subnet_view.specs.Graph.{guids_of};
 ghost use Rattle.lid_assign.specs.Lids.{top_of};
 ghost use Rattle.subnet_view.specs.SwitchGraph.{IsIndexIn};
 ghost use Rattle.subnet_view.specs.Wires.{attachment_of};
@@ -11,7 +11,7 @@ ghost use Rattle.lft_blocks.specs.Attachment.{IsIndexed, AreIndexed};
 use lid_assign::LidMap;
 use smp_bytes::{Guid, Lid, PortNum};
 use std::alloc::{AllocError, Global};
-use subnet_view::{EndPort, Wires, is_usable};
+use subnet_view::{EndPort, WiredGraph, Wires, is_usable};
 
 /// The switch, and the port of it, at which an end port is attached.
 #[derive(Clone, Copy)]
@@ -26,32 +26,31 @@ pub(crate) struct Attachment {
 /// attachment. The index of an item is its LID.
 pub(crate) fn attachments(
     alloc: Global,
-    wires: &Wires,
-    guids: &[Guid],
+    wired: &WiredGraph,
     lids: &LidMap,
     count: usize,
 ) -> Result<Vec<Option<Attachment>>, AllocError>
-    requires switches { guids.now ≡ switches (cells_of wires.now) }
     requires count { count ≡ block_count (top_of lids.now) }
     requires few { count ≤ 1024 }
     ensures indexed { IfOk result (λ attachments.
-        AreIndexed guids.now (attachment_of_lid (cells_of wires.now) lids.now) attachments.items) }
+        AreIndexed (guids_of wired.now.graph.now) (attachment_of_lid (cells_of wired.now.wires.now) lids.now)
+        attachments.items) }
     ensures all { IfOk result (λ attachments. length attachments.items ≡ 64 * count) }
 {
     let mut attachments = Vec::with_capacity(alloc, 64 * count)?;
     for lid in 0..64 * count {
-        attachments.push(attachment_of_lid(wires, guids, lids, Lid::new(lid as u16)))?;
+        attachments.push(attachment_of_lid(wired, lids, Lid::new(lid as u16)))?;
     }
     Ok(attachments)
 }
 
 /// Returns the attachment of `lid`, or `None` if no end port has `lid` or its owner is not attached to a usable switch.
-fn attachment_of_lid(wires: &Wires, guids: &[Guid], lids: &LidMap, lid: Lid) -> Option<Attachment>
-    requires { guids.now ≡ switches (cells_of wires.now) }
-    ensures { IsIndexed guids.now (attachment_of_lid (cells_of wires.now) lids.now lid) result }
+fn attachment_of_lid(wired: &WiredGraph, lids: &LidMap, lid: Lid) -> Option<Attachment>
+    ensures { IsIndexed (guids_of wired.now.graph.now)
+        (attachment_of_lid (cells_of wired.now.wires.now) lids.now lid) result }
 {
-    let (guid, port) = attachment_of(wires, lids.owner(lid)?)?;
-    let switch = index_of(guids, guid)?;
+    let (guid, port) = attachment_of(wired.wires, lids.owner(lid)?)?;
+    let switch = wired.graph.index_of(guid)?;
     Some(Attachment { switch, port })
 }
 

@@ -5,10 +5,9 @@ ghost use Rattle.lft_blocks.specs.LidNumbers.{indexed_number, indexed_numbers, n
 
 use crate::attachment::Attachment;
 use attr_codec::Lmc;
-use spread_routes::{leaf_numbers, most_adapters};
+use spread_routes::{SwitchAdapters, leaf_numbers, most_adapters};
 use std::alloc::{AllocError, Global};
 use std::marker::Model;
-use subnet_view::SwitchGraph;
 
 /// The values that the numbers of LIDs are computed from.
 #[derive(Drop)]
@@ -28,21 +27,19 @@ impl Model for Numbering {
     ghost view = { λ a. record { lmc = a.lmc; leaf_numbers = a.leaf_numbers.items; most = a.most } };
 }
 
-/// Returns the values that the numbers of LIDs are computed from. `adapters` has the number of adapters at each switch.
+/// Returns the values that the numbers of LIDs are computed from.
 pub(crate) fn find_numbering(
     alloc: Global,
-    graph: &SwitchGraph,
-    adapters: &[u16],
+    given: &SwitchAdapters,
     lmc: Lmc,
 ) -> Result<Numbering, AllocError>
-    requires { length adapters.now ≡ length graph.now }
-    ensures { IfOk result (λ numbering. numbering ≡ numbering_by lmc graph.now adapters.now) }
+    ensures { IfOk result (λ numbering. numbering ≡ numbering_by lmc given.now.graph.now given.now.adapters.now) }
 {
-    let leaf_numbers = leaf_numbers(alloc, graph, adapters)?;
+    let leaf_numbers = leaf_numbers(alloc, given)?;
     Ok(Numbering {
         lmc,
         leaf_numbers,
-        most: most_adapters(adapters),
+        most: most_adapters(given.adapters),
     })
 }
 

@@ -5,7 +5,7 @@ ghost use Rattle.fact_store.specs.View.{cells_of};
 ghost use Rattle.smp_bytes.specs.Judges.{JudgesButFor};
 ghost use Rattle.lid_assign.specs.LidFault.{is_memory, lid_fault, no_room};
 ghost use Rattle.lid_assign.specs.Lids.{top_of};
-ghost use Rattle.subnet_view.specs.Graph.{graph_of, guids_of};
+ghost use Rattle.subnet_view.specs.Graph.{guids_of};
 ghost use Rattle.updown_routes.specs.Updown.{updown};
 ghost use Rattle.lft_blocks.specs.Entries.{block_count};
 ghost use Rattle.lft_blocks.specs.Rule.{routing_by, rule_of, spread_in, up_and_down, value_of};
@@ -28,7 +28,7 @@ use smp_bytes::{Guid, Lid};
 use spread_routes::SwitchOrder;
 use std::alloc::Global;
 use std::marker::Model;
-use subnet_view::{Subnet, SwitchGraph, Wires};
+use subnet_view::{SubnetGraph, SwitchGraph, WiredGraph, Wires};
 use updown_routes::{Graph, Routes};
 
 /// The plan of a view: the LID of each end port, and the blocks of each usable switch.
@@ -68,7 +68,11 @@ impl Plan {
         let lids = assign(alloc, store, lmc)?;
         let wires = Wires::of(alloc, store)?;
         let graph = SwitchGraph::of(alloc, &wires)?;
-        let tables = tables_of(alloc, &wires, &graph, &lids, lmc, rule)?;
+        let wired = WiredGraph {
+            wires: &wires,
+            graph: &graph,
+        };
+        let tables = tables_of(alloc, &wired, &lids, lmc, rule)?;
         let switches = graph.into_switches();
         Ok(Plan {
             lids,
@@ -77,34 +81,59 @@ impl Plan {
         })
     }
 
-    /// Plans `subnet` under `rule`, with 2^`lmc` LIDs for each adapter port, as `of` plans a view. `graph` must be the
-    /// graph of the subnet's usable switches.
+    /// Plans the subnet of `planned` under `rule`, with 2^`lmc` LIDs for each adapter port, as `of` plans a view.
     ///
     /// # Errors
     ///
     /// Returns `NoRoom` if there is no room for the LIDs, and otherwise `Memory` if memory runs out.
     pub fn in_subnet(
         alloc: Global,
-        subnet: &Subnet,
-        graph: &SwitchGraph,
+        planned: &SubnetGraph,
         lmc: Lmc,
         rule: &Rule,
     ) -> Result<Self, PlanFault>
-        requires { graph.now ≡ graph_of (cells_of subnet.now) }
-        ensures judged { JudgesButFor is_memory result (lid_fault (no_room lmc (cells_of subnet.now))) }
+        ensures judged { JudgesButFor is_memory result (lid_fault (no_room lmc (cells_of planned.now.subnet))) }
         ensures plan { IfOk result (λ plan.
-            plan ≡ plan_of (value_of rule.now) lmc (cells_of subnet.now)) }
+            plan ≡ plan_of (value_of rule.now) lmc (cells_of planned.now.subnet)) }
         ensures arrives { IfOk result (λ plan. EveryPacketArrivesBy
-            (rule_of rule.now (cells_of subnet.now)) (cells_of subnet.now) plan) }
+            (rule_of rule.now (cells_of planned.now.subnet)) (cells_of planned.now.subnet) plan) }
     {
-        let lids = assign_in(alloc, subnet, lmc)?;
-        let tables = tables_of(alloc, subnet.wires(), graph, &lids, lmc, rule)?;
-        let switches = Vec::from_slice(alloc, subnet.switches())?;
+        let lids = assign_in(alloc, &planned.subnet, lmc)?;
+        let tables = tables_of(alloc, &planned.wired(), &lids, lmc, rule)?;
+        let switches = Vec::from_slice(alloc, planned.subnet.switches())?;
         Ok(Plan {
             lids,
             switches,
             tables,
         })
+    }
+
+    /// Plans the subnet of `planned` under up/down routing, as `in_subnet` does, and also returns the ranks of its
+    /// switches, by which this rule routes.
+    ///
+    /// # Errors
+    ///
+    /// Returns `NoRoom` if there is no room for the LIDs, and otherwise `Memory` if memory runs out.
+    pub fn with_ranks<'g>(
+        alloc: Global,
+        planned: &'g SubnetGraph,
+        lmc: Lmc,
+    ) -> Result<(Self, Graph<'g>), PlanFault>
+        ensures judged { JudgesButFor is_memory result (lid_fault (no_room lmc (cells_of planned.now.subnet))) }
+        ensures plan { IfOk result (λ found.
+            found.0 ≡ plan_of up_and_down lmc (cells_of planned.now.subnet)) }
+        ensures ranked { IfOk result (λ found. found.1 ≡ planned.now.graph) }
+    {
+        let given = assign_in(alloc, &planned.subnet, lmc)?;
+        let ranked = Graph::of(alloc, &planned.graph)?;
+        let tables = by_ranks(alloc, &planned.wired(), &ranked, &given)?;
+        let switches = Vec::from_slice(alloc, planned.subnet.switches())?;
+        let plan = Plan {
+            lids: given,
+            switches,
+            tables,
+        };
+        Ok((plan, ranked))
     }
 
     /// Returns the LIDs that the plan gives to the end ports.
@@ -150,57 +179,62 @@ impl Plan {
 /// Returns the table of each usable switch under `rule`, in ascending order of GUID.
 fn tables_of(
     alloc: Global,
-    wires: &Wires,
-    graph: &SwitchGraph,
+    wired: &WiredGraph,
     lids: &LidMap,
     lmc: Lmc,
     rule: &Rule,
 ) -> Result<Vec<Table>, Refused>
-    requires { graph.now ≡ graph_of (cells_of wires.now) }
     ensures { IfOk result (λ tables. tables.items
-        ≡ tables_by (lid_routing (value_of rule.now) lmc (cells_of wires.now) lids.now)
-        (cells_of wires.now) lids.now) }
+        ≡ tables_by (lid_routing (value_of rule.now) lmc (cells_of wired.now.wires.now) lids.now)
+        (cells_of wired.now.wires.now) lids.now) }
 {
     match rule {
-        Rule::UpDown => by_updown(alloc, wires, graph, lids),
-        Rule::Spread { order } => by_spread(alloc, wires, graph, lids, lmc, order),
+        Rule::UpDown => by_updown(alloc, wired, lids),
+        Rule::Spread { order } => by_spread(alloc, wired, lids, lmc, order),
     }
 }
 
 /// Returns the table of each usable switch under the rule that spreads by `order`, in ascending order of GUID.
 fn by_spread(
     alloc: Global,
-    wires: &Wires,
-    graph: &SwitchGraph,
+    wired: &WiredGraph,
     lids: &LidMap,
     lmc: Lmc,
     order: &SwitchOrder,
 ) -> Result<Vec<Table>, Refused>
-    requires { graph.now ≡ graph_of (cells_of wires.now) }
     ensures { IfOk result (λ tables. tables.items
-        ≡ tables_by (lid_routing (spread_in (order_value_of order.now)) lmc (cells_of wires.now) lids.now)
-        (cells_of wires.now) lids.now) }
+        ≡ tables_by (lid_routing (spread_in (order_value_of order.now)) lmc (cells_of wired.now.wires.now) lids.now)
+        (cells_of wired.now.wires.now) lids.now) }
 {
     let count = block_count(lids.top());
-    let attachments = attachments(alloc, wires, graph.switches(), lids, count)?;
-    Ok(spread_tables(alloc, wires, graph, &attachments, lmc, order, count)?)
+    let attachments = attachments(alloc, wired, lids, count)?;
+    Ok(spread_tables(alloc, wired, &attachments, lmc, order, count)?)
 }
 
 /// Returns the table of each usable switch under up/down routing, in ascending order of GUID.
-fn by_updown(
+fn by_updown(alloc: Global, wired: &WiredGraph, lids: &LidMap) -> Result<Vec<Table>, Refused>
+    ensures { IfOk result (λ tables. tables.items
+        ≡ tables_by (routing_by up_and_down (cells_of wired.now.wires.now)) (cells_of wired.now.wires.now) lids.now) }
+{
+    let ranked = Graph::of(alloc, wired.graph)?;
+    by_ranks(alloc, wired, &ranked, lids)
+}
+
+/// Returns the table of each usable switch under up/down routing by the ranks of `ranked`, in ascending order of GUID.
+/// `ranked` must be the graph of `wired`.
+fn by_ranks(
     alloc: Global,
-    wires: &Wires,
-    graph: &SwitchGraph,
+    wired: &WiredGraph,
+    ranked: &Graph,
     lids: &LidMap,
 ) -> Result<Vec<Table>, Refused>
-    requires { graph.now ≡ graph_of (cells_of wires.now) }
+    requires { ranked.now ≡ wired.now.graph.now }
     ensures { IfOk result (λ tables. tables.items
-        ≡ tables_by (routing_by up_and_down (cells_of wires.now)) (cells_of wires.now) lids.now) }
+        ≡ tables_by (routing_by up_and_down (cells_of wired.now.wires.now)) (cells_of wired.now.wires.now) lids.now) }
 {
-    let ranked = Graph::of(alloc, graph)?;
     let count = block_count(lids.top());
-    let attachments = attachments(alloc, wires, graph.switches(), lids, count)?;
-    let tables = updown_tables(alloc, &ranked, &attachments, count)?;
+    let attachments = attachments(alloc, wired, lids, count)?;
+    let tables = updown_tables(alloc, ranked, &attachments, count)?;
     Ok(tables)
 }
 

@@ -2,7 +2,7 @@
 ghost use Rattle.std.specs.Prelude.{◌≡◌, ◌<◌, ◌≤◌, ◌*◌, All, IfOk, OnOk, length, map, replicate, slice_index};
 ghost use Rattle.std.specs.List.{range_with_len};
 ghost use Rattle.fact_store.specs.View.{cells_of};
-ghost use Rattle.subnet_view.specs.Graph.{graph_of, guids_of};
+ghost use Rattle.subnet_view.specs.Graph.{guids_of};
 ghost use Rattle.spread_routes.specs.Adapters.{adapters_of};
 ghost use Rattle.spread_routes.specs.Spread.{spread_at, spread_by};
 ghost use Rattle.spread_routes.specs.SwitchOrder.{order_value_of};
@@ -18,37 +18,40 @@ use crate::table::Table;
 use crate::table_row::{TableRow, lids_by_switch};
 use attr_codec::Lmc;
 use smp_bytes::{Guid, Lid};
-use spread_routes::{Exits, Spread, SwitchOrder, Towards, adapters_of};
+use spread_routes::{Exits, Spread, SwitchAdapters, SwitchOrder, Towards, adapters_of};
 use std::alloc::{AllocError, Global};
 use std::mem;
-use subnet_view::{SwitchGraph, Wires};
+use subnet_view::WiredGraph;
 
-/// Returns the table of each switch of `graph`, with `count` blocks, under the rule that spreads by `order`.
+/// Returns the table of each switch of `wired`, with `count` blocks, under the rule that spreads by `order`.
 pub(crate) fn spread_tables(
     alloc: Global,
-    wires: &Wires,
-    graph: &SwitchGraph,
+    wired: &WiredGraph,
     attachments: &[Option<Attachment>],
     lmc: Lmc,
     order: &SwitchOrder,
     count: usize,
 ) -> Result<Vec<Table>, AllocError>
-    requires graph { graph.now ≡ graph_of (cells_of wires.now) }
-    requires within { AreWithin (length (guids_of graph.now)) attachments.now }
+    requires within { AreWithin (length (guids_of wired.now.graph.now)) attachments.now }
     requires few { count ≤ 1024 }
     requires all { length attachments.now ≡ 64 * count }
     ensures { IfOk result (λ tables. tables.items ≡ tables_of
-        (attachment_by_index (guids_of graph.now) attachments.now)
-        (numbered (number_of (numbering_of lmc (cells_of wires.now)) (guids_of graph.now)
-        (attachment_by_index (guids_of graph.now) attachments.now))
-        (spread_by graph.now (adapters_of (cells_of wires.now)) (order_value_of order.now))).next
-        count (guids_of graph.now)) }
+        (attachment_by_index (guids_of wired.now.graph.now) attachments.now)
+        (numbered (number_of (numbering_of lmc (cells_of wired.now.wires.now)) (guids_of wired.now.graph.now)
+        (attachment_by_index (guids_of wired.now.graph.now) attachments.now))
+        (spread_by wired.now.graph.now (adapters_of (cells_of wired.now.wires.now)) (order_value_of order.now))).next
+        count (guids_of wired.now.graph.now)) }
 {
+    let graph = wired.graph;
     let guids = graph.switches();
-    let adapters = adapters_of(alloc, wires, guids)?;
-    let numbering = find_numbering(alloc, graph, &adapters, lmc)?;
+    let adapters = adapters_of(alloc, wired)?;
+    let given = SwitchAdapters {
+        graph,
+        adapters: &adapters,
+    };
+    let numbering = find_numbering(alloc, &given, lmc)?;
     let numbers = lid_numbers(alloc, &numbering, attachments)?;
-    let spread = Spread::of(alloc, graph, &adapters, order)?;
+    let spread = Spread::of(alloc, &given, order)?;
     let mut rows = rows(alloc, &spread, attachments, &numbers, guids.len())?;
     tables_of(alloc, guids, &mut rows, count)
 }

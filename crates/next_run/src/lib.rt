@@ -6,6 +6,7 @@
 mod loop_text;
 mod next_run;
 mod order_run;
+mod planned_step;
 mod same_tables;
 mod step_choice;
 mod step_order_text;

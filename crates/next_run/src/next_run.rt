@@ -17,6 +17,7 @@ ghost use Rattle.next_tables.specs.NextTables.{first_moved};
 ghost use Rattle.plan_tables.specs.PlanTables.{held_plan};
 
 use crate::loop_text::StepLoop;
+use crate::planned_step::PlannedStep;
 use crate::same_tables::are_same_tables;
 use crate::step_choice::{StepChoice, step_choice};
 use crate::step_order_text::write_step_order;
@@ -111,11 +112,11 @@ fn step<W: Sink, E: Sink>(
     ensures nothing_told { OnErr result (told.new ≡ told.old) }
 {
     let read = &found.read;
-    let (subnet, graph) = subnet_to_plan(alloc, &read.store, asked.lmc)?;
-    let (plan, positions) = plan_in_order(alloc, &subnet, &graph, asked.lmc, rule)?;
-    let wired = WiredSubnet::of(alloc, &subnet)?;
+    let planned = subnet_to_plan(alloc, &read.store, asked.lmc)?;
+    let (plan, positions) = plan_in_order(alloc, &planned, asked.lmc, rule)?;
+    let wired = WiredSubnet::of(alloc, &planned.subnet)?;
     let from = Network::of(alloc, &wired, &read.held)?;
-    let made = match made_step(alloc, &graph, &positions, &found.text, &from, &plan) {
+    let made = match made_step(alloc, &planned.graph, &positions, &found.text, &from, &plan) {
         Ok(made) => made,
         Err(fault) => return Err(fault_of_step(texts_before(asked), &fault)),
     };
@@ -172,37 +173,36 @@ fn made_step(
 {
     let planned = held_plan(alloc, plan)?;
     let to = Network::of(alloc, from.wired(), &planned)?;
-    let made = step_near(alloc, graph, positions, last, from, &to)?;
+    let step = PlannedStep {
+        graph,
+        positions,
+        from: &*from,
+        plan: &to,
+    };
+    let made = step_near(alloc, &step, last)?;
     if last.is_some() && made.order.is_some() && are_same_tables(&made.next, from.held()) {
-        return step_near(alloc, graph, positions, &None, from, &to);
+        return step_near(alloc, &step, &None);
     }
     Ok(made)
 }
 
-/// Makes the step from the tables of `from` towards those of `plan`, where `positions` is meant to be the order that
-/// the plan goes by. If the step goes by an order that the tables of `from` imply, it takes the one nearest to the
-/// order `last`, or to that of `positions` if `last` is `None`.
+/// Makes `step`. If the step goes by an order that the held tables imply, it takes the one nearest to the order `last`,
+/// or to that of the step's positions if `last` is `None`.
 fn step_near(
     alloc: Global,
-    graph: &SwitchGraph,
-    positions: &[usize],
+    step: &PlannedStep,
     last: &Option<Vec<Guid>>,
-    from: &Network,
-    plan: &Network,
 ) -> Result<MadeStep, StepFault>
-    requires graph { graph.now ≡ graph_of (cells_of from.now.facts) }
-    requires plan { plan.now.facts ≡ from.now.facts }
-    requires positions { length positions.now ≡ length (switches (cells_of from.now.facts)) }
-    ensures made { (rule : RuleValue) → positions.now ≡ positions_by rule (cells_of from.now.facts)
-        → IfOk result (λ made. IsMadeNear rule (items_of last.now) from.now.facts from.now.held
-        plan.now.held made.next (items_of made.order)) }
-    ensures still { (rule : RuleValue) → positions.now ≡ positions_by rule (cells_of from.now.facts)
-        → OnOk result (first_moved from.now.held plan.now.held ≡ None) }
-    ensures refused { (rule : RuleValue) → positions.now ≡ positions_by rule (cells_of from.now.facts)
-        → IfErr result (StopsBy (first_moved from.now.held plan.now.held)) }
+    ensures made { (rule : RuleValue) → step.now.positions.now ≡ positions_by rule (cells_of step.now.from.now.facts)
+        → IfOk result (λ made. IsMadeNear rule (items_of last.now) step.now.from.now.facts step.now.from.now.held
+        step.now.plan.now.held made.next (items_of made.order)) }
+    ensures still { (rule : RuleValue) → step.now.positions.now ≡ positions_by rule (cells_of step.now.from.now.facts)
+        → OnOk result (first_moved step.now.from.now.held step.now.plan.now.held ≡ None) }
+    ensures refused { (rule : RuleValue) → step.now.positions.now ≡ positions_by rule (cells_of step.now.from.now.facts)
+        → IfErr result (StopsBy (first_moved step.now.from.now.held step.now.plan.now.held)) }
 {
-    let choice = step_choice(alloc, graph, positions, last, from, plan)?;
-    let next = next_by_choice(alloc, &choice, from, plan)?;
+    let choice = step_choice(alloc, step, last)?;
+    let next = next_by_choice(alloc, &choice, step.from, step.plan)?;
     let StepChoice { order, .. } = choice;
     Ok(MadeStep { next, order })
 }

@@ -4,13 +4,13 @@ ghost use Rattle.std.specs.Option.{option_map};
 ghost use Rattle.fact_store.specs.View.{cells_of};
 ghost use Rattle.lft_blocks.specs.Rule.{RuleValue};
 ghost use Rattle.plan_order.specs.PlanOrder.{positions_by};
-ghost use Rattle.subnet_view.specs.Graph.{graph_of};
 ghost use Rattle.subnet_view.specs.Reading.{switches};
 ghost use Rattle.held_order.specs.Between.{goal_of};
 ghost use Rattle.next_run.specs.LastOrder.{near_positions};
 ghost use Rattle.next_run.specs.NextRun.{IsChoice, IsGoalFrom, choice_of};
 ghost use Rattle.next_run.specs.StepOrderText.{items_of};
 
+use crate::planned_step::PlannedStep;
 use crate::step_order_text::switches_by;
 use fact_store::Refused;
 use held_order::{StepGoal, are_right, between};
@@ -20,7 +20,6 @@ use packet_walks::Network;
 use plan_order::positions_named;
 use smp_bytes::Guid;
 use std::alloc::{AllocError, Global};
-use subnet_view::SwitchGraph;
 
 /// How a step chooses entries, and which tables it goes towards.
 #[derive(Drop)]
@@ -34,38 +33,31 @@ pub(crate) struct StepChoice {
     pub order: Option<Vec<Guid>>,
 }
 
-/// Returns how a step from the tables of `from` towards those of `plan` chooses entries. `positions` is meant to be the
-/// order that the plan goes by.
+/// Returns how `step` chooses entries.
 ///
-/// The step goes by the order of `positions` if the tables of `from` are right by it. Otherwise, if these tables imply
-/// an order, the step goes by that order, towards the goal in between. Of several implied orders, the step takes the
-/// one nearest to the order `last`, or to that of `positions` if `last` is `None`. If the tables imply no order, the
-/// step goes by settled entries.
+/// The step goes by the order of its positions if the held tables are right by it. Otherwise, if these tables imply an
+/// order, the step goes by that order, towards the goal in between. Of several implied orders, the step takes the one
+/// nearest to the order `last`, or to that of its positions if `last` is `None`. If the tables imply no order, the step
+/// goes by settled entries.
 pub(crate) fn step_choice(
     alloc: Global,
-    graph: &SwitchGraph,
-    positions: &[usize],
+    step: &PlannedStep,
     last: &Option<Vec<Guid>>,
-    from: &Network,
-    plan: &Network,
 ) -> Result<StepChoice, Refused>
-    requires graph { graph.now ≡ graph_of (cells_of from.now.facts) }
-    requires plan { plan.now.facts ≡ from.now.facts }
-    requires positions { length positions.now ≡ length (switches (cells_of from.now.facts)) }
-    ensures { (rule : RuleValue) → positions.now ≡ positions_by rule (cells_of from.now.facts)
-        → IfOk result (λ choice. IsChoice rule (items_of last.now) from.now.facts from.now.held
-        plan.now.held (choice_of choice)) }
+    ensures { (rule : RuleValue) → step.now.positions.now ≡ positions_by rule (cells_of step.now.from.now.facts)
+        → IfOk result (λ choice. IsChoice rule (items_of last.now) step.now.from.now.facts step.now.from.now.held
+        step.now.plan.now.held (choice_of choice)) }
 {
-    if are_right(alloc, from, positions)? {
+    if are_right(alloc, step.from, step.positions)? {
         return Ok(StepChoice {
-            by: StepRule::ByOrder(Vec::from_slice(alloc, positions)?),
+            by: StepRule::ByOrder(Vec::from_slice(alloc, step.positions)?),
             goal: None,
             order: None,
         });
     }
-    match goal_near(alloc, graph, last, from, plan, positions)? {
+    match goal_near(alloc, step, last)? {
         Some(StepGoal { positions, tables }) => {
-            let switches = switches_by(alloc, from, &positions)?;
+            let switches = switches_by(alloc, step.from, &positions)?;
             Ok(StepChoice {
                 by: StepRule::ByOrder(positions),
                 goal: Some(tables),
@@ -80,24 +72,27 @@ pub(crate) fn step_choice(
     }
 }
 
-/// Returns the goal in between of a step by an order that the tables of `from` imply, if they imply any: the one
-/// nearest to the order `last`, or to that of `positions` if `last` is `None`.
+/// Returns the goal in between of `step` by an order that the held tables imply, if they imply any: the one nearest to
+/// the order `last`, or to that of the step's positions if `last` is `None`.
 fn goal_near(
     alloc: Global,
-    graph: &SwitchGraph,
+    step: &PlannedStep,
     last: &Option<Vec<Guid>>,
-    from: &Network,
-    plan: &Network,
-    positions: &[usize],
 ) -> Result<Option<StepGoal>, Refused>
-    requires graph { graph.now ≡ graph_of (cells_of from.now.facts) }
-    requires plan { plan.now.facts ≡ from.now.facts }
-    requires positions { length positions.now ≡ length (switches (cells_of from.now.facts)) }
-    ensures { IfOk result (λ found. IsGoalFrom false (cells_of from.now.facts) from.now.held plan.now.held positions.now
-        (near_positions positions.now (cells_of from.now.facts) (items_of last.now)) (option_map goal_of found)) }
+    ensures { IfOk result (λ found. IsGoalFrom false (cells_of step.now.from.now.facts)
+        step.now.from.now.held step.now.plan.now.held step.now.positions.now
+        (near_positions step.now.positions.now (cells_of step.now.from.now.facts) (items_of last.now))
+        (option_map goal_of found)) }
 {
-    let near = near_positions(alloc, positions, from, last)?;
-    between(alloc, graph, from, plan, positions, &near)
+    let near = near_positions(alloc, step.positions, step.from, last)?;
+    between(
+        alloc,
+        step.graph,
+        step.from,
+        step.plan,
+        step.positions,
+        &near,
+    )
 }
 
 /// Returns the position of each usable switch, in ascending order of GUID, in the order `last`, or `positions` if

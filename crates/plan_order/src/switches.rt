@@ -11,7 +11,7 @@ use fact_store::{Refused, Store};
 use lft_blocks::{Rule, switch_order};
 use smp_bytes::Guid;
 use std::alloc::{AllocError, Global};
-use subnet_view::{SwitchGraph, Wires};
+use subnet_view::{SwitchGraph, WiredGraph, Wires};
 use two_orders::positions_in;
 use updown_routes::Graph;
 
@@ -23,9 +23,13 @@ pub fn plan_switches(alloc: Global, store: &Store, rule: &Rule) -> Result<Vec<Gu
 {
     let wires = Wires::of(alloc, store)?;
     let graph = SwitchGraph::of(alloc, &wires)?;
+    let wired = WiredGraph {
+        wires: &wires,
+        graph: &graph,
+    };
     match rule {
         Rule::UpDown => Ok(ranked_switches(alloc, &graph)?),
-        Rule::Spread { order } => Ok(switch_order(alloc, &wires, &graph, order)?),
+        Rule::Spread { order } => Ok(switch_order(alloc, &wired, order)?),
     }
 }
 

@@ -2,21 +2,21 @@
 ghost use Rattle.std.specs.Prelude.{◌≡◌, IfOk};
 ghost use Rattle.subnet_view.specs.View.{cells_of};
 ghost use Rattle.spread_labels.specs.Level.{greatest};
-ghost use Rattle.subnet_view.specs.Reading.{switches};
 ghost use Rattle.spread_routes.specs.Adapters.{adapters_at, adapters_of, has_adapter_at};
 
 use smp_bytes::{Guid, PortNum};
 use std::alloc::{AllocError, Global};
-use subnet_view::{Wires, is_usable, port_count};
+use subnet_view::{WiredGraph, Wires, is_usable, port_count};
 
 /// Returns the number of adapter ports that are wired to each usable switch, in ascending order of the switches'
-/// GUIDs. `guids` must be the usable switches, in ascending order of GUID. Does a binary search among the cells for
-/// each switch, and at most four for each port of a switch. Returns an error if memory runs out.
-pub fn adapters_of(alloc: Global, wires: &Wires, guids: &[Guid]) -> Result<Vec<u16>, AllocError>
-    requires { guids.now ≡ switches (cells_of wires.now) }
-    ensures { IfOk result (λ adapters. adapters.items ≡ adapters_of (cells_of wires.now)) }
+/// GUIDs. Does a binary search among the cells for each switch, and at most four for each port of a switch. Returns an
+/// error if memory runs out.
+pub fn adapters_of(alloc: Global, wired: &WiredGraph) -> Result<Vec<u16>, AllocError>
+    ensures { IfOk result (λ adapters. adapters.items ≡ adapters_of (cells_of wired.now.wires.now)) }
 {
-    guids
+    let wires = wired.wires;
+    wired
+        .switches()
         .iter()
         .map(|guid| adapters_at(wires, *guid))
         .collect(alloc)

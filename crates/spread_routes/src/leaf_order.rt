@@ -2,24 +2,19 @@
 ghost use Rattle.std.specs.Prelude.{◌≡◌, ◌<◌, All, IfOk, filter, length};
 ghost use Rattle.spread_routes.specs.LeafNumbers.{goes_first, leaf_number, leaf_numbers, least_head, least_neighbors};
 
+use crate::switch_adapters::SwitchAdapters;
 use port_graph::{Adjacency, Edge};
 use spread_labels::leaf_vertices;
 use std::alloc::{AllocError, Global};
-use subnet_view::SwitchGraph;
 
 /// Returns the leaf number of each switch, in ascending order of the switches' GUIDs. The leaf number is the number
 /// of leaf switches that come before the switch, modulo 2^16. Leaf switches come in the order of their least
-/// neighbors, and then of their GUIDs, so those with the same least neighbor follow one another. `adapters` must have
-/// the number of adapters at each switch, in ascending order of GUID. Takes time linear in the number of edges and,
-/// for each switch, in the number of leaf switches. Returns an error if memory runs out.
-pub fn leaf_numbers(
-    alloc: Global,
-    graph: &SwitchGraph,
-    adapters: &[u16],
-) -> Result<Vec<u16>, AllocError>
-    requires { length adapters.now ≡ length graph.now }
-    ensures { IfOk result (λ numbers. numbers.items ≡ leaf_numbers graph.now adapters.now) }
+/// neighbors, and then of their GUIDs, so those with the same least neighbor follow one another. Takes time linear in the
+/// number of edges and, for each switch, in the number of leaf switches. Returns an error if memory runs out.
+pub fn leaf_numbers(alloc: Global, given: &SwitchAdapters) -> Result<Vec<u16>, AllocError>
+    ensures { IfOk result (λ numbers. numbers.items ≡ leaf_numbers given.now.graph.now given.now.adapters.now) }
 {
+    let (graph, adapters) = (given.graph, given.adapters);
     let edges = graph.adjacency();
     let neighbors = least_neighbors(alloc, edges)?;
     let leaves = leaf_vertices(alloc, adapters)?;

@@ -9,6 +9,7 @@ pub mod laws;
 mod leaf_order;
 mod lid_digit;
 mod spread;
+mod switch_adapters;
 mod switch_keys;
 mod switch_order;
 
@@ -16,5 +17,6 @@ pub use adapters::{adapters_of, most_adapters};
 pub use exits::Exits;
 pub use leaf_order::leaf_numbers;
 pub use spread::{Spread, Towards};
+pub use switch_adapters::SwitchAdapters;
 pub use switch_keys::switches_in_order;
 pub use switch_order::SwitchOrder;

@@ -11,6 +11,7 @@ use crate::adapter_choices::AdapterChoices;
 use crate::exits::Exits;
 use crate::leaf_order::leaf_numbers;
 use crate::lid_digit::{LidDigit, higher_targets, level_digits, lid_digits};
+use crate::switch_adapters::SwitchAdapters;
 use crate::switch_keys::{SwitchKeys, switch_keys};
 use port_graph::Adjacency;
 use spread_labels::{
@@ -91,25 +92,24 @@ impl<'g> Model for Spread<'g> {
 }
 
 impl<'g> Spread<'g> {
-    /// Computes the routes. `adapters` must have the number of adapters at each switch, in ascending order of GUID.
-    /// `order` says how the order of switches is grown and whether loads are balanced. Ignores GUIDs in `order` that
-    /// are not switches of `graph`. Does a breadth-first search from each leaf switch and each root, and two more
-    /// searches for each component unless `order` names switches. For the order of the least trial load, does a
-    /// search from each switch, and computes trial loads. If `order` asks for it, also balances loads. Returns an error if memory runs out.
+    /// Computes the routes. `order` says how the order of switches is grown and whether loads are balanced. Ignores
+    /// GUIDs in `order` that are not switches of `given`. Does a breadth-first search from each leaf switch and each
+    /// root, and two more searches for each component unless `order` names switches. For the order of the least trial
+    /// load, does a search from each switch, and computes trial loads. If `order` asks for it, also balances loads.
+    /// Returns an error if memory runs out.
     pub fn of(
         alloc: Global,
-        graph: &'g SwitchGraph,
-        adapters: &[u16],
+        given: &SwitchAdapters<'g>,
         order: &SwitchOrder,
     ) -> Result<Self, AllocError>
-        requires { length adapters.now ≡ length graph.now }
-        ensures { IfOk result (λ spread. spread ≡ grading_of graph.now adapters.now (order_value_of order.now)) }
+        ensures { IfOk result (λ spread. spread ≡ grading_of given.now.graph.now given.now.adapters.now (order_value_of order.now)) }
     {
-        let SwitchKeys { keys, levels } = switch_keys(alloc, graph, adapters, order)?;
+        let (graph, adapters) = (given.graph, given.adapters);
+        let SwitchKeys { keys, levels } = switch_keys(alloc, given, order)?;
         let vertices = grown_order(alloc, graph.adjacency(), &keys)?;
         let spread = Spread::by_keys(alloc, graph, keys, levels, &vertices)?;
         if order.is_balanced() {
-            let leaf_numbers = leaf_numbers(alloc, graph, adapters)?;
+            let leaf_numbers = leaf_numbers(alloc, given)?;
             let leaf_numbers = counts_at(alloc, &leaf_numbers, &vertices)?;
             let adapters = counts_at(alloc, adapters, &vertices)?;
             spread.balanced(alloc, leaf_numbers, adapters)

@@ -10,11 +10,11 @@ ghost use Rattle.spread_routes.specs.SwitchOrder.{keys_as_named, order_value_of}
 
 use crate::SwitchOrder;
 use crate::index::indices;
+use crate::switch_adapters::SwitchAdapters;
 use crate::switch_order::keys_as_named;
 use smp_bytes::Guid;
 use spread_labels::{Grades, VertexKey, grade, grown_order, keys, leaf_vertices};
 use std::alloc::{AllocError, Global};
-use subnet_view::SwitchGraph;
 use trial_loads::least_loaded_keys;
 
 /// The keys by which switches are ordered, and the levels of the switches.
@@ -26,20 +26,18 @@ pub(crate) struct SwitchKeys {
     pub(crate) levels: Vec<usize>,
 }
 
-/// Returns the switches of `graph` in the order of the rule that spreads by `order`. `adapters` must have the number
-/// of adapters at each switch, in ascending order of GUID. Takes no longer than `Spread::of`. Returns an error if
-/// memory runs out.
+/// Returns the switches of `given` in the order of the rule that spreads by `order`. Takes no longer than `Spread::of`.
+/// Returns an error if memory runs out.
 pub fn switches_in_order(
     alloc: Global,
-    graph: &SwitchGraph,
-    adapters: &[u16],
+    given: &SwitchAdapters,
     order: &SwitchOrder,
 ) -> Result<Vec<Guid>, AllocError>
-    requires { length adapters.now ≡ length graph.now }
     ensures { IfOk result (λ found.
-        found.items ≡ switches_in_order graph.now adapters.now (order_value_of order.now)) }
+        found.items ≡ switches_in_order given.now.graph.now given.now.adapters.now (order_value_of order.now)) }
 {
-    let SwitchKeys { keys, levels: _ } = switch_keys(alloc, graph, adapters, order)?;
+    let graph = given.graph;
+    let SwitchKeys { keys, levels: _ } = switch_keys(alloc, given, order)?;
     let vertices = grown_order(alloc, graph.adjacency(), &keys)?;
     switches_at(alloc, graph.switches(), &vertices)
 }
@@ -59,36 +57,33 @@ fn switches_at(alloc: Global, guids: &[Guid], indices: &[usize]) -> Result<Vec<G
 /// Returns the levels of the switches, and the keys that grow the order of switches as `order` says.
 pub(crate) fn switch_keys(
     alloc: Global,
-    graph: &SwitchGraph,
-    adapters: &[u16],
+    given: &SwitchAdapters,
     order: &SwitchOrder,
 ) -> Result<SwitchKeys, AllocError>
-    requires { length adapters.now ≡ length graph.now }
-    ensures keys { IfOk result (λ found. found.keys.items ≡ keys_by graph.now adapters.now (order_value_of order.now)) }
+    ensures keys { IfOk result (λ found. found.keys.items ≡ keys_by given.now.graph.now given.now.adapters.now (order_value_of order.now)) }
     ensures levels { IfOk result (λ found. found.levels.items
-        ≡ levels_of (by_index graph.now) (leaf_vertices adapters.now)) }
+        ≡ levels_of (by_index given.now.graph.now) (leaf_vertices given.now.adapters.now)) }
 {
     match order {
-        SwitchOrder::FromRoots { roots } => from_roots(alloc, graph, adapters, roots),
+        SwitchOrder::FromRoots { roots } => from_roots(alloc, given, roots),
         SwitchOrder::AsNamed { switches } | SwitchOrder::BalancedAs { switches } => {
-            as_named(alloc, graph, adapters, switches)
+            as_named(alloc, given, switches)
         }
-        SwitchOrder::LeastLoaded => least_loaded(alloc, graph, adapters),
+        SwitchOrder::LeastLoaded => least_loaded(alloc, given),
     }
 }
 
 /// Returns the keys of the switches according to their distances from `roots`, and their levels.
 fn from_roots(
     alloc: Global,
-    graph: &SwitchGraph,
-    adapters: &[u16],
+    given: &SwitchAdapters,
     roots: &[Guid],
 ) -> Result<SwitchKeys, AllocError>
-    requires { length adapters.now ≡ length graph.now }
-    ensures keys { IfOk result (λ found. found.keys.items ≡ keys_from_roots graph.now adapters.now roots.now) }
+    ensures keys { IfOk result (λ found. found.keys.items ≡ keys_from_roots given.now.graph.now given.now.adapters.now roots.now) }
     ensures levels { IfOk result (λ found. found.levels.items
-        ≡ levels_of (by_index graph.now) (leaf_vertices adapters.now)) }
+        ≡ levels_of (by_index given.now.graph.now) (leaf_vertices given.now.adapters.now)) }
 {
+    let (graph, adapters) = (given.graph, given.adapters);
     let edges = graph.adjacency();
     let leaves = leaf_vertices(alloc, adapters)?;
     let roots = indices(alloc, graph, roots)?;
@@ -103,15 +98,14 @@ fn from_roots(
 /// Returns the keys of the switches according to the list `switches`, and their levels.
 fn as_named(
     alloc: Global,
-    graph: &SwitchGraph,
-    adapters: &[u16],
+    given: &SwitchAdapters,
     switches: &[Guid],
 ) -> Result<SwitchKeys, AllocError>
-    requires { length adapters.now ≡ length graph.now }
-    ensures keys { IfOk result (λ found. found.keys.items ≡ keys_as_named graph.now switches.now) }
+    ensures keys { IfOk result (λ found. found.keys.items ≡ keys_as_named given.now.graph.now switches.now) }
     ensures levels { IfOk result (λ found. found.levels.items
-        ≡ levels_of (by_index graph.now) (leaf_vertices adapters.now)) }
+        ≡ levels_of (by_index given.now.graph.now) (leaf_vertices given.now.adapters.now)) }
 {
+    let (graph, adapters) = (given.graph, given.adapters);
     let edges = graph.adjacency();
     let leaves = leaf_vertices(alloc, adapters)?;
     let Grades {
@@ -123,17 +117,13 @@ fn as_named(
 }
 
 /// Returns the keys of the switches that give the order of the least trial load, and their levels.
-fn least_loaded(
-    alloc: Global,
-    graph: &SwitchGraph,
-    adapters: &[u16],
-) -> Result<SwitchKeys, AllocError>
-    requires { length adapters.now ≡ length graph.now }
-    ensures keys { IfOk result (λ found. found.keys.items ≡ keys_least_loaded graph.now adapters.now) }
+fn least_loaded(alloc: Global, given: &SwitchAdapters) -> Result<SwitchKeys, AllocError>
+    ensures keys { IfOk result (λ found. found.keys.items ≡ keys_least_loaded given.now.graph.now given.now.adapters.now) }
     ensures levels { IfOk result (λ found. found.levels.items
-        ≡ levels_of (by_index graph.now) (leaf_vertices adapters.now)) }
+        ≡ levels_of (by_index given.now.graph.now) (leaf_vertices given.now.adapters.now)) }
 {
-    let edges = graph.adjacency();
+    let edges = given.graph.adjacency();
+    let adapters = given.adapters;
     let leaves = leaf_vertices(alloc, adapters)?;
     let Grades {
         distance_classes: _,

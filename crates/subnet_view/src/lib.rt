@@ -13,6 +13,7 @@ mod switch;
 mod switch_graph;
 mod wire_lookup;
 mod wire_table;
+mod wired_graph;
 
 pub use end_port::{EndPort, count_end_ports, end_ports, is_end_port};
 pub use end_port_after::next_end_port;
@@ -23,3 +24,4 @@ pub use switch::{is_usable, switches, usable_guid};
 pub use switch_graph::SwitchGraph;
 pub use wire_lookup::{attached, wire};
 pub use wire_table::Wires;
+pub use wired_graph::{SubnetGraph, WiredGraph};

@@ -6,6 +6,7 @@ ghost use Rattle.trial_loads.specs.LeastLoaded.{keys_by_depth, keys_in, least_by
 ghost use Rattle.trial_loads.specs.LeastLoaded.{least_loaded_among, least_loaded_keys};
 ghost use Rattle.trial_loads.specs.TrialLoads.{trial_load};
 
+use crate::adapter_graph::AdapterGraph;
 use crate::remoteness::keys_by_remoteness;
 use crate::starts::starts;
 use crate::trials::{trial_load, trial_loads};
@@ -37,99 +38,77 @@ pub fn least_loaded_keys(
     requires adapters { length adapters.now ≡ length edges.now }
     ensures { IfOk result (λ found. found.items ≡ least_loaded_keys edges.now adapters.now) }
 {
-    let keys = keys_by_remoteness(alloc, edges, adapters)?;
-    least_loaded_among(alloc, edges, adapters, &keys)
+    let graph = AdapterGraph {
+        edges: &*edges,
+        adapters: &*adapters,
+    };
+    let keys = keys_by_remoteness(alloc, &graph)?;
+    least_loaded_among(alloc, &graph, &keys)
 }
 
 /// Returns `keys` if the trial loads of their order are even, and otherwise the keys of the order with the least trial
 /// load among that of `keys` and those by depth from up to eight starts, forwards and backwards.
 fn least_loaded_among(
     alloc: Global,
-    edges: &Adjacency,
-    adapters: &[u16],
+    graph: &AdapterGraph,
     keys: &[VertexKey],
 ) -> Result<Vec<VertexKey>, AllocError>
-    requires keys { length keys.now ≡ length edges.now }
-    requires lead { LeadToVertices edges.now }
-    requires symmetric { IsSymmetric edges.now }
-    requires adapters { length adapters.now ≡ length edges.now }
-    ensures { IfOk result (λ found. found.items ≡ least_loaded_among edges.now adapters.now keys.now) }
+    requires keys { length keys.now ≡ length graph.now.edges.now }
+    requires symmetric { IsSymmetric graph.now.edges.now }
+    ensures { IfOk result (λ found. found.items
+        ≡ least_loaded_among graph.now.edges.now graph.now.adapters.now keys.now) }
 {
     let keys_tried = Vec::from_slice(alloc, keys)?;
-    let loads = trial_loads(alloc, edges, adapters, keys)?;
-    if are_even(edges, &loads) {
+    let loads = trial_loads(alloc, graph, keys)?;
+    if are_even(graph.edges, &loads) {
         return Ok(keys_tried);
     }
-    let starts = starts(alloc, edges, keys)?;
+    let starts = starts(alloc, graph.edges, keys)?;
     let first = Trial {
         keys: keys_tried,
         load: greatest_of(&loads),
     };
-    let best = try_by_depth(
-        alloc,
-        edges,
-        adapters,
-        keys,
-        &starts,
-        Direction::Forwards,
-        first,
-    )?;
-    let best = try_by_depth(
-        alloc,
-        edges,
-        adapters,
-        keys,
-        &starts,
-        Direction::Backwards,
-        best,
-    )?;
+    let best = try_by_depth(alloc, graph, keys, &starts, Direction::Forwards, first)?;
+    let best = try_by_depth(alloc, graph, keys, &starts, Direction::Backwards, best)?;
     Ok(best.keys)
 }
 
 /// Returns the trial of the least load among `first` and the orders by depth in `direction` from each of `starts`.
 fn try_by_depth(
     alloc: Global,
-    edges: &Adjacency,
-    adapters: &[u16],
+    graph: &AdapterGraph,
     keys: &[VertexKey],
     starts: &[usize],
     direction: Direction,
     first: Trial,
 ) -> Result<Trial, AllocError>
-    requires keys { length keys.now ≡ length edges.now }
-    requires lead { LeadToVertices edges.now }
-    requires symmetric { IsSymmetric edges.now }
-    requires adapters { length adapters.now ≡ length edges.now }
-    requires starts { All (λ start. start < length edges.now) starts.now }
-    requires first { first.load ≡ trial_load edges.now adapters.now first.keys.items }
-    ensures keys { IfOk result (λ best. best.keys.items ≡ least_by (trial_load edges.now adapters.now)
-        first.keys.items (map (keys_by_depth edges.now keys.now direction) starts.now)) }
-    ensures load { IfOk result (λ best. best.load ≡ trial_load edges.now adapters.now best.keys.items) }
+    requires keys { length keys.now ≡ length graph.now.edges.now }
+    requires symmetric { IsSymmetric graph.now.edges.now }
+    requires starts { All (λ start. start < length graph.now.edges.now) starts.now }
+    requires first { first.load ≡ trial_load graph.now.edges.now graph.now.adapters.now first.keys.items }
+    ensures keys { IfOk result (λ best. best.keys.items
+        ≡ least_by (trial_load graph.now.edges.now graph.now.adapters.now) first.keys.items (map (keys_by_depth graph.now.edges.now keys.now direction) starts.now)) }
+    ensures load { IfOk result (λ best.
+        best.load ≡ trial_load graph.now.edges.now graph.now.adapters.now best.keys.items) }
 {
     let mut best = first;
     for start in starts {
-        let tried = keys_by_depth(alloc, edges, keys, direction, *start)?;
-        let other = trial_of(alloc, edges, adapters, tried)?;
+        let tried = keys_by_depth(alloc, graph.edges, keys, direction, *start)?;
+        let other = trial_of(alloc, graph, tried)?;
         best = lesser(best, other);
     }
     Ok(best)
 }
 
 /// Returns the trial of `keys`: the keys, with the trial load of the order that grows by them.
-fn trial_of(
-    alloc: Global,
-    edges: &Adjacency,
-    adapters: &[u16],
-    keys: Vec<VertexKey>,
-) -> Result<Trial, AllocError>
-    requires keys { length keys.items ≡ length edges.now }
-    requires lead { LeadToVertices edges.now }
-    requires symmetric { IsSymmetric edges.now }
-    requires adapters { length adapters.now ≡ length edges.now }
+fn trial_of(alloc: Global, graph: &AdapterGraph, keys: Vec<VertexKey>) -> Result<Trial, AllocError>
+    requires keys { length keys.items ≡ length graph.now.edges.now }
+    requires symmetric { IsSymmetric graph.now.edges.now }
     ensures keys { IfOk result (λ found. found.keys.items ≡ keys.items) }
-    ensures load { IfOk result (λ found. found.load ≡ trial_load edges.now adapters.now keys.items) }
+    ensures load { IfOk result (λ found.
+        found.load ≡ trial_load graph.now.edges.now graph.now.adapters.now keys.items) }
 {
-    let load = trial_load(alloc, edges, adapters, &keys)?;
+    let load = trial_load(alloc, graph, &keys)?;
     Ok(Trial { keys, load })
 }
 

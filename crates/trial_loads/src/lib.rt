@@ -2,6 +2,8 @@
 //! are tried.
 #![tactic(auto)]
 
+mod adapter_graph;
+mod candidate_ways;
 pub mod laws;
 mod least_loaded;
 mod near_targets;

@@ -1,13 +1,12 @@
 //! How remote vertices are.
 ghost use Rattle.std.specs.Prelude.{◌≡◌, ◌<◌, ◌≤◌, ◌+◌, ℕ, Some, All, IfOk, OnOk, length, slice_index};
-ghost use Rattle.port_graph.specs.Heads.{LeadToVertices};
 ghost use Rattle.spread_labels.specs.LabelLaws.{IsSymmetric};
 ghost use Rattle.spread_labels.specs.Orders.{numbers_from};
 ghost use Rattle.trial_loads.specs.NearTargets.{AreWithShares, new_shares, shares_at, shares_in};
 ghost use Rattle.trial_loads.specs.Starts.{all_remoteness, capped, keys_by_remoteness, remote_share};
 
+use crate::adapter_graph::AdapterGraph;
 use crate::near_targets::{at_targets, has_target, one_further};
-use port_graph::Adjacency;
 use spread_labels::{TARGETS, VertexKey, keys};
 use std::alloc::{AllocError, Global};
 
@@ -16,34 +15,25 @@ use std::alloc::{AllocError, Global};
 /// the number of vertices and edges. There is at most one round more than the greatest distance.
 pub(crate) fn keys_by_remoteness(
     alloc: Global,
-    edges: &Adjacency,
-    adapters: &[u16],
+    graph: &AdapterGraph,
 ) -> Result<Vec<VertexKey>, AllocError>
-    requires lead { LeadToVertices edges.now }
-    requires symmetric { IsSymmetric edges.now }
-    requires adapters { length adapters.now ≡ length edges.now }
-    ensures { IfOk result (λ keys. keys.items ≡ keys_by_remoteness edges.now adapters.now) }
+    requires symmetric { IsSymmetric graph.now.edges.now }
+    ensures { IfOk result (λ keys. keys.items ≡ keys_by_remoteness graph.now.edges.now graph.now.adapters.now) }
 {
-    let remote = all_remoteness(alloc, edges, adapters)?;
-    keys(alloc, edges, &remote)
+    let remote = all_remoteness(alloc, graph)?;
+    keys(alloc, graph.edges, &remote)
 }
 
 /// Returns how remote each vertex is. Adds up the shares of 64 vertices at a time.
-fn all_remoteness(
-    alloc: Global,
-    edges: &Adjacency,
-    adapters: &[u16],
-) -> Result<Vec<u128>, AllocError>
-    requires lead { LeadToVertices edges.now }
-    requires adapters { length adapters.now ≡ length edges.now }
-    ensures { IfOk result (λ found. found.items ≡ all_remoteness edges.now adapters.now) }
+fn all_remoteness(alloc: Global, graph: &AdapterGraph) -> Result<Vec<u128>, AllocError>
+    ensures { IfOk result (λ found. found.items ≡ all_remoteness graph.now.edges.now graph.now.adapters.now) }
 {
-    let vertices = all_vertices(alloc, edges.len())?;
-    let mut sums = vec![in alloc; 0; edges.len()]?;
+    let vertices = all_vertices(alloc, graph.edges.len())?;
+    let mut sums = vec![in alloc; 0; graph.edges.len()]?;
     let mut first = 0;
     while first < vertices.len() {
         let end = first + TARGETS.min(vertices.len() - first);
-        add_shares(alloc, edges, adapters, &vertices[first..end], &mut sums)?;
+        add_shares(alloc, graph, &vertices[first..end], &mut sums)?;
         first = end;
     }
     widened(alloc, &sums)
@@ -75,25 +65,23 @@ fn all_vertices(alloc: Global, count: usize) -> Result<Vec<usize>, AllocError>
 /// Adds to the sum of each vertex what each of `targets` adds to how remote the vertex is, up to 2^64 - 1.
 fn add_shares(
     alloc: Global,
-    edges: &Adjacency,
-    adapters: &[u16],
+    graph: &AdapterGraph,
     targets: &[usize],
     sums: &mut [usize],
 ) -> Result<(), AllocError>
-    requires lead { LeadToVertices edges.now }
     requires few { length targets.now ≤ 64 }
-    requires vertices { All (λ target. target < length edges.now) targets.now }
-    requires adapters { length adapters.now ≡ length edges.now }
-    requires sums { length sums.old ≡ length edges.now }
-    ensures { OnOk result (AreWithShares edges.now adapters.now targets.now (length edges.now) sums.old sums.new) }
+    requires vertices { All (λ target. target < length graph.now.edges.now) targets.now }
+    requires sums { length sums.old ≡ length graph.now.edges.now }
+    ensures { OnOk result (AreWithShares graph.now.edges.now graph.now.adapters.now targets.now
+        (length graph.now.edges.now) sums.old sums.new) }
 {
-    let mut near = at_targets(alloc, edges.len(), targets)?;
-    for distance in 1..edges.len() {
-        let next = one_further(alloc, edges, &near)?;
+    let mut near = at_targets(alloc, graph.edges.len(), targets)?;
+    for distance in 1..graph.edges.len() {
+        let next = one_further(alloc, graph.edges, &near)?;
         if next == near {
             break;
         }
-        let shares = shares_at(alloc, adapters, targets, distance)?;
+        let shares = shares_at(alloc, graph.adapters, targets, distance)?;
         add_new_shares(&near, &next, &shares, sums);
         near = next;
     }

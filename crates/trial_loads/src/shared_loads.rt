@@ -1,15 +1,16 @@
 //! How packets are shared out among candidates.
 ghost use Rattle.std.specs.Prelude.{◌≡◌, ◌<◌, ◌≤◌, ◌*◌, All, IfOk, OnOk, count_by, filter, length, not};
-ghost use Rattle.port_graph.specs.Heads.{LeadToVertices};
-ghost use Rattle.spread_labels.specs.MarkSets.{AreRowsOf, picked};
+ghost use Rattle.spread_labels.specs.MarkSets.{picked};
 ghost use Rattle.spread_labels.specs.Orders.{numbers_from};
 ghost use Rattle.spread_labels.specs.TargetSet.{has};
-ghost use Rattle.trial_loads.specs.TrialLoads.{AreUpward, candidates_in, carried_between, carried_to, first_had};
+ghost use Rattle.trial_loads.specs.TrialLoads.{candidates_in, carried_between, carried_to, first_had};
 ghost use Rattle.trial_loads.specs.TrialLoads.{goes_up, last_first, shared, with_shares, loads_by};
 
+use crate::adapter_graph::AdapterGraph;
+use crate::candidate_ways::CandidateWays;
 use crate::upward::upward;
 use balanced_choices::{PORTS, no_loads};
-use port_graph::{Adjacency, Edge};
+use port_graph::Edge;
 use spread_labels::{CandidateSets, TARGETS, TargetSet, leaf_vertices};
 use std::alloc::{AllocError, Global};
 
@@ -19,49 +20,44 @@ const PACKETS: usize = 65_536;
 /// Adds to the load of each channel the packets that it carries from all adapters to the adapters of each of `targets`.
 pub(crate) fn add_packets_between(
     alloc: Global,
-    graph: &Adjacency,
-    adapters: &[u16],
+    graph: &AdapterGraph,
     targets: &[usize],
     loads: &mut [usize],
 ) -> Result<(), AllocError>
-    requires lead { LeadToVertices graph.now }
     requires few { length targets.now ≤ 64 }
-    requires adapters { length adapters.now ≡ length graph.now }
-    requires targets { All (λ target. target < length graph.now) targets.now }
-    requires loads { length loads.old ≡ 256 * length graph.now }
-    ensures { OnOk result (loads.new ≡ carried_between graph.now adapters.now loads.old targets.now) }
+    requires targets { All (λ target. target < length graph.now.edges.now) targets.now }
+    requires loads { length loads.old ≡ 256 * length graph.now.edges.now }
+    ensures { OnOk result (loads.new
+        ≡ carried_between graph.now.edges.now graph.now.adapters.now loads.old targets.now) }
 {
-    let sets = CandidateSets::towards(alloc, graph, targets)?;
-    let ups = upward(alloc, graph, &sets)?;
-    let mut had = vec![in alloc; 0; graph.len()]?;
+    let (edges, adapters) = (graph.edges, graph.adapters);
+    let sets = CandidateSets::towards(alloc, edges, targets)?;
+    let ups = upward(alloc, edges, &sets)?;
+    let ways = CandidateWays {
+        graph: edges,
+        sets: &sets,
+        ups: &ups,
+    };
+    let mut had = vec![in alloc; 0; edges.len()]?;
     for k in 0..targets.len() {
         start(adapters, adapters[targets[k]], &mut had);
-        add_packets_to(graph, &sets, &ups, k, &mut had, loads);
+        add_packets_to(&ways, k, &mut had, loads);
     }
     Ok(())
 }
 
-/// Adds to the load of each channel the packets that it carries to target `k`, by the candidates `sets` and their `ups`
-/// (`upward`). `had` has the packets that each position starts with, and gets those that reach it on the way added.
-fn add_packets_to(
-    graph: &Adjacency,
-    sets: &CandidateSets,
-    ups: &[TargetSet],
-    k: usize,
-    had: &mut [usize],
-    loads: &mut [usize],
-)
-    requires lead { LeadToVertices graph.now }
+/// Adds to the load of each channel the packets that it carries to target `k`, by the candidates of `ways`. `had` has
+/// the packets that each position starts with, and gets those that reach it on the way added.
+fn add_packets_to(ways: &CandidateWays, k: usize, had: &mut [usize], loads: &mut [usize])
     requires target { k < 64 }
-    requires rows { AreRowsOf graph.now sets.now }
-    requires ups { AreUpward graph.now sets.now ups.now }
-    requires had { length had.old ≡ length graph.now }
-    requires loads { length loads.old ≡ 256 * length graph.now }
+    requires had { length had.old ≡ length ways.now.graph.now }
+    requires loads { length loads.old ≡ 256 * length ways.now.graph.now }
     ensures { loads.new
-        ≡ carried_to (candidates_in graph.now sets.now k) (length graph.now) had.old loads.old }
+        ≡ carried_to (candidates_in ways.now.graph.now ways.now.sets.now k) (length ways.now.graph.now)
+        had.old loads.old }
 {
-    share_up(graph, sets, ups, k, had, loads);
-    share_down(graph, sets, ups, k, had, loads);
+    share_up(ways, k, had, loads);
+    share_down(ways, k, had, loads);
 }
 
 /// Sets `had` to the packets of each position to a target with `to` adapters: `PACKETS` for each pair of adapters.
@@ -75,56 +71,38 @@ fn start(adapters: &[u16], to: u16, had: &mut [usize])
 }
 
 /// Shares out the packets of each position with a candidate up towards target `k`, from the last to the first.
-fn share_up(
-    graph: &Adjacency,
-    sets: &CandidateSets,
-    ups: &[TargetSet],
-    k: usize,
-    had: &mut [usize],
-    loads: &mut [usize],
-)
-    requires lead { LeadToVertices graph.now }
+fn share_up(ways: &CandidateWays, k: usize, had: &mut [usize], loads: &mut [usize])
     requires target { k < 64 }
-    requires rows { AreRowsOf graph.now sets.now }
-    requires ups { AreUpward graph.now sets.now ups.now }
-    requires had { length had.old ≡ length graph.now }
-    requires loads { length loads.old ≡ 256 * length graph.now }
+    requires had { length had.old ≡ length ways.now.graph.now }
+    requires loads { length loads.old ≡ 256 * length ways.now.graph.now }
     ensures { record { had = had.new; carried = loads.new }
-        ≡ shared (candidates_in graph.now sets.now k)
-        (filter (goes_up (candidates_in graph.now sets.now k)) (last_first (length graph.now)))
+        ≡ shared (candidates_in ways.now.graph.now ways.now.sets.now k)
+        (filter (goes_up (candidates_in ways.now.graph.now ways.now.sets.now k))
+        (last_first (length ways.now.graph.now)))
         (record { had = had.old; carried = loads.old }) }
 {
-    for position in (0..graph.len()).rev() {
-        if ups[position].has(k) {
-            let (edges, sets) = (graph.at(position), sets.at(position));
+    for position in (0..ways.graph.len()).rev() {
+        if ways.ups[position].has(k) {
+            let (edges, sets) = (ways.graph.at(position), ways.sets.at(position));
             share(edges, sets, k, position, had, loads);
         }
     }
 }
 
 /// Shares out the packets of each position without a candidate up towards target `k`, from the first to the last.
-fn share_down(
-    graph: &Adjacency,
-    sets: &CandidateSets,
-    ups: &[TargetSet],
-    k: usize,
-    had: &mut [usize],
-    loads: &mut [usize],
-)
-    requires lead { LeadToVertices graph.now }
+fn share_down(ways: &CandidateWays, k: usize, had: &mut [usize], loads: &mut [usize])
     requires target { k < 64 }
-    requires rows { AreRowsOf graph.now sets.now }
-    requires ups { AreUpward graph.now sets.now ups.now }
-    requires had { length had.old ≡ length graph.now }
-    requires loads { length loads.old ≡ 256 * length graph.now }
+    requires had { length had.old ≡ length ways.now.graph.now }
+    requires loads { length loads.old ≡ 256 * length ways.now.graph.now }
     ensures { record { had = had.new; carried = loads.new }
-        ≡ shared (candidates_in graph.now sets.now k)
-        (filter (λ s. not (goes_up (candidates_in graph.now sets.now k) s)) (numbers_from 0 (length graph.now)))
+        ≡ shared (candidates_in ways.now.graph.now ways.now.sets.now k)
+        (filter (λ s. not (goes_up (candidates_in ways.now.graph.now ways.now.sets.now k) s))
+        (numbers_from 0 (length ways.now.graph.now)))
         (record { had = had.old; carried = loads.old }) }
 {
-    for position in 0..graph.len() {
-        if !ups[position].has(k) {
-            let (edges, sets) = (graph.at(position), sets.at(position));
+    for position in 0..ways.graph.len() {
+        if !ways.ups[position].has(k) {
+            let (edges, sets) = (ways.graph.at(position), ways.sets.at(position));
             share(edges, sets, k, position, had, loads);
         }
     }
@@ -180,21 +158,15 @@ fn count_having(sets: &[TargetSet], target: usize) -> usize
 
 /// Returns how many packets each channel carries if each adapter sends 65,536 packets to each adapter. Counts the
 /// packets to 64 targets at a time.
-pub(crate) fn loads_by(
-    alloc: Global,
-    graph: &Adjacency,
-    adapters: &[u16],
-) -> Result<Vec<usize>, AllocError>
-    requires lead { LeadToVertices graph.now }
-    requires adapters { length adapters.now ≡ length graph.now }
-    ensures { IfOk result (λ loads. loads.items ≡ loads_by graph.now adapters.now) }
+pub(crate) fn loads_by(alloc: Global, graph: &AdapterGraph) -> Result<Vec<usize>, AllocError>
+    ensures { IfOk result (λ loads. loads.items ≡ loads_by graph.now.edges.now graph.now.adapters.now) }
 {
-    let targets = leaf_vertices(alloc, adapters)?;
-    let mut loads = no_loads(alloc, graph.len())?;
+    let targets = leaf_vertices(alloc, graph.adapters)?;
+    let mut loads = no_loads(alloc, graph.edges.len())?;
     let mut first = 0;
     while first < targets.len() {
         let end = first + TARGETS.min(targets.len() - first);
-        add_packets_between(alloc, graph, adapters, &targets[first..end], &mut loads)?;
+        add_packets_between(alloc, graph, &targets[first..end], &mut loads)?;
         first = end;
     }
     Ok(loads)

@@ -22,15 +22,15 @@ some_attachment (Some h) g e = (h, refl, same_Some h.0 g e)
 
 pub returns-in_err-index : goal.returns-in_err-index
 returns-in_err-index c =
-    let facts = c.args.wires.now in
+    let facts = c.args.wired.now.wires.now in
     let cells = cells_of facts in
     let g = c.in_ok-switch.switch in
     let it = some_attachment (attachment_of cells c.args.port.now) g (sym c.switch_of.ensures ∙ c.in_ok-switch.was) in
     let there : Contains (switches cells) g = subst (λ (x : ℕ). Contains (switches cells) x) it.2 (attachment_is_switch facts c.args.port.now it.0 it.1) in
-    absurd (c.in_err-index.ensures (subst (λ (xs : List ℕ). Contains xs g) (sym (listed cells (switches cells)) ∙ sym (ap guids_of c.requires.graph)) there))
+    absurd (c.in_err-index.ensures (subst (λ (xs : List ℕ). Contains xs g) (sym (listed cells (switches cells)) ∙ sym (ap guids_of c.args.wired.now.is_graph)) there))
 
 pub bounds-roots-index : goal.bounds-roots-index
 bounds-roots-index c =
     let inside = c.in_ok-index.ensures.0 in
-    let long = ap length c.requires.roots ∙ length_map (root_of c.args.graph.now) (guids_of c.args.graph.now) in
+    let long = ap length c.requires ∙ length_map (root_of c.args.wired.now.graph.now) (guids_of c.args.wired.now.graph.now) in
     omega (arith, inside, long)

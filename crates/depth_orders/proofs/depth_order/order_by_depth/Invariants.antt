@@ -7,7 +7,7 @@ use Rattle.depth_orders.proofs.depth_order.order_by_depth.Given as goal
 abbrev pub invariant-loop : goal.invariant-loop
 invariant-loop l =
     record {
-      order : l.vertices.items ≡ depth_after l.edges (turned l.direction (before_by l.keys)) l.root l.counter;
+      order : l.vertices.items ≡ depth_after l.edges (turned l.fn.direction (before_by l.keys)) l.root l.counter;
       long : length l.placed.items ≡ length l.edges;
       flags : (s : ℕ) → flag_at l.placed.items s ≡ is_among l.vertices.items s;
     }

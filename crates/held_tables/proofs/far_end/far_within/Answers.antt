@@ -8,5 +8,5 @@ use Rattle.held_tables.proofs.far_end.far_within.Goals as goal
 
 pub returns-then-ports-number : goal.returns-then-ports-number
 returns-then-ports-number c =
-    let cells = cells_of c.args.wires.now in
+    let cells = cells_of c.args.subnet.now in
     sym (ap (far_to (switches cells)) (no_wire_past cells c.args.node c.args.port (omega (arith, c.if-ports-number.true, c.requires.ports, c.number.ensures))))

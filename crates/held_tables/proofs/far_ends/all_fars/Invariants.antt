@@ -6,4 +6,4 @@ use Rattle.held_tables.proofs.far_ends.all_fars.Given as goal
 
 -- the ports so far
 abbrev pub invariant-loop-port : goal.invariant-loop-port
-invariant-loop-port l = l.fars.items ≡ map (far_of (cells_of l.wires) l.node) (range_with_len 0 l.port)
+invariant-loop-port l = l.fars.items ≡ map (far_of (cells_of l.subnet) l.node) (range_with_len 0 l.port)

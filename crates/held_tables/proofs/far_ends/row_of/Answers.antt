@@ -8,7 +8,7 @@ use Rattle.held_tables.proofs.far_ends.row_of.Goals as goal
 
 pub returns : goal.returns
 returns c =
-    let cells = cells_of c.args.wires.now in
+    let cells = cells_of c.args.subnet.now in
     let all = c.deref.result.now in
     let is : all ≡ row_of cells c.args.node = c.deref.ensures.value ∙ c.in_ok-fars.ensures in
     let long : length all ≡ 255 = ap length is ∙ length-map-range_with_len (far_of cells c.args.node) 0 255 in

@@ -1,9 +1,8 @@
 -- The edge of a column more, and those of all.
 use Rattle.std.proofs.Common.{◌≡◌, ◌+◌, ◌/◌, length, refl, sym, ◌∙◌, arith, subst, ap}
 use Rattle.std.proofs.lemmas.List.{length-map}
-use Rattle.fact_store.specs.View.{cells_of}
 use Rattle.lane_channels.specs.declared.walk_state.Walks.{Walks}
-use Rattle.lane_channels.specs.Visit.{AreLeft, FirstEdges, columns_in, walking}
+use Rattle.lane_channels.specs.Visit.{AreLeft, FirstEdges, columns_in, walking, cells_at}
 use Rattle.lane_channels.proofs.Visits.{all_left, column_left, no_column_left, none_left}
 use Rattle.lane_channels.proofs.visit.leave.Goals.{in-Some+in_ok-leave_along, in_default}
 use Rattle.lane_channels.proofs.visit.leave.Goals as goal
@@ -12,14 +11,14 @@ pub loop-nth-init : goal.loop-nth-init
 loop-nth-init c = record {
   marks = refl;
   left =
-      none_left c.args.by_lane.now.said (cells_of c.args.by_lane.now.seen.facts) (columns_in c.args.columns.now) c.args.columns.now.lid c.args.level c.args.stop
+      none_left c.args.columns.now.by_lane.now.said (cells_at c.args.columns.now) (columns_in c.args.columns.now) c.args.columns.now.lid c.args.level c.args.stop
       (walking c.args.walks.now);
 }
 
 pub loop-nth-preserved : goal.loop-nth-preserved
 loop-nth-preserved c =
-    let said = c.args.by_lane.now.said in
-    let cells = cells_of c.args.by_lane.now.seen.facts in
+    let said = c.args.columns.now.by_lane.now.said in
+    let cells = cells_at c.args.columns.now in
     let columns = columns_in c.args.columns.now in
     let lid = c.args.columns.now.lid in
     let nth = c.loop-nth.nth in
@@ -46,5 +45,5 @@ pub returns-clause-left : goal.returns-clause-left
 returns-clause-left c =
     let columns = columns_in c.args.columns.now in
     let many : length columns ≡ length c.args.columns.now.columns.items = length-map c.args.columns.now.columns.items (λ column. column.items) in
-    all_left c.args.by_lane.now.said (cells_of c.args.by_lane.now.seen.facts) columns c.args.columns.now.lid c.args.level c.args.stop c.loop-nth.nth
+    all_left c.args.columns.now.by_lane.now.said (cells_at c.args.columns.now) columns c.args.columns.now.lid c.args.level c.args.stop c.loop-nth.nth
     (walking c.args.walks.now) (walking c.loop-nth.walks) (omega arith) c.loop-nth.invariant.left

@@ -4,14 +4,14 @@ use Rattle.fact_store.specs.View.{cells_of}
 use Rattle.subnet_view.specs.Reading.{switches}
 use Rattle.packet_walks.specs.Network.{Seen}
 use Rattle.lane_channels.specs.Stops.{HasEdge, lane_between, lane_by, lane_number, stop_at}
-use Rattle.lane_channels.specs.Visit.{IsWithNexts, LeavesAlong, columns_in, walking}
+use Rattle.lane_channels.specs.Visit.{IsWithNexts, LeavesAlong, columns_in, walking, cells_at}
 use Rattle.lane_channels.proofs.Visits.{carried_there, dropped_there, is_carried, is_not_carried}
 use Rattle.lane_channels.proofs.visit.leave_along.Goals as goal
 
 pub returns-in_default-clause-left : goal.returns-in_default-clause-left
 returns-in_default-clause-left c =
-    let said = c.args.by_lane.now.said in
-    let cells = cells_of c.args.by_lane.now.seen.facts in
+    let said = c.args.columns.now.by_lane.now.said in
+    let cells = cells_at c.args.columns.now in
     let columns = columns_in c.args.columns.now in
     let lane = lane_by said cells c.args.level c.args.stop c.args.edge in
     let none = sym c.lane.ensures ∙ c.in_default.is in
@@ -24,8 +24,8 @@ returns-in_default-clause-left c =
 
 pub returns-in_ok-push-clause-left : goal.returns-in_ok-push-clause-left
 returns-in_ok-push-clause-left c =
-    let said = c.args.by_lane.now.said in
-    let cells = cells_of c.args.by_lane.now.seen.facts in
+    let said = c.args.columns.now.by_lane.now.said in
+    let cells = cells_at c.args.columns.now in
     let columns = columns_in c.args.columns.now in
     let edge = c.args.edge in
     let old = c.args.walks.now in
@@ -48,8 +48,8 @@ returns-in_ok-push-clause-left c =
 
 pub returns-else-to-switch_count-clause-left : goal.returns-else-to-switch_count-clause-left
 returns-else-to-switch_count-clause-left c =
-    let said = c.args.by_lane.now.said in
-    let cells = cells_of c.args.by_lane.now.seen.facts in
+    let said = c.args.columns.now.by_lane.now.said in
+    let cells = cells_at c.args.columns.now in
     let columns = columns_in c.args.columns.now in
     let edge = c.args.edge in
     let old = c.args.walks.now in

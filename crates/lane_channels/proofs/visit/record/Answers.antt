@@ -1,22 +1,21 @@
 -- The edge of a column more, and those of all.
 use Rattle.std.proofs.Common.{◌≡◌, ◌+◌, length, sym, arith, subst, List, ℕ}
 use Rattle.std.proofs.lemmas.List.{length-map}
-use Rattle.fact_store.specs.View.{cells_of}
-use Rattle.lane_channels.specs.Visit.{FirstEdges, IsWithNexts, LeavesAlong, columns_in}
+use Rattle.lane_channels.specs.Visit.{FirstEdges, IsWithNexts, LeavesAlong, columns_in, cells_at}
 use Rattle.lane_channels.proofs.Visits.{all_along, column_along, no_column_along, none_yet}
 use Rattle.lane_channels.proofs.visit.record.Goals.{in-Some+in_ok-record_along, in_default}
 use Rattle.lane_channels.proofs.visit.record.Goals as goal
 
 pub loop-nth-init : goal.loop-nth-init
 loop-nth-init c =
-    none_yet c.args.by_lane.now.said (cells_of c.args.by_lane.now.seen.facts) c.args.level c.args.index c.args.into c.args.channel
+    none_yet c.args.columns.now.by_lane.now.said (cells_at c.args.columns.now) c.args.level c.args.index c.args.into c.args.channel
     (columns_in c.args.columns.now)
     c.args.waits.now
 
 pub loop-nth-preserved : goal.loop-nth-preserved
 loop-nth-preserved c =
-    let said = c.args.by_lane.now.said in
-    let cells = cells_of c.args.by_lane.now.seen.facts in
+    let said = c.args.columns.now.by_lane.now.said in
+    let cells = cells_at c.args.columns.now in
     let columns = columns_in c.args.columns.now in
     let nth = c.loop-nth.nth in
     let Done = λ (waits : List (List ℕ)). IsWithNexts c.args.waits.now c.args.channel
@@ -34,8 +33,8 @@ loop-nth-preserved c =
 
 pub returns : goal.returns
 returns c =
-    let said = c.args.by_lane.now.said in
-    let cells = cells_of c.args.by_lane.now.seen.facts in
+    let said = c.args.columns.now.by_lane.now.said in
+    let cells = cells_at c.args.columns.now in
     let columns = columns_in c.args.columns.now in
     let many : length columns ≡ length c.args.columns.now.columns.items = length-map c.args.columns.now.columns.items (λ column. column.items) in
     all_along said cells c.args.level c.args.index c.args.into c.args.channel columns c.loop-nth.nth c.args.waits.now c.loop-nth.waits (omega arith)

@@ -13,7 +13,7 @@ use Rattle.lane_channels.specs.LaneNetwork.{lists_of}
 use Rattle.lane_channels.specs.Levels.{lids_held}
 use Rattle.lane_channels.specs.Senders.{AnswersTo}
 use Rattle.lane_channels.specs.Stops.{first_stop}
-use Rattle.lane_channels.specs.Visit.{columns_in, walked}
+use Rattle.lane_channels.specs.Visit.{columns_in, walked, cells_at}
 use Rattle.lane_channels.specs.Walk.{AreFollowed, BeginsIf}
 use Rattle.packet_walks.specs.Network.{Seen}
 use Rattle.lane_channels.proofs.Senders.{map_of_there, no_answers, port_there, with_answers}
@@ -21,8 +21,8 @@ use Rattle.lane_channels.proofs.waits_by_lane.follow_sender.Goals as goal
 
 pub returns-then-not-asked : goal.returns-then-not-asked
 returns-then-not-asked c =
-    let s = c.args.by_lane.now in
-    let cells = cells_of s.seen.facts in
+    let s = c.args.columns.now.by_lane.now in
+    let cells = cells_at c.args.columns.now in
     let lid = c.args.columns.now.lid in
     let source = c.port_at-port.result.now in
     let senders = c.sources.ensures ∙ ap (λ (x : Seen). map (sender_of (cells_of x.facts)) (end_ports (cells_of x.facts))) c.network.ensures in
@@ -40,8 +40,8 @@ returns-then-not-asked c =
 
 pub returns : goal.returns
 returns c =
-    let s = c.args.by_lane.now in
-    let cells = cells_of s.seen.facts in
+    let s = c.args.columns.now.by_lane.now in
+    let cells = cells_at c.args.columns.now in
     let lid = c.args.columns.now.lid in
     let source = c.port_at-port.result.now in
     let first = c.first_at-first.result in

@@ -1,11 +1,12 @@
 -- A LID more, and all of them.
-use Rattle.std.proofs.Common.{◌≡◌, ◌*◌, ◌∙◌, Bool, [], ◌∷◌, length, sym, ap, subst, arith}
+use Rattle.std.proofs.Common.{◌≡◌, ◌*◌, ◌∙◌, Bool, [], length, sym, ap, subst, arith}
 use Rattle.fact_store.specs.View.{cells_of}
 use Rattle.subnet_view.specs.Reading.{switches}
-use Rattle.packet_walks.specs.Edges.{edges_of, greatest_top}
+use Rattle.packet_walks.specs.Edges.{greatest_top}
 use Rattle.packet_walks.specs.Network.{Seen}
 use Rattle.audit_channels.proofs.Waiting.{some_is}
 use Rattle.lane_channels.specs.AnyTables.{columns_for}
+use Rattle.lane_channels.specs.LaneNetwork.{SeenByLane}
 use Rattle.lane_channels.specs.Senders.{SentFor}
 use Rattle.lane_channels.specs.Visit.{columns_in, walked}
 use Rattle.lane_channels.specs.Walk.{AreFollowed}
@@ -26,17 +27,17 @@ loop-below-init c =
 pub loop-below-preserved : goal.loop-below-preserved
 loop-below-preserved c =
     let s = c.args.by_lane.now in
-    let seen = c.go_to.ensures.seen ∙ c.loop-below.invariant.seen in
-    let edges = c.in_ok-edges.ensures ∙ (λ i. edges_of (cells_of (seen i).facts) (seen i).held (c.in_ok-go_to.ensures.lid i)) in
+    let columns = c.in_ok-columns.columns in
+    let Followed = λ (x : SeenByLane) (a : Bool). AreFollowed x.said (cells_of x.seen.facts) (columns_in columns) columns.lid (SentFor x a columns.lid)
+    (walked c.loop-below.walks) (walked c.follow_lid.new.walks) in
     record {
-      seen = seen;
+      seen = c.go_to.ensures.seen ∙ c.loop-below.invariant.seen;
       so_far =
-          more s [] c.args.answers c.loop-below.below c.in_ok-columns.columns.lid (walked c.loop-below.walks) (walked c.follow_lid.new.walks)
-          (columns_in c.in_ok-columns.columns) c.loop-below.invariant.so_far (c.in_ok-columns.ensures.lid ∙ c.new-lid.ensures)
-          (c.in_ok-columns.ensures.columns ∙ (λ i. edges i ∷ []) ∙ sym (ap (columns_for s []) c.in_ok-columns.ensures.lid))
-          (subst (λ (a : Bool). AreFollowed s.said (cells_of s.seen.facts) (columns_in c.in_ok-columns.columns) c.in_ok-columns.columns.lid
-          (SentFor s a c.in_ok-columns.columns.lid) (walked c.loop-below.walks) (walked c.follow_lid.new.walks)) c.in_ok-asked.ensures.answers
-          c.in_ok-follow_lid.ensures);
+          more s [] c.args.answers c.loop-below.below columns.lid (walked c.loop-below.walks) (walked c.follow_lid.new.walks)
+          (columns_in columns) c.loop-below.invariant.so_far (c.in_ok-columns.ensures.lid ∙ c.new-lid.ensures)
+          (c.in_ok-columns.ensures.columns ∙ sym (ap (columns_for s []) c.in_ok-columns.ensures.lid))
+          (subst (λ (x : SeenByLane). Followed x c.args.answers) c.in_ok-columns.ensures.by_lane
+          (subst (λ (a : Bool). Followed columns.by_lane.now a) c.in_ok-asked.ensures.answers c.in_ok-follow_lid.ensures));
     }
 
 pub returns-clause-waits : goal.returns-clause-waits

@@ -16,20 +16,17 @@ use Rattle.lft_blocks.specs.Plan.{tables_of}
 use Rattle.lft_blocks.proofs.RowSteps.{same_attachments}
 use Rattle.lft_blocks.proofs.plan.by_spread.Goals as goal
 
-pub attachments-requires-clause-switches : goal.attachments-requires-clause-switches
-attachments-requires-clause-switches c = c.switches.ensures ∙ ap guids_of c.requires ∙ graph_guids (cells_of c.args.wires.now)
-
 pub returns : goal.returns
 returns c =
-    let cells = cells_of c.args.wires.now in
-    let graph = c.args.graph.now in
+    let cells = cells_of c.args.wired.now.wires.now in
+    let graph = c.args.wired.now.graph.now in
     let attachments = attachment_of_lid cells c.args.lids.now in
-    let guids : guids_of graph ≡ switches cells = ap guids_of c.requires ∙ graph_guids cells in
-    let are = subst (λ (x : List ℕ × List (Option Attachment)). AreIndexed x.0 attachments x.1) (λ i. (c.switches.ensures i, sym c.deref.ensures.value i))
+    let guids : guids_of graph ≡ switches cells = ap guids_of c.args.wired.now.is_graph ∙ graph_guids cells in
+    let are = subst (λ (x : List (Option Attachment)). AreIndexed (guids_of graph) attachments x) (sym c.deref.ensures.value)
     c.in_ok-attachments.ensures.indexed in
     let counted = c.block_count-count.ensures.count ∙ ap block_count c.top.ensures in
     c.in_ok-spread_tables.ensures
     ∙ (λ i. tables_of (same_attachments (guids_of graph) attachments c.deref.result.now are i)
     (numbered
-    (number_of (numbering_of c.args.lmc cells) (guids_of (c.requires i)) (same_attachments (guids_of graph) attachments c.deref.result.now are i))
-    (spread_by (c.requires i) (adapters_of cells) (order_value_of c.args.order.now))).next (counted i) (guids i))
+    (number_of (numbering_of c.args.lmc cells) (guids_of (c.args.wired.now.is_graph i)) (same_attachments (guids_of graph) attachments c.deref.result.now are i))
+    (spread_by (c.args.wired.now.is_graph i) (adapters_of cells) (order_value_of c.args.order.now))).next (counted i) (guids i))

@@ -39,7 +39,7 @@ returns-clause-done g c =
     let last = items_of found.text in
     let Printed : Given → Type 0 = λ given. Appends (g.W.Sink.written c.args.sink.now) (g.W.Sink.written c.write_next.new.sink)
     (next_text given made.next) in
-    let subnet_is = c.in_ok-subnet.ensures.subnet in
+    let subnet_is = c.in_ok-planned.ensures.subnet in
     let own_is = c.in_ok-from.ensures.facts ∙ c.in_ok-wired.ensures in
     let facts_is = own_is ∙ subnet_is in
     let positions_are = c.deref.ensures.value ∙ c.in_ok-plan.ensures.positions ∙ ap (λ (x : Facts). positions_by rule (cells_of x)) (sym own_is) in
@@ -49,11 +49,11 @@ returns-clause-done g c =
     let cycle = c.in_ok-cycle.cycle in
     let Found : Facts → Type 0 = λ x. IsLoopInStep (cells_of x) c.in_ok-from.from.held made.next cycle.channels.items cycle.lids.items in
     step_is asked.lmc rule last
-    store found.read.held c.in_ok-plan.plan (plan_there asked.lmc rule c.in_ok-subnet.subnet store c.in_ok-plan.plan subnet_is c.in_ok-plan.ensures.plan) c.in_ok-from.from.held made.next (items_of made.order)
+    store found.read.held c.in_ok-plan.plan (plan_there asked.lmc rule c.in_ok-planned.planned.subnet store c.in_ok-plan.plan subnet_is c.in_ok-plan.ensures.plan) c.in_ok-from.from.held made.next (items_of made.order)
     c.in_ok-from.ensures.held is_made
     (Appends (g.W.Sink.written c.args.sink.now) (g.W.Sink.written c.write_next.new.sink))
     (IsSaid g.E.Sink.written g.E.Sink.has_failed c.args.told.now c.write_loop_and_order.new.told)
-    c.is_none.result c.in_ok-from.from.facts cycle.channels.items cycle.lids.items facts_is (judged_there asked.lmc c.in_ok-subnet.subnet store subnet_is c.in_ok-plan.ensures.judged)
+    c.is_none.result c.in_ok-from.from.facts cycle.channels.items cycle.lids.items facts_is (judged_there asked.lmc c.in_ok-planned.planned.subnet store subnet_is c.in_ok-plan.ensures.judged)
     (c.in-Ok.ensures.still rule positions_are) (subst Found facts_is c.in_ok-cycle.ensures)
     (subst Printed c.lids.ensures c.in_ok-write_next.ensures.writes.ok)
     (was_said g.E.Sink.written g.E.Sink.has_failed c.write_loop_and_order.result _ _ _ c.write_loop_and_order.ensures.ok c.write_loop_and_order.ensures.err)
@@ -64,17 +64,17 @@ returns-in-Err-clause-refused g c =
     let rule = value_of c.args.rule.now in
     let read = c.args.found.now.read in
     let fault = c.in-Err.fault in
-    let subnet_is = c.in_ok-subnet.ensures.subnet in
+    let subnet_is = c.in_ok-planned.ensures.subnet in
     let own_is = c.in_ok-from.ensures.facts ∙ c.in_ok-wired.ensures in
     let facts_is = own_is ∙ subnet_is in
     let positions_are = c.deref.ensures.value ∙ c.in_ok-plan.ensures.positions ∙ ap (λ (x : Facts). positions_by rule (cells_of x)) (sym own_is) in
-    let plan_is = plan_there c.args.asked.lmc rule c.in_ok-subnet.subnet read.store c.in_ok-plan.plan subnet_is c.in_ok-plan.ensures.plan in
+    let plan_is = plan_there c.args.asked.lmc rule c.in_ok-planned.planned.subnet read.store c.in_ok-plan.plan subnet_is c.in_ok-plan.ensures.plan in
     let moved : first_moved c.in_ok-from.from.held (held_plan c.in_ok-plan.plan) ≡ first_moved read.held (planned c.args.asked.lmc rule read.store) =
     λ i. first_moved (c.in_ok-from.ensures.held i) (held_plan (plan_is i)) in
     let is_fault = c.fault_of_step.ensures ∙ ap (λ (at : ℕ). fault_of_step at fault) c.texts_before.ensures in
     subst (StopsStep (texts_before c.args.asked) c.args.asked.lmc rule read.store read.held (g.W.Sink.has_failed c.args.sink.now)) (sym is_fault)
     (stops_by c.args.asked.lmc rule read.store read.held (g.W.Sink.has_failed c.args.sink.now) (texts_before c.args.asked)
-    (first_moved c.in_ok-from.from.held (held_plan c.in_ok-plan.plan)) fault (judged_there c.args.asked.lmc c.in_ok-subnet.subnet read.store subnet_is c.in_ok-plan.ensures.judged) moved (c.in-Err.ensures.refused rule positions_are))
+    (first_moved c.in_ok-from.from.held (held_plan c.in_ok-plan.plan)) fault (judged_there c.args.asked.lmc c.in_ok-planned.planned.subnet read.store subnet_is c.in_ok-plan.ensures.judged) moved (c.in-Err.ensures.refused rule positions_are))
 
 pub returns-in_err-wired-clause-refused : goal.returns-in_err-wired-clause-refused
 returns-in_err-wired-clause-refused g c =
@@ -83,7 +83,7 @@ returns-in_err-wired-clause-refused g c =
     let asked = c.args.asked in
     let Stops : Fault → Type 0 = StopsStep (texts_before asked) asked.lmc rule read.store read.held (g.W.Sink.has_failed c.args.sink.now) in
     handed_on c.from_residual-in_err-wired.result Memory Stops c.from_residual-in_err-wired.ensures.1
-    (has_room asked.lmc read.store (judged_there asked.lmc c.in_ok-subnet.subnet read.store c.in_ok-subnet.ensures.subnet c.in_ok-plan.ensures.judged))
+    (has_room asked.lmc read.store (judged_there asked.lmc c.in_ok-planned.planned.subnet read.store c.in_ok-planned.ensures.subnet c.in_ok-plan.ensures.judged))
 
 pub returns-in_err-from-clause-refused : goal.returns-in_err-from-clause-refused
 returns-in_err-from-clause-refused g c =
@@ -92,7 +92,7 @@ returns-in_err-from-clause-refused g c =
     let asked = c.args.asked in
     let Stops : Fault → Type 0 = StopsStep (texts_before asked) asked.lmc rule read.store read.held (g.W.Sink.has_failed c.args.sink.now) in
     handed_on c.from_residual-in_err-from.result Memory Stops c.from_residual-in_err-from.ensures.1
-    (has_room asked.lmc read.store (judged_there asked.lmc c.in_ok-subnet.subnet read.store c.in_ok-subnet.ensures.subnet c.in_ok-plan.ensures.judged))
+    (has_room asked.lmc read.store (judged_there asked.lmc c.in_ok-planned.planned.subnet read.store c.in_ok-planned.ensures.subnet c.in_ok-plan.ensures.judged))
 
 pub returns-in_err-cycle-clause-refused : goal.returns-in_err-cycle-clause-refused
 returns-in_err-cycle-clause-refused g c =
@@ -101,7 +101,7 @@ returns-in_err-cycle-clause-refused g c =
     let asked = c.args.asked in
     let Stops : Fault → Type 0 = StopsStep (texts_before asked) asked.lmc rule read.store read.held (g.W.Sink.has_failed c.args.sink.now) in
     handed_on c.from_residual-in_err-cycle.result Memory Stops c.from_residual-in_err-cycle.ensures.1
-    (has_room asked.lmc read.store (judged_there asked.lmc c.in_ok-subnet.subnet read.store c.in_ok-subnet.ensures.subnet c.in_ok-plan.ensures.judged))
+    (has_room asked.lmc read.store (judged_there asked.lmc c.in_ok-planned.planned.subnet read.store c.in_ok-planned.ensures.subnet c.in_ok-plan.ensures.judged))
 
 pub returns-in_err-write_next-clause-refused : goal.returns-in_err-write_next-clause-refused
 returns-in_err-write_next-clause-refused g c =

@@ -9,9 +9,9 @@ use Rattle.next_run.proofs.next_run.step_near.Goals as goal
 
 pub returns-clause-made : goal.returns-clause-made
 returns-clause-made c = λ rule is.
-    let facts = c.args.from.now.facts in
-    let held = c.args.from.now.held in
-    let plan = c.args.plan.now.held in
+    let facts = c.args.step.now.from.now.facts in
+    let held = c.args.step.now.from.now.held in
+    let plan = c.args.step.now.plan.now.held in
     let last = items_of c.args.last.now in
     let choice = choice_of c.in_ok-choice.choice in
     let Made : HeldPlan → Type 0 = λ next. IsMadeNear rule last facts held plan next choice.order in
@@ -19,7 +19,7 @@ returns-clause-made c = λ rule is.
 
 pub returns-clause-still : goal.returns-clause-still
 returns-clause-still c = λ rule is.
-    sym (moved_same rule (items_of c.args.last.now) c.args.from.now.facts c.args.from.now.held c.args.plan.now.held
+    sym (moved_same rule (items_of c.args.last.now) c.args.step.now.from.now.facts c.args.step.now.from.now.held c.args.step.now.plan.now.held
     (choice_of c.in_ok-choice.choice) (c.in_ok-choice.ensures rule is)) ∙ c.in_ok-next.ensures.still
 
 pub returns-in_err-next-clause-refused : goal.returns-in_err-next-clause-refused
@@ -27,5 +27,5 @@ returns-in_err-next-clause-refused c = λ rule is.
     let fault = c.in_err-next.field-0.0 in
     handed_on c.from_residual-in_err-next.result fault _ c.from_residual-in_err-next.ensures.1
     (subst (λ (m : Option ℕ). StopsBy m fault)
-    (moved_same rule (items_of c.args.last.now) c.args.from.now.facts c.args.from.now.held c.args.plan.now.held
+    (moved_same rule (items_of c.args.last.now) c.args.step.now.from.now.facts c.args.step.now.from.now.held c.args.step.now.plan.now.held
     (choice_of c.in_ok-choice.choice) (c.in_ok-choice.ensures rule is)) c.in_err-next.ensures.refused)

@@ -16,9 +16,9 @@ use Rattle.next_run.proofs.step_choice.step_choice.Goals as goal
 pub returns-in_ok-switches-in-Some : goal.returns-in_ok-switches-in-Some
 returns-in_ok-switches-in-Some c = λ rule is.
     let last = items_of c.args.last.now in
-    let facts = c.args.from.now.facts in
-    let held = c.args.from.now.held in
-    let plan = c.args.plan.now.held in
+    let facts = c.args.step.now.from.now.facts in
+    let held = c.args.step.now.from.now.held in
+    let plan = c.args.step.now.plan.now.held in
     let by = positions_by rule (cells_of facts) in
     let made = c.in-Some.field-0 in
     let wrong : are_right (cells_of facts) (position_at by) held ≡ false =

@@ -12,18 +12,18 @@ use Rattle.plan_order.proofs.ordered_plan.by_spread.Goals as goal
 
 pub returns-clause-plan : goal.returns-clause-plan
 returns-clause-plan c =
-    let facts = c.args.subnet.now in
+    let facts = c.args.planned.now.subnet in
     let own = order_value_of c.args.order.now in
     c.in_ok-plan.ensures.plan
     ∙ ap (λ (order : OrderValue). plan_of (spread_in order) c.args.lmc (cells_of facts))
-    (c.in-Ok.ensures.named ∙ ap (λ (x : Facts). named_in own (order_of own (cells_of x))) c.wires.ensures)
+    (c.in-Ok.ensures.named ∙ ap (λ (x : Facts). named_in own (order_of own (cells_of x))) c.wired.ensures)
     ∙ named_plan own c.args.lmc facts
 
 pub returns-clause-positions : goal.returns-clause-positions
 returns-clause-positions c =
-    let cells = cells_of c.args.subnet.now in
+    let cells = cells_of c.args.planned.now.subnet in
     let switches_are = c.switches.ensures ∙ ap switches_of c.in_ok-plan.ensures.plan
     ∙ plan_guids (spread_in (order_value_of c.in-Ok.order)) c.args.lmc cells ∙ sym (graph_guids cells) in
     let own = order_value_of c.args.order.now in
-    let named_are = c.deref.ensures.value ∙ c.in-Ok.ensures.switches ∙ ap (λ (x : Facts). order_of own (cells_of x)) c.wires.ensures in
+    let named_are = c.deref.ensures.value ∙ c.in-Ok.ensures.switches ∙ ap (λ (x : Facts). order_of own (cells_of x)) c.wired.ensures in
     c.in_ok-positions.ensures ∙ (λ i. map (position_of (named_are i)) (switches_are i))

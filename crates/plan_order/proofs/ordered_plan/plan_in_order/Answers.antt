@@ -7,10 +7,10 @@ use Rattle.plan_order.proofs.ordered_plan.plan_in_order.Goals as goal
 
 pub returns-in-UpDown-clause-plan : goal.returns-in-UpDown-clause-plan
 returns-in-UpDown-clause-plan c =
-    subst (λ (rule : RuleValue). IfOk c.by_rank.result (λ found. found.0 ≡ plan_of rule c.args.lmc (cells_of c.args.subnet.now)))
+    subst (λ (rule : RuleValue). IfOk c.by_rank.result (λ found. found.0 ≡ plan_of rule c.args.lmc (cells_of c.args.planned.now.subnet)))
     (sym (ap value_of c.in-UpDown.is)) c.by_rank.ensures.plan
 
 pub returns-in-Spread-clause-plan : goal.returns-in-Spread-clause-plan
 returns-in-Spread-clause-plan c =
-    subst (λ (rule : RuleValue). IfOk c.by_spread.result (λ found. found.0 ≡ plan_of rule c.args.lmc (cells_of c.args.subnet.now)))
+    subst (λ (rule : RuleValue). IfOk c.by_spread.result (λ found. found.0 ≡ plan_of rule c.args.lmc (cells_of c.args.planned.now.subnet)))
     (sym (ap value_of c.in-Spread.is)) c.by_spread.ensures.plan

@@ -16,7 +16,7 @@ loop-index-preserved c =
 
 pub returns : goal.returns
 returns c =
-    let graph = c.args.graph.now in
+    let graph = c.args.given.now.graph.now in
     let edges = c.adjacency-edges.result.now in
     let are : edges ≡ by_index graph = edges_are graph c.adjacency-edges.ensures.is_graph edges c.adjacency-edges.ensures.edges in
     let neighbors = c.in_ok-neighbors.ensures ∙ ap least_neighbors are in

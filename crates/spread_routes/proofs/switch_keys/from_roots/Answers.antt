@@ -13,7 +13,7 @@ use Rattle.spread_routes.proofs.switch_keys.from_roots.Goals as goal
 
 pub keys-requires-clause-symmetric : goal.keys-requires-clause-symmetric
 keys-requires-clause-symmetric c =
-    let graph = c.args.graph.now in
+    let graph = c.args.given.now.graph.now in
     let good = c.adjacency-edges.ensures.is_graph in
     subst IsSymmetric (sym (edges_are graph good c.adjacency-edges.result.now c.adjacency-edges.ensures.edges)) (there_and_back graph good)
 
@@ -25,8 +25,8 @@ keys-requires-clause-all c =
 
 pub returns-clause-keys : goal.returns-clause-keys
 returns-clause-keys c =
-    let graph = c.args.graph.now in
-    let adapters = c.args.adapters.now in
+    let graph = c.args.given.now.graph.now in
+    let adapters = c.args.given.now.adapters.now in
     let roots = c.args.roots.now in
     let edges = c.adjacency-edges.result.now in
     let ex : edges ≡ by_index graph = edges_are graph c.adjacency-edges.ensures.is_graph edges c.adjacency-edges.ensures.edges in
@@ -38,8 +38,8 @@ returns-clause-keys c =
 
 pub returns-clause-levels : goal.returns-clause-levels
 returns-clause-levels c =
-    let graph = c.args.graph.now in
-    let adapters = c.args.adapters.now in
+    let graph = c.args.given.now.graph.now in
+    let adapters = c.args.given.now.adapters.now in
     let edges = c.adjacency-edges.result.now in
     let ex : edges ≡ by_index graph = edges_are graph c.adjacency-edges.ensures.is_graph edges c.adjacency-edges.ensures.edges in
     let b : c.deref.result.now ≡ leaf_vertices adapters = c.deref.ensures.value ∙ c.in_ok-leaves.ensures.vertices in

@@ -14,19 +14,19 @@ use Rattle.spread_routes.proofs.switch_keys.switches_in_order.Goals as goal
 pub grown_order-requires-clause-keys : goal.grown_order-requires-clause-keys
 grown_order-requires-clause-keys c =
     ap length (c.deref.ensures.value ∙ c.in_ok-keys.ensures.keys)
-    ∙ all_keyed c.args.graph.now c.args.adapters.now (order_value_of c.args.order.now) ∙ sym c.adjacency.ensures.edges.as_many
+    ∙ all_keyed c.args.given.now.graph.now c.args.given.now.adapters.now (order_value_of c.args.order.now) ∙ sym c.adjacency.ensures.edges.as_many
 
 pub grown_order-requires-clause-symmetric : goal.grown_order-requires-clause-symmetric
 grown_order-requires-clause-symmetric c =
-    let graph = c.args.graph.now in
+    let graph = c.args.given.now.graph.now in
     let good = c.adjacency.ensures.is_graph in
     subst IsSymmetric (sym (edges_are graph good c.adjacency.result.now c.adjacency.ensures.edges)) (there_and_back graph good)
 
 pub switches_at-requires : goal.switches_at-requires
 switches_at-requires c =
-    let graph = c.args.graph.now in
+    let graph = c.args.given.now.graph.now in
     let good = c.adjacency.ensures.is_graph in
-    let keys = keys_by graph c.args.adapters.now (order_value_of c.args.order.now) in
+    let keys = keys_by graph c.args.given.now.adapters.now (order_value_of c.args.order.now) in
     let by : c.adjacency.result.now ≡ by_index graph = edges_are graph good c.adjacency.result.now c.adjacency.ensures.edges in
     let is : c.deref-2.result.now ≡ order_by_keys graph keys =
     c.deref-2.ensures.value ∙ c.in_ok-vertices.ensures ∙ (λ i. order (by i) (before_by ((c.deref.ensures.value ∙ c.in_ok-keys.ensures.keys) i))) in
@@ -35,9 +35,9 @@ switches_at-requires c =
 pub returns : goal.returns
 unfolding switches_in_order
 returns c =
-    let graph = c.args.graph.now in
+    let graph = c.args.given.now.graph.now in
     let good = c.adjacency.ensures.is_graph in
-    let keys = keys_by graph c.args.adapters.now (order_value_of c.args.order.now) in
+    let keys = keys_by graph c.args.given.now.adapters.now (order_value_of c.args.order.now) in
     let by : c.adjacency.result.now ≡ by_index graph = edges_are graph good c.adjacency.result.now c.adjacency.ensures.edges in
     let is : c.deref-2.result.now ≡ order_by_keys graph keys =
     c.deref-2.ensures.value ∙ c.in_ok-vertices.ensures ∙ (λ i. order (by i) (before_by ((c.deref.ensures.value ∙ c.in_ok-keys.ensures.keys) i))) in

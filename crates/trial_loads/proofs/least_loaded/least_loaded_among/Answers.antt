@@ -11,15 +11,15 @@ use Rattle.trial_loads.proofs.least_loaded.least_loaded_among.Goals as goal
 
 pub returns-then-are_even : goal.returns-then-are_even
 returns-then-are_even c =
-    let edges = c.args.edges.now in
-    let loads : c.deref.result.now ≡ trial_loads edges c.args.adapters.now c.args.keys.now = c.deref.ensures.value ∙ c.in_ok-loads.ensures in
+    let edges = c.args.graph.now.edges.now in
+    let loads : c.deref.result.now ≡ trial_loads edges c.args.graph.now.adapters.now c.args.keys.now = c.deref.ensures.value ∙ c.in_ok-loads.ensures in
     c.in_ok-keys_tried.ensures.items
-    ∙ sym (found_even edges c.args.adapters.now c.args.keys.now (ap (are_even edges) (sym loads) ∙ sym c.are_even.ensures ∙ c.if-are_even.true))
+    ∙ sym (found_even edges c.args.graph.now.adapters.now c.args.keys.now (ap (are_even edges) (sym loads) ∙ sym c.are_even.ensures ∙ c.if-are_even.true))
 
 pub returns : goal.returns
 returns c =
-    let edges = c.args.edges.now in
-    let adapters = c.args.adapters.now in
+    let edges = c.args.graph.now.edges.now in
+    let adapters = c.args.graph.now.adapters.now in
     let keys = c.args.keys.now in
     let load = trial_load edges adapters in
     let forwards = tried_by_depth edges keys Forwards in

@@ -12,12 +12,12 @@ use Rattle.trial_loads.proofs.least_loaded.try_by_depth.Goals as goal
 pub trial_of-requires-clause-keys : goal.trial_of-requires-clause-keys
 trial_of-requires-clause-keys c =
     ap length c.in_ok-tried.ensures
-    ∙ numbers_long (key_in (order_by_depth c.args.edges.now (turned c.args.direction (before_by c.args.keys.now)) (get_or c.args.starts.now c.loop-start.start-index 0))) 0 (length c.args.edges.now)
+    ∙ numbers_long (key_in (order_by_depth c.args.graph.now.edges.now (turned c.args.direction (before_by c.args.keys.now)) (get_or c.args.starts.now c.loop-start.start-index 0))) 0 (length c.args.graph.now.edges.now)
 
 pub loop-start-preserved : goal.loop-start-preserved
 loop-start-preserved c =
-    let load = trial_load c.args.edges.now c.args.adapters.now in
-    let f = keys_by_depth c.args.edges.now c.args.keys.now c.args.direction in
+    let load = trial_load c.args.graph.now.edges.now c.args.graph.now.adapters.now in
+    let f = keys_by_depth c.args.graph.now.edges.now c.args.keys.now c.args.direction in
     let n = c.loop-start.start-index in
     let xs = c.args.starts.now in
     let r = get_or xs n 0 in

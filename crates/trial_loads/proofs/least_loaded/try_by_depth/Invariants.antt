@@ -7,7 +7,7 @@ use Rattle.trial_loads.proofs.least_loaded.try_by_depth.Given as goal
 abbrev pub invariant-loop-start : goal.invariant-loop-start
 invariant-loop-start l =
     record {
-      keys : l.best.keys.items ≡ least_by (trial_load l.edges l.adapters) l.fn.first.keys.items
-          (map (keys_by_depth l.edges l.keys l.direction) (take l.start-index l.starts));
-      load : l.best.load ≡ trial_load l.edges l.adapters l.best.keys.items;
+      keys : l.best.keys.items ≡ least_by (trial_load l.graph.edges.now l.graph.adapters.now) l.fn.first.keys.items
+          (map (keys_by_depth l.graph.edges.now l.keys l.direction) (take l.start-index l.starts));
+      load : l.best.load ≡ trial_load l.graph.edges.now l.graph.adapters.now l.best.keys.items;
     }

@@ -11,19 +11,19 @@ use Rattle.trial_loads.proofs.remoteness.add_shares.Goals.{else-loop-distance-te
 
 pub loop-distance-init : goal.loop-distance-init
 loop-distance-init c =
-    let edges = c.args.edges.now in
+    let edges = c.args.graph.now.edges.now in
     let targets = c.args.targets.now in
     let near = c.in_ok-near.near.items in
     record {
       near = near_there edges targets near
           (subst (λ (n : ℕ). AreThere n targets (length targets) near) c.len.ensures c.in_ok-near.ensures);
-      sums = sums_first edges c.args.adapters.now targets c.args.sums.now (λ s. let fits = c.type_inv.sums s in omega (arith, fits));
+      sums = sums_first edges c.args.graph.now.adapters.now targets c.args.sums.now (λ s. let fits = c.type_inv.sums s in omega (arith, fits));
     }
 
 pub loop-distance-preserved : goal.loop-distance-preserved
 loop-distance-preserved c =
-    let edges = c.args.edges.now in
-    let adapters = c.args.adapters.now in
+    let edges = c.args.graph.now.edges.now in
+    let adapters = c.args.graph.now.adapters.now in
     let targets = c.args.targets.now in
     let d = c.loop-distance.distance in
     let near = c.loop-distance.near.items in
@@ -33,7 +33,7 @@ loop-distance-preserved c =
     let new = c.add_new_shares.new.sums in
     let are = c.loop-distance.invariant.near in
     let further = subst (λ (xs : List ℕ). AreFurther edges xs (length edges) next) c.deref.ensures.value c.in_ok-next.ensures in
-    let after = near_further edges c.requires.lead targets d near next (omega (arith, c.loop-distance.auto.distance)) are further in
+    let after = near_further edges c.args.graph.now.lead targets d near next (omega (arith, c.loop-distance.auto.distance)) are further in
     let one = c.deref-in-loop-distance.ensures.value in
     let two = c.deref-in-loop-distance-2.ensures.value in
     let its = c.deref-in-loop-distance-3.ensures.value ∙ c.in_ok-shares.ensures in
@@ -49,13 +49,13 @@ loop-distance-preserved c =
 pub returns : goal.returns
 returns c = elim c.loop-distance-test.branch [
   | else-loop-distance-test w ↦ λ s h.
-      let edges = c.args.edges.now in
+      let edges = c.args.graph.now.edges.now in
       let ended : c.loop-distance.distance ≡ length edges
       = omega (arith, h, w.loop-distance-test.false, c.loop-distance.auto.distance-end, c.len-distance-end.ensures) in
-      subst (λ (k : ℕ). AreWithShares edges c.args.adapters.now c.args.targets.now k c.args.sums.now c.loop-distance.sums) ended
+      subst (λ (k : ℕ). AreWithShares edges c.args.graph.now.adapters.now c.args.targets.now k c.args.sums.now c.loop-distance.sums) ended
       c.loop-distance.invariant.sums s h
   | then-loop-distance-test+in_ok-next+then-eq w ↦
-      let edges = c.args.edges.now in
+      let edges = c.args.graph.now.edges.now in
       let targets = c.args.targets.now in
       let d = c.loop-distance.distance in
       let near = c.loop-distance.near.items in
@@ -63,8 +63,8 @@ returns c = elim c.loop-distance-test.branch [
       let are = c.loop-distance.invariant.near in
       let same : next ≡ near = (slice_eq-Decides Decides-eqb next near w.eq.result w.eq.ensures).0 w.if-eq.true in
       let further = subst (λ (xs : List ℕ). AreFurther edges xs (length edges) next) w.deref.ensures.value w.in_ok-next.ensures in
-      let after = near_further edges c.requires.lead targets d near next (omega (arith, c.loop-distance.auto.distance)) are further in
-      sums_ended edges c.requires.lead c.args.adapters.now targets d (length edges) near c.args.sums.now c.loop-distance.sums
+      let after = near_further edges c.args.graph.now.lead targets d near next (omega (arith, c.loop-distance.auto.distance)) are further in
+      sums_ended edges c.args.graph.now.lead c.args.graph.now.adapters.now targets d (length edges) near c.args.sums.now c.loop-distance.sums
       (omega (arith, w.loop-distance-test.true, c.len-distance-end.ensures)) are (subst (AreNear edges targets (suc d)) same after)
       c.loop-distance.invariant.sums
 ]

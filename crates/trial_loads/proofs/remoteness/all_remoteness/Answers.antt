@@ -12,8 +12,8 @@ use Rattle.trial_loads.proofs.remoteness.all_remoteness.Goals as goal
 
 pub loop-first-preserved : goal.loop-first-preserved
 loop-first-preserved c =
-    let edges = c.args.edges.now in
-    let adapters = c.args.adapters.now in
+    let edges = c.args.graph.now.edges.now in
+    let adapters = c.args.graph.now.adapters.now in
     let vertices = c.in_ok-vertices.vertices.items in
     let first = c.loop-first.first in
     let n = c.min.result in
@@ -39,8 +39,8 @@ loop-first-preserved c =
 
 pub returns : goal.returns
 returns c =
-    let edges = c.args.edges.now in
-    let adapters = c.args.adapters.now in
+    let edges = c.args.graph.now.edges.now in
+    let adapters = c.args.graph.now.adapters.now in
     let vertices = c.in_ok-vertices.vertices.items in
     let first = c.loop-first.first in
     let sums = c.loop-first.sums.items in

@@ -9,9 +9,9 @@ use Rattle.trial_loads.proofs.remoteness.all_remoteness.Given as goal
 abbrev pub invariant-loop-first : goal.invariant-loop-first
 invariant-loop-first l = record {
   first : l.first ≤ l.vertices.len;
-  long : l.sums.len ≡ length l.edges;
-  sums : (s : ℕ) → s < length l.edges
-      → slice_index l.sums.items s ≡ capped (sum_by (share_within l.edges l.adapters (length l.edges) s) (take l.first l.vertices.items));
+  long : l.sums.len ≡ length l.graph.edges.now;
+  sums : (s : ℕ) → s < length l.graph.edges.now
+      → slice_index l.sums.items s ≡ capped (sum_by (share_within l.graph.edges.now l.graph.adapters.now (length l.graph.edges.now) s) (take l.first l.vertices.items));
 }
 
 abbrev pub decreases-loop-first : goal.decreases-loop-first

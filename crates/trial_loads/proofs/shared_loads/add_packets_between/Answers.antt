@@ -8,8 +8,8 @@ use Rattle.trial_loads.proofs.shared_loads.add_packets_between.Goals as goal
 
 pub loop-k-preserved : goal.loop-k-preserved
 loop-k-preserved c =
-    let graph = c.args.graph.now in
-    let adapters = c.args.adapters.now in
+    let graph = c.args.graph.now.edges.now in
+    let adapters = c.args.graph.now.adapters.now in
     let targets = c.args.targets.now in
     let k = c.loop-k.k in
     let t = get_or targets k 0 in

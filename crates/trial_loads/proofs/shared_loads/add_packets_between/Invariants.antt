@@ -5,6 +5,6 @@ use Rattle.trial_loads.proofs.shared_loads.add_packets_between.Given as goal
 -- the packets to the targets so far
 abbrev pub invariant-loop-k : goal.invariant-loop-k
 invariant-loop-k l = record {
-  had : l.had.len ≡ length l.graph;
-  loads : l.loads ≡ carried_between l.graph l.adapters l.fn.loads (take l.k l.targets);
+  had : l.had.len ≡ length l.graph.edges.now;
+  loads : l.loads ≡ carried_between l.graph.edges.now l.graph.adapters.now l.fn.loads (take l.k l.targets);
 }

@@ -7,8 +7,8 @@ use Rattle.trial_loads.proofs.shared_loads.add_packets_to.Goals as goal
 
 pub returns : goal.returns
 returns c =
-    let towards = candidates_in c.args.graph.now c.args.sets.now c.args.k in
-    let n = length c.args.graph.now in
+    let towards = candidates_in c.args.ways.now.graph.now c.args.ways.now.sets.now c.args.k in
+    let n = length c.args.ways.now.graph.now in
     let ups = filter (goes_up towards) (last_first n) in
     let downs = filter (λ s. not (goes_up towards s)) (numbers_from 0 n) in
     let first : Packets = record { had = c.args.had.now; carried = c.args.loads.now } in

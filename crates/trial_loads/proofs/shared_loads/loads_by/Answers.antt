@@ -7,8 +7,8 @@ use Rattle.trial_loads.proofs.shared_loads.loads_by.Goals as goal
 
 pub loop-first-preserved : goal.loop-first-preserved
 loop-first-preserved c =
-    let graph = c.args.graph.now in
-    let adapters = c.args.adapters.now in
+    let graph = c.args.graph.now.edges.now in
+    let adapters = c.args.graph.now.adapters.now in
     let targets = c.in_ok-targets.targets.items in
     let first = c.loop-first.first in
     let n = c.min.result in

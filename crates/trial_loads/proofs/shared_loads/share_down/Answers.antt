@@ -16,17 +16,17 @@ share-requires-clause-vertices c =
       arith,
       c.requires.had,
       c.loop-position.auto.had,
-      c.requires.lead c.loop-position.position e (subst (λ (xs : List Edge). Contains xs e) c.at-edges.ensures h),
+      c.args.ways.now.lead c.loop-position.position e (subst (λ (xs : List Edge). Contains xs e) c.at-edges.ensures h),
     ))
 
 pub loop-position-preserved : goal.loop-position-preserved
 loop-position-preserved c =
-    let towards = candidates_in c.args.graph.now c.args.sets.now c.args.k in
+    let towards = candidates_in c.args.ways.now.graph.now c.args.ways.now.sets.now c.args.k in
     let p = c.loop-position.position in
     let old : Packets = record { had = c.loop-position.had; carried = c.loop-position.loads } in
     let new : Packets = record { had = c.if-not-has.had; carried = c.if-not-has.loads } in
-    let less : p < length c.args.graph.now = omega (arith, c.loop-position-test.true, c.len-position-end.ensures) in
-    let up : c.has.result ≡ goes_up towards p = c.has.ensures ∙ c.requires.ups.each c.args.k c.requires.target p less in
+    let less : p < length c.args.ways.now.graph.now = omega (arith, c.loop-position-test.true, c.len-position-end.ensures) in
+    let up : c.has.result ≡ goes_up towards p = c.has.ensures ∙ c.args.ways.now.upward.each c.args.k c.requires.target p less in
     let is : new ≡ cond c.has.result old (with_shares p (towards p) old) =
     (elim c.if-not-has.branch [
       | then-not-has w ↦
@@ -37,6 +37,6 @@ loop-position-preserved c =
           (λ i. record { had = w.had-is i; carried = w.loads-is i })
           ∙ ap (λ b. cond b old (with_shares p (towards p) old)) (sym w.if-not-has.false)
     ]) in
-    ap (shared towards (filter (λ s. not (goes_up towards s)) (numbers_from (p + 1) (length c.args.graph.now - (p + 1)))))
+    ap (shared towards (filter (λ s. not (goes_up towards s)) (numbers_from (p + 1) (length c.args.ways.now.graph.now - (p + 1)))))
     (is ∙ ap (λ b. cond b old (with_shares p (towards p) old)) up)
-    ∙ sym (from_next towards p (length c.args.graph.now) old less) ∙ c.loop-position.invariant
+    ∙ sym (from_next towards p (length c.args.ways.now.graph.now) old less) ∙ c.loop-position.invariant

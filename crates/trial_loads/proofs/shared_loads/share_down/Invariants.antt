@@ -7,8 +7,8 @@ use Rattle.trial_loads.proofs.shared_loads.share_down.Given as goal
 -- the shares of the positions that are left make up the rest
 abbrev pub invariant-loop-position : goal.invariant-loop-position
 invariant-loop-position l =
-    let towards = candidates_in l.graph l.sets l.k in
-    shared towards (filter (λ s. not (goes_up towards s)) (numbers_from l.position (length l.graph - l.position)))
+    let towards = candidates_in l.ways.graph.now l.ways.sets.now l.k in
+    shared towards (filter (λ s. not (goes_up towards s)) (numbers_from l.position (length l.ways.graph.now - l.position)))
     (record { had = l.had; carried = l.loads })
-    ≡ shared towards (filter (λ s. not (goes_up towards s)) (numbers_from 0 (length l.graph)))
+    ≡ shared towards (filter (λ s. not (goes_up towards s)) (numbers_from 0 (length l.ways.graph.now)))
     (record { had = l.fn.had; carried = l.fn.loads })

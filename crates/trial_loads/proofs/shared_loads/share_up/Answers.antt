@@ -11,5 +11,5 @@ share-requires-clause-vertices c =
       arith,
       c.requires.had,
       c.loop-position.auto.had,
-      c.requires.lead (c.loop-position.position - 1) e (subst (λ (xs : List Edge). Contains xs e) c.at-edges.ensures h),
+      c.args.ways.now.lead (c.loop-position.position - 1) e (subst (λ (xs : List Edge). Contains xs e) c.at-edges.ensures h),
     ))

@@ -6,6 +6,6 @@ use Rattle.trial_loads.proofs.shared_loads.share_up.Given as goal
 -- the shares of the positions that are left make up the rest
 abbrev pub invariant-loop-position : goal.invariant-loop-position
 invariant-loop-position l =
-    let towards = candidates_in l.graph l.sets l.k in
+    let towards = candidates_in l.ways.graph.now l.ways.sets.now l.k in
     shared towards (filter (goes_up towards) (last_first l.position)) (record { had = l.had; carried = l.loads })
-    ≡ shared towards (filter (goes_up towards) (last_first (length l.graph))) (record { had = l.fn.had; carried = l.fn.loads })
+    ≡ shared towards (filter (goes_up towards) (last_first (length l.ways.graph.now))) (record { had = l.fn.had; carried = l.fn.loads })

@@ -13,4 +13,4 @@ returns c =
     let b = (f.tally.all.arrived == f.tally.all.sent) in
     let Judges = λ (x : Audited). IsTrue b ↔ EachArrives (cells_of x.facts) x.held in
     subst Judges c.self.view_is
-    (arrive_is a.most a.network f.tally f.unmatched f.disputed f.ways f.cycle.items b c.self.invariant refl)
+    (arrive_is a.most a.network f.tally f.unmatched f.disputed f.ways f.cycle.items f.sites.items b c.self.invariant refl)

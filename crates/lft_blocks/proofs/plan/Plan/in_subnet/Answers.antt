@@ -13,13 +13,13 @@ use Rattle.lft_blocks.proofs.plan.Plan.in_subnet.Goals as goal
 
 pub invariant_of-result : goal.invariant_of-result
 invariant_of-result c =
-    let facts = c.wires.result.now in
+    let facts = c.wired.result.wires.now in
     let lids = c.in_ok-lids.lids in
     let cells = cells_of facts in
     let next = (lid_routing (value_of c.args.rule.now) c.args.lmc cells lids).next in
     let count = block_count (top_of lids) in
     let guids = c.in_ok-switches.switches.items in
-    let theirs = c.in_ok-switches.ensures.items ∙ c.switches.ensures ∙ (λ i. switches (cells_of (sym c.wires.ensures i))) in
+    let theirs = c.in_ok-switches.ensures.items ∙ c.switches.ensures ∙ (λ i. switches (cells_of (sym c.wired.ensures i))) in
     are_tables (attachment_of_lid cells lids) next count guids c.in_ok-tables.tables.items (switches_rise facts guids theirs)
     (c.in_ok-tables.ensures ∙ (λ i. tables_of (attachment_of_lid cells lids) next count (sym theirs i)))
 
@@ -28,12 +28,12 @@ returns-clause-plan c =
     let rule = c.args.rule.now in
     let lids = c.in_ok-lids.ensures.lids in
     let tables = c.in_ok-tables.ensures
-    ∙ (λ j. tables_by (lid_routing (value_of rule) c.args.lmc (cells_of (c.wires.ensures j)) (lids j)) (cells_of (c.wires.ensures j)) (lids j)) in
+    ∙ (λ j. tables_by (lid_routing (value_of rule) c.args.lmc (cells_of (c.wired.ensures j)) (lids j)) (cells_of (c.wired.ensures j)) (lids j)) in
     λ i. record { given = lids i; tables = tables i }
 
 pub returns-clause-arrives : goal.returns-clause-arrives
 returns-clause-arrives c =
-    let facts = c.args.subnet.now in
+    let facts = c.args.planned.now.subnet in
     let rule = rule_of c.args.rule.now (cells_of facts) in
     subst (λ (plan : PlanValue). EveryPacketArrivesBy rule (cells_of facts) plan) (sym (returns-clause-plan c))
     (every_packet_arrives (value_of c.args.rule.now) c.args.lmc facts (has_room c.args.lmc (cells_of facts) c.in_ok-lids.ensures.judged))

@@ -13,23 +13,20 @@ use Rattle.lft_blocks.specs.Entries.{attachment_of_lid, block_count}
 use Rattle.lft_blocks.specs.Attachment.{AreIndexed}
 use Rattle.lft_blocks.specs.Plan.{tables_of}
 use Rattle.lft_blocks.proofs.RowSteps.{same_attachments}
-use Rattle.lft_blocks.proofs.plan.by_updown.Goals as goal
-
-pub attachments-requires-clause-switches : goal.attachments-requires-clause-switches
-attachments-requires-clause-switches c = c.switches.ensures ∙ ap guids_of c.requires ∙ graph_guids (cells_of c.args.wires.now)
+use Rattle.lft_blocks.proofs.plan.by_ranks.Goals as goal
 
 pub updown_tables-requires-clause-rising : goal.updown_tables-requires-clause-rising
 updown_tables-requires-clause-rising c =
-    subst (λ (g : List SwitchEdges). IsStrictlyIncreasing (guids_of g)) (sym (c.in_ok-ranked.ensures ∙ c.requires)) (switches_rise c.args.wires.now)
+    subst (λ (g : List SwitchEdges). IsStrictlyIncreasing (guids_of g)) (sym (c.requires ∙ c.args.wired.now.is_graph)) (switches_rise c.args.wired.now.wires.now)
 
 pub returns : goal.returns
 returns c =
-    let cells = cells_of c.args.wires.now in
-    let ranked = c.in_ok-ranked.ranked in
-    let is = c.in_ok-ranked.ensures ∙ c.requires in
+    let cells = cells_of c.args.wired.now.wires.now in
+    let ranked = c.args.ranked.now in
+    let is = c.requires ∙ c.args.wired.now.is_graph in
     let attachments = attachment_of_lid cells c.args.lids.now in
     let guids : guids_of ranked ≡ switches cells = ap guids_of is ∙ graph_guids cells in
-    let own = c.switches.ensures ∙ sym (ap guids_of c.in_ok-ranked.ensures) in
+    let own = sym (ap guids_of c.requires) in
     let are = subst (λ (x : List ℕ × List (Option Attachment)). AreIndexed x.0 attachments x.1) (λ i. (own i, sym c.deref.ensures.value i))
     c.in_ok-attachments.ensures.indexed in
     let counted = c.block_count-count.ensures.count ∙ ap block_count c.top.ensures in
