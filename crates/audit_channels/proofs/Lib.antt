@@ -9,5 +9,4 @@ pub mod Passing
 pub mod Searches
 pub mod TakenEdges
 pub mod Waiting
-pub mod Written
 pub mod ChannelWays

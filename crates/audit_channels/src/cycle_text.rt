@@ -2,7 +2,7 @@
 ghost use Rattle.std.specs.List.{flat_map};
 ghost use Rattle.fact_store.specs.View.{cells_of};
 ghost use Rattle.byte_io.specs.Writes.{Writes};
-ghost use Rattle.byte_io.specs.WritesPart.{WritesPart};
+ghost use Rattle.byte_io.specs.Prints.{WritesPart};
 ghost use Rattle.audit_channels.specs.CycleText.{channel_text, channels_text, cycle_line, exit_text, words_of};
 
 use byte_io::{Sink, WriteFault, write_number, write_port};
@@ -26,7 +26,7 @@ pub fn write_cycle<W: Sink>(
     kind: ChannelKind,
     cycle: &[usize],
 ) -> Result<(), WriteFault>
-    ensures { WritesPart W.written W.has_failed result sink.old sink.new
+    ensures { Writes W.written W.has_failed result sink.old sink.new
         (cycle_line (cells_of network.now.facts) kind cycle.now) }
 {
     sink.write(b"credit loop")?;
@@ -41,7 +41,7 @@ fn write_channels<W: Sink>(
     kind: ChannelKind,
     cycle: &[usize],
 ) -> Result<(), WriteFault>
-    ensures { WritesPart W.written W.has_failed result sink.old sink.new
+    ensures { Writes W.written W.has_failed result sink.old sink.new
         (channels_text (cells_of network.now.facts) kind cycle.now) }
 {
     if cycle.is_empty() {

@@ -4,7 +4,7 @@ ghost use Rattle.std.specs.List.{flat_map};
 ghost use Rattle.std.specs.Option.{option_map_or};
 ghost use Rattle.fact_store.specs.View.{cells_of};
 ghost use Rattle.byte_io.specs.Writes.{Writes};
-ghost use Rattle.byte_io.specs.WritesPart.{WritesPart};
+ghost use Rattle.byte_io.specs.Prints.{WritesPart};
 ghost use Rattle.audit_channels.specs.CycleText.{exit_text};
 ghost use Rattle.audit_counts.specs.ChannelList.{loaded_channels};
 ghost use Rattle.audit_counts.specs.PacketWay.{way_value};
@@ -130,7 +130,7 @@ fn write_load<W: Sink>(
 
 /// Writes the line of the packet of `found`: who sends it, its LID, its channels, and how it ends.
 fn write_way<W: Sink>(sink: &mut W, network: &Network, found: &WayFound) -> Result<(), WriteFault>
-    ensures { WritesPart W.written W.has_failed result sink.old sink.new
+    ensures { Writes W.written W.has_failed result sink.old sink.new
         (found_text (cells_of network.now.facts) network.now.held found.now) }
 {
     write_head(sink, &found.asked)?;
@@ -145,7 +145,7 @@ fn write_tail<W: Sink>(
     lid: Lid,
     way: &Option<PacketWay>,
 ) -> Result<(), WriteFault>
-    ensures { WritesPart W.written W.has_failed result sink.old sink.new
+    ensures { Writes W.written W.has_failed result sink.old sink.new
         (way_tail (cells_of network.now.facts) network.now.held lid (option_map way_value way.now)) }
 {
     match way {
@@ -171,7 +171,7 @@ fn write_channels_and_end<W: Sink>(
     lid: Lid,
     way: &PacketWay,
 ) -> Result<(), WriteFault>
-    ensures { WritesPart W.written W.has_failed result sink.old sink.new
+    ensures { Writes W.written W.has_failed result sink.old sink.new
         (way_end (cells_of network.now.facts) network.now.held lid (way_value way.now)) }
 {
     write_channels(sink, network, &way.channels)?;

@@ -3,7 +3,7 @@ ghost use Rattle.std.specs.Prelude.{◌-◌, codes};
 ghost use Rattle.std.specs.List.{flat_map};
 ghost use Rattle.fact_store.specs.View.{cells_of};
 ghost use Rattle.byte_io.specs.Writes.{Writes};
-ghost use Rattle.byte_io.specs.WritesPart.{WritesPart};
+ghost use Rattle.byte_io.specs.Prints.{WritesPart};
 ghost use Rattle.audit_channels.specs.CycleText.{cycle_line};
 ghost use Rattle.audit_channels.specs.declared.cycle_text.ChannelKind.TheVariants.{OnOneLane};
 ghost use Rattle.audit_report.specs.AuditText.{disputed_line};
@@ -42,7 +42,7 @@ use subnet_view::EndPort;
 ///
 /// Does not allocate.
 pub fn write_findings<W: Sink>(sink: &mut W, audit: &Audit) -> Result<(), WriteFault>
-    ensures { WritesPart W.written W.has_failed result sink.old sink.new
+    ensures { Writes W.written W.has_failed result sink.old sink.new
         (findings_text audit.now.most (cells_of audit.now.facts) audit.now.held) }
 {
     let findings = &audit.findings;
@@ -54,7 +54,7 @@ pub fn write_findings<W: Sink>(sink: &mut W, audit: &Audit) -> Result<(), WriteF
 
 /// Writes the channels of the credit loop on one lane that `audit` found, or that there is none.
 pub fn write_loop<W: Sink>(sink: &mut W, audit: &Audit) -> Result<(), WriteFault>
-    ensures { WritesPart W.written W.has_failed result sink.old sink.new
+    ensures { Writes W.written W.has_failed result sink.old sink.new
         (cycle_line (cells_of audit.now.facts) OnOneLane audit.now.cycle) }
 {
     write_cycle(
@@ -71,7 +71,7 @@ fn write_tally<W: Sink>(
     network: &Network,
     tally: &PacketTally,
 ) -> Result<(), WriteFault>
-    ensures { WritesPart W.written W.has_failed result sink.old sink.new
+    ensures { Writes W.written W.has_failed result sink.old sink.new
         (tally_text (cells_of network.now.facts) network.now.held tally.now) }
 {
     write_pairs(sink, &tally.all, &tally.between)?;
@@ -86,7 +86,7 @@ fn write_tally<W: Sink>(
 
 /// Writes how many packets there are and arrive: of all, of those between adapter ports, and of those with a switch.
 fn write_pairs<W: Sink>(sink: &mut W, all: &Pairs, between: &Pairs) -> Result<(), WriteFault>
-    ensures { WritesPart W.written W.has_failed result sink.old sink.new (pairs_text all.now between.now) }
+    ensures { Writes W.written W.has_failed result sink.old sink.new (pairs_text all.now between.now) }
 {
     write_counts(sink, "", all.sent, all.arrived)?;
     write_counts(sink, "between adapters ", between.sent, between.arrived)?;
@@ -128,7 +128,7 @@ fn write_counted<W: Sink>(
     misdelivered: u64,
     round: u64,
 ) -> Result<(), WriteFault>
-    ensures { WritesPart W.written W.has_failed result sink.old sink.new
+    ensures { Writes W.written W.has_failed result sink.old sink.new
         (missed_line causes.now misdelivered round) }
 {
     sink.write(b"missed")?;
@@ -139,7 +139,7 @@ fn write_counted<W: Sink>(
 
 /// Writes how many packets are misdelivered, and how many loop.
 fn write_others<W: Sink>(sink: &mut W, misdelivered: u64, round: u64) -> Result<(), WriteFault>
-    ensures { WritesPart W.written W.has_failed result sink.old sink.new (others_text misdelivered round) }
+    ensures { Writes W.written W.has_failed result sink.old sink.new (others_text misdelivered round) }
 {
     write_count(sink, "misdelivered", misdelivered)?;
     write_count(sink, "round", round)
@@ -147,7 +147,7 @@ fn write_others<W: Sink>(sink: &mut W, misdelivered: u64, round: u64) -> Result<
 
 /// Writes how many packets are lost for each cause.
 fn write_causes<W: Sink>(sink: &mut W, causes: &Causes) -> Result<(), WriteFault>
-    ensures { WritesPart W.written W.has_failed result sink.old sink.new (causes_text causes.now) }
+    ensures { Writes W.written W.has_failed result sink.old sink.new (causes_text causes.now) }
 {
     write_count(sink, "above-top", causes.above_top)?;
     write_count(sink, "no-entry", causes.no_entry)?;
@@ -218,7 +218,7 @@ fn write_packet<W: Sink>(
     word: &str,
     packet: &SentPacket,
 ) -> Result<(), WriteFault>
-    ensures { WritesPart W.written W.has_failed result sink.old sink.new
+    ensures { Writes W.written W.has_failed result sink.old sink.new
         (packet_line (cells_of network.now.facts) network.now.held word.now packet.now) }
 {
     write_sent(sink, word, packet)?;
@@ -270,7 +270,7 @@ fn write_lost<W: Sink>(
     node: Guid,
     cause: Cause,
 ) -> Result<(), WriteFault>
-    ensures { WritesPart W.written W.has_failed result sink.old sink.new
+    ensures { Writes W.written W.has_failed result sink.old sink.new
         (lost_text (cells_of network.now.facts) network.now.held lid node cause) }
 {
     sink.write(b" at ")?;
@@ -432,7 +432,7 @@ fn write_disputed<W: Sink>(sink: &mut W, count: usize) -> Result<(), WriteFault>
 
 /// Writes the line of figures of the wires that packets take, and the line of figures of the loads of channels.
 fn write_ways<W: Sink>(sink: &mut W, ways: &WayFigures) -> Result<(), WriteFault>
-    ensures { WritesPart W.written W.has_failed result sink.old sink.new (ways_text ways.now.hops ways.now.load) }
+    ensures { Writes W.written W.has_failed result sink.old sink.new (ways_text ways.now.hops ways.now.load) }
 {
     write_line(sink, "hops", &ways.hops)?;
     write_line(sink, "load", &ways.load)
@@ -444,7 +444,7 @@ fn write_line<W: Sink>(
     word: &str,
     figures: &Option<Figures>,
 ) -> Result<(), WriteFault>
-    ensures { WritesPart W.written W.has_failed result sink.old sink.new (figures_line word.now figures.now) }
+    ensures { Writes W.written W.has_failed result sink.old sink.new (figures_line word.now figures.now) }
 {
     sink.write(word.as_bytes())?;
     write_figures(sink, figures)?;
@@ -453,7 +453,7 @@ fn write_line<W: Sink>(
 
 /// Writes the greatest number and the mean of `figures`, or `none` if `figures` is `None`.
 fn write_figures<W: Sink>(sink: &mut W, figures: &Option<Figures>) -> Result<(), WriteFault>
-    ensures { WritesPart W.written W.has_failed result sink.old sink.new (figures_text figures.now) }
+    ensures { Writes W.written W.has_failed result sink.old sink.new (figures_text figures.now) }
 {
     match figures {
         None => sink.write(b" none"),

@@ -4,7 +4,6 @@ ghost use Rattle.std.specs.Prelude.{false, length, true};
 ghost use Rattle.std.specs.Io.KnownBytes.{Appends};
 ghost use Rattle.fact_store.specs.View.{cells_of};
 ghost use Rattle.byte_io.specs.Writes.{Writes};
-ghost use Rattle.byte_io.specs.WritesPart.{WritesPart};
 ghost use Rattle.audit_report.specs.Appendix.{appendix_text, shown};
 ghost use Rattle.audit_report.specs.AuditText.{findings_text};
 ghost use Rattle.audit_channels.specs.ChannelOrders.{CanRise};
@@ -233,7 +232,7 @@ fn write_loops<W: Sink>(
     audit: &Audit,
     found: &Option<LaneFindings>,
 ) -> Result<(), WriteFault>
-    ensures { WritesPart W.written W.has_failed result sink.old sink.new
+    ensures { Writes W.written W.has_failed result sink.old sink.new
         (loops_text (cells_of audit.now.facts) audit.now.cycle found.now) }
 {
     match found {

@@ -1,7 +1,7 @@
 //! The findings by lane, and their text.
 ghost use Rattle.std.specs.Prelude.{◌≡◌, ◌↔◌, [], IsTrue, None};
+ghost use Rattle.byte_io.specs.Writes.{Writes};
 ghost use Rattle.fact_store.specs.View.{cells_of};
-ghost use Rattle.byte_io.specs.WritesPart.{WritesPart};
 ghost use Rattle.audit_run.specs.LaneText.{lanes_text};
 
 use crate::lane_text::{write_missing, write_order};
@@ -47,7 +47,7 @@ impl LaneFindings {
     /// Writes the first packets without a service level, and how many more there are. Then writes a dropped packet, if
     /// one was found, and the credit loop, or that there is none; and the same for answers.
     pub fn write<W: Sink>(&self, sink: &mut W, network: &Network) -> Result<(), WriteFault>
-        ensures { WritesPart W.written W.has_failed result sink.old sink.new
+        ensures { Writes W.written W.has_failed result sink.old sink.new
             (lanes_text (cells_of network.now.facts) self.now) }
     {
         write_missing(sink, &self.missing)?;

@@ -2,7 +2,7 @@
 ghost use Rattle.std.specs.List.{flat_map};
 ghost use Rattle.fact_store.specs.View.{cells_of};
 ghost use Rattle.byte_io.specs.Writes.{Writes};
-ghost use Rattle.byte_io.specs.WritesPart.{WritesPart};
+ghost use Rattle.byte_io.specs.Prints.{WritesPart};
 ghost use Rattle.audit_run.specs.LaneText.{drop_line, dropped_text, missing_text, order_text, pair_line};
 
 use crate::levels_missing::PacketPair;
@@ -52,7 +52,7 @@ pub(crate) fn write_order<W: Sink>(
     lead: &str,
     order: &LaneOrder,
 ) -> Result<(), WriteFault>
-    ensures { WritesPart W.written W.has_failed result sink.old sink.new
+    ensures { Writes W.written W.has_failed result sink.old sink.new
         (order_text (cells_of network.now.facts) lead.now order.now) }
 {
     write_dropped(sink, network, lead, order.dropped)?;

@@ -1,7 +1,7 @@
 //! The last line of an audit: whether the tables pass and, if they do not, why.
 ghost use Rattle.std.specs.List.{flat_map};
 ghost use Rattle.byte_io.specs.Writes.{Writes};
-ghost use Rattle.byte_io.specs.WritesPart.{WritesPart};
+ghost use Rattle.byte_io.specs.Prints.{WritesPart};
 ghost use Rattle.audit_run.specs.VerdictText.{flaw_word, flaws_text, later_word, verdict_line};
 
 use crate::flaw::Flaw;
@@ -9,7 +9,7 @@ use byte_io::{Sink, WriteFault};
 
 /// Writes the line that says whether tables with `flaws` pass: `yes`, or `no` and the words of `flaws`.
 pub(crate) fn write_verdict<W: Sink>(sink: &mut W, flaws: &[Flaw]) -> Result<(), WriteFault>
-    ensures { WritesPart W.written W.has_failed result sink.old sink.new (verdict_line flaws.now) }
+    ensures { Writes W.written W.has_failed result sink.old sink.new (verdict_line flaws.now) }
 {
     sink.write(b"passes")?;
     write_flaws(sink, flaws)?;
@@ -18,7 +18,7 @@ pub(crate) fn write_verdict<W: Sink>(sink: &mut W, flaws: &[Flaw]) -> Result<(),
 
 /// Writes `no` and the words of `flaws`, or `yes` if `flaws` is empty.
 fn write_flaws<W: Sink>(sink: &mut W, flaws: &[Flaw]) -> Result<(), WriteFault>
-    ensures { WritesPart W.written W.has_failed result sink.old sink.new (flaws_text flaws.now) }
+    ensures { Writes W.written W.has_failed result sink.old sink.new (flaws_text flaws.now) }
 {
     match flaws.split_first() {
         None => sink.write(b" yes"),

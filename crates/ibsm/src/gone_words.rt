@@ -1,7 +1,7 @@
 //! Words that the program took in an earlier release, and what to use instead.
 ghost use Rattle.std.specs.Prelude.{◌≡◌};
 ghost use Rattle.byte_io.specs.Writes.{Writes};
-ghost use Rattle.byte_io.specs.WritesPart.{WritesPart};
+ghost use Rattle.byte_io.specs.Prints.{WritesPart};
 ghost use Rattle.ibsm.specs.GoneWords.{successor, successors_text};
 
 use byte_io::{Sink, WriteFault};

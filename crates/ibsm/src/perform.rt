@@ -2,7 +2,7 @@
 ghost use Rattle.std.specs.Prelude.{◌≡◌, ◌⊎◌, Bool, length, IfOk, IfErr, OnOk, OnErr, IsTrue, true};
 ghost use Rattle.std.specs.Io.KnownBytes.{Appends};
 ghost use Rattle.sm_cli.specs.ExitStatus.{status_of};
-ghost use Rattle.schedule_lines.specs.Prints.{PrintsSome};
+ghost use Rattle.byte_io.specs.Prints.{PrintsSome};
 ghost use Rattle.next_run.specs.NextRun.{IsSaid};
 ghost use Rattle.ibsm.specs.Ending.{Does, HasEnoughNames, IsDone, IsFaultOver, IsTaskFault, KeepsOutput};
 ghost use Rattle.ibsm.specs.Ending.{Performs, SaysWhy, StaysSilent};

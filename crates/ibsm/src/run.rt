@@ -3,7 +3,7 @@ ghost use Rattle.std.specs.Prelude.{◌≡◌, ◌≢◌, ◌⊎◌, Bool, IfOk,
 ghost use Rattle.std.specs.Io.KnownBytes.{Appends};
 ghost use Rattle.cli_arguments.specs.WellFormed.{IsWellFormed};
 ghost use Rattle.next_run.specs.NextRun.{IsSaid};
-ghost use Rattle.schedule_lines.specs.Prints.{PrintsSome};
+ghost use Rattle.byte_io.specs.Prints.{PrintsSome};
 ghost use Rattle.ibsm.specs.Ending.{IsDone, PerformsWords, SaysWhyOfWords, status_after};
 
 use crate::opener::Opener;

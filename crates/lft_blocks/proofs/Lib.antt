@@ -19,7 +19,6 @@ pub mod TableLookups
 pub mod Triangle
 pub mod TriangleArrives
 pub mod WholeFabrics
-pub mod Written
 pub use Rattle.lid_assign.proofs.FreeLids
 pub use Rattle.lid_assign.proofs.HandOut
 pub use Rattle.lid_assign.proofs.LidLaws

@@ -4,7 +4,7 @@ ghost use Rattle.std.specs.Option.{option_map_or};
 ghost use Rattle.std.specs.List.{flat_map};
 ghost use Rattle.hex.specs.Hex.{encode_lower};
 ghost use Rattle.byte_io.specs.Writes.{Writes};
-ghost use Rattle.byte_io.specs.WritesPart.{WritesPart};
+ghost use Rattle.byte_io.specs.Prints.{WritesPart};
 ghost use Rattle.lft_blocks.specs.PlanText.{lmc_text, lid_line, owner_line, lids_text, switch_line};
 ghost use Rattle.lft_blocks.specs.PlanText.{block_line, blocks_text, table_text, tables_text, plan_text};
 
@@ -98,7 +98,7 @@ fn write_each_table<W: Sink>(sink: &mut W, top: Lid, tables: &[Table]) -> Result
 
 /// Writes the line of the switch of `table`, with `top` as the greatest LID, and the lines of its blocks.
 fn write_table<W: Sink>(sink: &mut W, top: Lid, table: &Table) -> Result<(), WriteFault>
-    ensures { WritesPart W.written W.has_failed result sink.old sink.new (table_text top table.now) }
+    ensures { Writes W.written W.has_failed result sink.old sink.new (table_text top table.now) }
 {
     write_switch(sink, top, table.guid())?;
     write_blocks(sink, table.blocks())

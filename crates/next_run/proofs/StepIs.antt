@@ -1,10 +1,10 @@
 -- The text and the line that were written are those of the step from the facts, the held tables and the plan.
-use Rattle.std.proofs.Common.{◌≡◌, ◌∙◌, ◌==◌, ◌↔◌, ◌++◌, ℕ, Bool, List, [], ◌∷◌, Option, None, Result, Ok, Err, IsTrue, length, ap, arith, inl, inr, refl, subst, sym}
+use Rattle.std.proofs.Common.{◌≡◌, ◌∙◌, ◌==◌, ◌↔◌, ◌++◌, ℕ, Bool, List, [], Option, None, Result, Ok, Err, IsTrue, length, ap, arith, inl, inr, refl, subst, sym}
 use Rattle.std.proofs.lemmas.Bool.{eqb-true}
 use Rattle.std.proofs.lemmas.List.{nil_from_length}
-use Rattle.std.specs.Prelude.{◌⊎◌, IfErr, OnErr, OnOk}
+use Rattle.std.specs.Prelude.{◌⊎◌, IfErr, OnErr}
 use Rattle.std.specs.Result.{IsErrAnd}
-use Rattle.std.specs.Io.KnownBytes.{Appends}
+use Rattle.byte_io.specs.Writes.{Writes}
 use Rattle.byte_io.specs.declared.sink.WriteFault.{WriteFault}
 use Rattle.fact_store.specs.View.{Facts, cells_of}
 use Rattle.subnet_view.specs.Reading.{Cells}
@@ -45,9 +45,9 @@ no_loop cells held next numbers channels lids rise none no_lids =
 
 -- a text was written, or that has failed
 pub was_said : {W : Type 0} (written : W → Option (List ℕ)) (has_failed : W → Bool) (result : Result (Unit {0}) WriteFault) (old new : W) (text : List ℕ)
-    → OnOk result (Appends (written old) (written new) text) → OnErr result (IsTrue (has_failed new)) → IsSaid written has_failed old new text
-was_said written has_failed (Ok u) old new text ok err = inr ok
-was_said written has_failed (Err fault) old new text ok err = inl err
+    → Writes written has_failed result old new text → IsSaid written has_failed old new text
+was_said written has_failed (Ok u) old new text said = inr said.ok
+was_said written has_failed (Err fault) old new text said = inl (said.failed.0 refl)
 
 -- a write that fails is told as such
 pub not_written : {A : Type 0} (result : Result A Fault) (P : Type 0) → IsErrAnd result (λ fault. fault ≡ Write) → OnErr result ((result ≡ Err Write) ⊎ P)

@@ -2,7 +2,8 @@
 ghost use Rattle.std.specs.Prelude.{◌≡◌, ◌↔◌, [], IfOk, IsTrue};
 ghost use Rattle.std.specs.List.{flat_map};
 ghost use Rattle.fact_store.specs.View.{cells_of};
-ghost use Rattle.byte_io.specs.WritesPart.{WritesPart};
+ghost use Rattle.byte_io.specs.Writes.{Writes};
+ghost use Rattle.byte_io.specs.Prints.{WritesPart};
 ghost use Rattle.next_run.specs.LoopText.{lid_word, lids_line, loop_text};
 ghost use Rattle.next_run.specs.StepLoops.{IsLoopInStep};
 
@@ -52,7 +53,7 @@ impl StepLoop {
     /// Writes the line of the channels, or that there is no credit loop. Then writes the line of the LIDs, if there is
     /// a credit loop.
     pub fn write<W: Sink>(&self, sink: &mut W, network: &Network) -> Result<(), WriteFault>
-        ensures { WritesPart W.written W.has_failed result sink.old sink.new
+        ensures { Writes W.written W.has_failed result sink.old sink.new
             (loop_text (cells_of network.now.facts) self.now.channels.items self.now.lids.items) }
     {
         write_cycle(sink, network, ChannelKind::OnOneLane, &self.channels)?;
@@ -84,7 +85,7 @@ fn write_each_lid<W: Sink>(sink: &mut W, lids: &[Lid]) -> Result<(), WriteFault>
 
 /// Writes a space and `lid`.
 fn write_lid<W: Sink>(sink: &mut W, lid: Lid) -> Result<(), WriteFault>
-    ensures { WritesPart W.written W.has_failed result sink.old sink.new (lid_word lid) }
+    ensures { Writes W.written W.has_failed result sink.old sink.new (lid_word lid) }
 {
     sink.write(b" ")?;
     write_number(sink, u64::from(lid.number()))

@@ -2,12 +2,12 @@
 ghost use Rattle.std.specs.Prelude.{◌≡◌, ◌⊎◌, ◌+◌, ◌++◌, ◌≤◌, Err, IfErr, IfOk, IsTrue, None, OnErr, OnOk, false};
 ghost use Rattle.std.specs.Prelude.{length};
 ghost use Rattle.std.specs.Io.KnownBytes.{Appends};
+ghost use Rattle.byte_io.specs.Writes.{Writes};
 ghost use Rattle.fact_store.specs.View.{cells_of};
 ghost use Rattle.subnet_view.specs.Graph.{graph_of};
 ghost use Rattle.subnet_view.specs.Reading.{switches};
 ghost use Rattle.lft_blocks.specs.Rule.{RuleValue, value_of};
 ghost use Rattle.plan_order.specs.PlanOrder.{positions_by};
-ghost use Rattle.byte_io.specs.WritesPart.{WritesPart};
 ghost use Rattle.next_run.specs.NextRun.{HasStepped, IsMade, IsMadeNear, IsSaid, IsStepFault, IsStepOf, StopsBy};
 ghost use Rattle.next_run.specs.NextRun.{StopsStep, choice_of, fault_of_step, goal_or, next_by_choice, texts_before};
 ghost use Rattle.next_run.specs.LoopText.{loop_text};
@@ -142,7 +142,7 @@ fn write_loop_and_order<E: Sink>(
     cycle: &StepLoop,
     order: &Option<Vec<Guid>>,
 ) -> Result<(), WriteFault>
-    ensures { WritesPart E.written E.has_failed result told.old told.new
+    ensures { Writes E.written E.has_failed result told.old told.new
         (loop_text (cells_of from.now.facts) cycle.now.channels.items cycle.now.lids.items
         ++ step_order_text (items_of order.now)) }
 {

@@ -1,7 +1,7 @@
 //! The order of switches that a step goes by, and its text.
 ghost use Rattle.std.specs.Prelude.{◌≡◌, IfOk};
 ghost use Rattle.fact_store.specs.View.{cells_of};
-ghost use Rattle.byte_io.specs.WritesPart.{WritesPart};
+ghost use Rattle.byte_io.specs.Prints.{WritesPart};
 ghost use Rattle.next_run.specs.StepOrderText.{items_of, step_order_text, switches_by};
 
 use byte_io::{Sink, WriteFault};

@@ -16,4 +16,3 @@ pub mod Spellings
 pub mod SplitFiles
 pub mod StoreFiles
 pub mod Stores
-pub mod Writing

@@ -5,4 +5,3 @@ pub mod Present
 pub mod Printing
 pub mod Refused
 pub mod Waits
-pub mod Written

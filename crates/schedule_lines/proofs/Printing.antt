@@ -1,64 +1,27 @@
 -- Texts that are printed one after the other, and how much of them is printed if a run ends early.
-use Rattle.std.proofs.Common.{◌≡◌, ◌∙◌, ℕ, Bool, true, false, List, [], ◌++◌, append_assoc, Option, None, Some, Result, Ok, Err, refl, sym, ap, subst, IsTrue, ◌↔◌}
-use Rattle.std.specs.Prelude.{IsErr, OnOk}
-use Rattle.std.proofs.lemmas.List.{append-nil}
-use Rattle.std.specs.Io.KnownBytes.{Appends}
-use Rattle.byte_io.specs.Writes.{Writes}
-use Rattle.byte_io.specs.declared.sink.WriteFault.{WriteFault}
-use Rattle.record_file.proofs.Writing.{appends_then}
-use Rattle.schedule_lines.specs.Prints.{Prints, PrintsUnless}
+use Rattle.std.proofs.Common.{◌≡◌, ◌∙◌, ℕ, Bool, List, [], ◌++◌, Option, Result, Err, refl, sym, ap, subst}
+use Rattle.std.specs.Prelude.{OnOk}
+use Rattle.byte_io.specs.Prints.{Prints}
+use Rattle.byte_io.proofs.Writing.{IsPartWritten, ends_early_in, nothing_early, part_all, part_more, part_none, prints_then as then_up_to}
+use Rattle.schedule_lines.specs.Prints.{PrintsUnless, is_write}
 use Rattle.schedule_lines.specs.Outcome.{Outcome, quiet, and_then}
 use Rattle.schedule_lines.specs.declared.run_fault.RunFault.{RunFault}
-use Rattle.schedule_lines.specs.declared.run_fault.RunFault.TheVariants.{Write, Memory}
-
-appends_none : (o : Option (List ℕ)) → Appends o o []
-appends_none None = tt
-appends_none (Some xs) = sym (append-nil xs)
-
-abbrev ok_of : Unit {0} → Result (Unit {0}) WriteFault
-ok_of u = Ok u
-
-not_failed : (b : Bool) (u : Unit {0}) → (IsErr (ok_of u) ↔ IsTrue b) → b ≡ false
-not_failed false u h = refl
-not_failed true u h = let e : IsErr (ok_of u) = h.1 refl in absurd (cc)
+use Rattle.schedule_lines.specs.declared.run_fault.RunFault.TheVariants.{Memory}
 
 -- the fault of a call, as that of the call around it
 abbrev pub failed_with : RunFault → Result (Unit {0}) RunFault
 failed_with fault = Err fault
 
 module _ {W : Type 0} (written : W → Option (List ℕ)) (has_failed : W → Bool) where
-  -- nothing was printed
-  pub prints_nothing : (now : W) → Prints written has_failed now now []
-  prints_nothing now = record { grown = appends_none (written now); works = λ e. e }
-
-  -- one text, and then another
-  pub prints_both : (old mid new : W) (a b : List ℕ) → Prints written has_failed old mid a → Prints written has_failed mid new b
-      → Prints written has_failed old new (a ++ b)
-  prints_both old mid new a b p q =
-      record { grown = appends_then (written old) (written mid) (written new) a b p.grown q.grown; works = λ e. q.works (p.works e) }
-
   -- one text, and then another that may not be printed whole
   pub prints_then : {T : Type 0} (result : Result T RunFault) (old mid new : W) (a b : List ℕ) → Prints written has_failed old mid a
       → PrintsUnless written has_failed result mid new b → PrintsUnless written has_failed result old new (a ++ b)
-  prints_then (Ok value) old mid new a b p q = prints_both old mid new a b p q
-  prints_then (Err Memory) old mid new a b p q = record {
-    front = a ++ q.front;
-    rest = q.rest;
-    parts = append_assoc a q.front q.rest ∙ ap (λ t. a ++ t) q.parts;
-    prints = prints_both old mid new a q.front p q.prints;
-  }
-  prints_then (Err Write) old mid new a b p q = q
+  prints_then result old mid new a b p q = then_up_to written has_failed is_write result old mid new a b p q
 
   -- a run that ends in a text ends in that text and more
   pub ends_in : (fault : RunFault) (old new : W) (a b : List ℕ) → PrintsUnless written has_failed (failed_with fault) old new a
       → PrintsUnless written has_failed (failed_with fault) old new (a ++ b)
-  ends_in Memory old new a b p = record {
-    front = p.front;
-    rest = p.rest ++ b;
-    parts = sym (append_assoc p.front p.rest b) ∙ ap (λ t. t ++ b) p.parts;
-    prints = p.prints;
-  }
-  ends_in Write old new a b p = p
+  ends_in fault old new a b p = ends_early_in written has_failed (is_write fault) old new a b p
 
   -- the same text
   pub prints_same : {T : Type 0} (result : Result T RunFault) (old new : W) (a b : List ℕ) → a ≡ b
@@ -68,35 +31,22 @@ module _ {W : Type 0} (written : W → Option (List ℕ)) (has_failed : W → Bo
   -- memory was refused before anything was printed
   pub ends_unprinted : (old new : W) (text : List ℕ) → new ≡ old
       → PrintsUnless written has_failed (failed_with Memory) old new text
-  ends_unprinted old new text e = record {
-    front = [];
-    rest = text;
-    parts = refl;
-    prints = subst (λ (w : W). Prints written has_failed old w []) (sym e) (prints_nothing old);
-  }
-
-  -- a text was written
-  pub wrote : (u : Unit {0}) (old new : W) (text : List ℕ) → Writes written has_failed (Ok u) old new text → Prints written has_failed old new text
-  wrote u old new text h = record { grown = h.ok; works = λ e. not_failed (has_failed new) u h.failed }
+  ends_unprinted old new text e = nothing_early written has_failed old new text e
 
   -- part of a run is over: its text was printed, and what is left comes to the same
   pub record IsUnderWay {S : Type 0} (old now : W) (whole left : Outcome S) : Type 0 where
-    pub front : List ℕ
-    pub printed : Prints written has_failed old now front
-    pub text : front ++ left.text ≡ whole.text
+    pub printed : IsPartWritten written has_failed old now left.text whole.text
     pub same : left.now ≡ whole.now
 
   -- nothing of it is over
   pub begins : {S : Type 0} (now : W) (whole : Outcome S) → IsUnderWay now now whole whole
-  begins now whole = record { front = []; printed = prints_nothing now; text = refl; same = refl }
+  begins now whole = record { printed = part_none written has_failed now whole.text; same = refl }
 
   -- a further part is over
   pub goes_on : {S : Type 0} (old mid now : W) (whole : Outcome S) (part : Outcome S) (next : S → Outcome S) → IsUnderWay old mid whole (and_then part next)
       → Prints written has_failed mid now part.text → IsUnderWay old now whole (next part.now)
   goes_on old mid now whole part next h p = record {
-    front = h.front ++ part.text;
-    printed = prints_both old mid now h.front part.text h.printed p;
-    text = append_assoc h.front part.text (next part.now).text ∙ h.text;
+    printed = part_more written has_failed old mid now (and_then part next).text (next part.now).text whole.text part.text h.printed refl p;
     same = h.same;
   }
 
@@ -106,21 +56,20 @@ module _ {W : Type 0} (written : W → Option (List ℕ)) (has_failed : W → Bo
       → PrintsUnless written has_failed (failed_with fault) mid new part.text
       → PrintsUnless written has_failed (failed_with fault) old new whole.text
   stops_in fault old mid new whole part next h p =
-      prints_same (failed_with fault) old new _ _ h.text
-      (prints_then (failed_with fault) old mid new h.front (part.text ++ (next part.now).text) h.printed
+      prints_same (failed_with fault) old new _ _ h.printed.parts
+      (prints_then (failed_with fault) old mid new h.printed.part (part.text ++ (next part.now).text) h.printed.prints
       (ends_in fault mid new part.text (next part.now).text p))
 
   -- what is left prints nothing
   pub is_over : {S : Type 0} (old now : W) (whole left : Outcome S) → IsUnderWay old now whole left → left.text ≡ []
       → Prints written has_failed old now whole.text
-  is_over old now whole left h e =
-      subst (λ (t : List ℕ). Prints written has_failed old now t) (sym (append-nil h.front) ∙ ap (λ t. h.front ++ t) (sym e) ∙ h.text) h.printed
+  is_over old now whole left h e = part_all written has_failed old now left.text whole.text h.printed e
 
   -- what is left is its last part
   pub ends_with : {S T : Type 0} (result : Result T RunFault) (old mid new : W) (whole left : Outcome S) → IsUnderWay old mid whole left
       → PrintsUnless written has_failed result mid new left.text → PrintsUnless written has_failed result old new whole.text
   ends_with result old mid new whole left h p =
-      prints_same result old new _ _ h.text (prints_then result old mid new h.front left.text h.printed p)
+      prints_same result old new _ _ h.printed.parts (prints_then result old mid new h.printed.part left.text h.printed.prints p)
 
   -- a run is over, and then comes what is next
   pub then_prints : {S T : Type 0} (result : Result T RunFault) (old mid new : W) (whole left : Outcome S) (s : S) (next : S → Outcome S)

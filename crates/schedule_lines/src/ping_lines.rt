@@ -40,6 +40,7 @@ pub fn write_ping<W: Sink>(
 }
 
 /// Prints the word `ping`, the port `from` that a packet is sent from, and the LID `lid` that it is for.
+#[tactic(auto, unfolding(crate::specs::Lines::start_text))]
 fn write_start<W: Sink>(
     sink: &mut W,
     topology: &Topology,
@@ -55,6 +56,7 @@ fn write_start<W: Sink>(
 }
 
 /// Prints the port where a packet ends and the number of wires that it took, or the node where it is lost.
+#[tactic(auto, unfolding(crate::specs::Lines::end_text))]
 fn write_end<W: Sink>(sink: &mut W, topology: &Topology, ping: &Ping) -> Result<(), WriteFault>
     ensures writes { Writes W.written W.has_failed result sink.old sink.new
         (end_text topology.now.nodes ping.now) }

@@ -16,7 +16,7 @@ use sm_manager::{Manager, Trap};
 
 /// Prints what `what` asks about `manager`. The lines other than those of facts and plans have the manager's name
 /// `name`, unless it is `None`.
-#[tactic(auto, using(crate::proofs::Printing::wrote))]
+#[tactic(auto, using(byte_io::proofs::Writing::wrote))]
 pub fn show_manager<W: Sink>(
     sink: &mut W,
     name: Option<&str>,
@@ -39,7 +39,7 @@ pub fn show_manager<W: Sink>(
 
 /// Prints `trap`, which a manager repressed, with the manager's name unless `name` is `None`. Prints nothing if `trap`
 /// is `None`.
-#[tactic(auto, using(crate::proofs::Printing::wrote))]
+#[tactic(auto, using(byte_io::proofs::Writing::wrote))]
 pub fn show_trap<W: Sink>(
     sink: &mut W,
     name: Option<&str>,
@@ -55,7 +55,7 @@ pub fn show_trap<W: Sink>(
 }
 
 /// Prints the plan of `manager`, or its refusal if some end port finds no LID. Returns `Memory` if memory runs out.
-#[tactic(auto, using(crate::proofs::Printing::wrote))]
+#[tactic(auto, using(byte_io::proofs::Writing::wrote))]
 fn show_plan<W: Sink>(sink: &mut W, manager: &Manager) -> Result<(), RunFault>
     ensures prints { PrintsUnless W.written W.has_failed result sink.old sink.new
         (plan_or_refusal manager.now.planning (cells_of manager.now.store)

@@ -17,7 +17,8 @@ use Rattle.schedule_lines.specs.Outcome.{Outcome, quiet}
 use Rattle.schedule_lines.specs.Prints.{PrintsUnless}
 use Rattle.schedule_lines.specs.declared.run_fault.RunFault.{RunFault}
 use Rattle.schedule_lines.specs.declared.run_fault.RunFault.TheVariants.{Memory}
-use Rattle.schedule_lines.proofs.Printing.{ends_unprinted, failed_with, prints_nothing, prints_same}
+use Rattle.byte_io.proofs.Writing.{prints_nothing}
+use Rattle.schedule_lines.proofs.Printing.{ends_unprinted, failed_with, prints_same}
 use Rattle.schedule_run.specs.Deciders.{after_deciding, after_decider_line, after_giving, after_pause_line, after_telling, at_decider}
 use Rattle.schedule_run.specs.Deciders.{decider_shown, decider_shown_at, with_decider}
 use Rattle.schedule_run.specs.World.{DeciderValue, Does, WorldValue, after_fabric_call, decider_value, fabric_line, seated_value, value_of}

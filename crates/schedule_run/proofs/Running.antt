@@ -7,7 +7,8 @@ use Rattle.lft_blocks.specs.Rule.{RuleValue}
 use Rattle.sm_cli.specs.Inputs.{AreInputs}
 use Rattle.sm_cli.specs.declared.asked.RuleAsked.{RuleAsked}
 use Rattle.schedule_run.specs.RunText.{run_text, schedule_text, script_text, topology_text}
-use Rattle.schedule_lines.specs.Prints.{Prints, PrintsSome, PrintsUnless}
+use Rattle.byte_io.specs.Prints.{Prints, PrintsSome}
+use Rattle.schedule_lines.specs.Prints.{PrintsUnless}
 use Rattle.schedule_run.specs.Run.{HasRun, IsRunFault, StopsEarly, Tells, fault_of_run, texts_reader}
 use Rattle.schedule_run.specs.declared.texts.Setting.{Setting}
 use Rattle.schedule_lines.specs.declared.run_fault.RunFault.{RunFault}

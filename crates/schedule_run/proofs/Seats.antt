@@ -28,7 +28,8 @@ use Rattle.schedule_lines.specs.declared.run_fault.RunFault.{RunFault}
 use Rattle.schedule_run.specs.declared.world.Seated.{Seated}
 use Rattle.schedule_run.specs.declared.world.World.{World}
 use Rattle.schedule_lines.proofs.Refused.{Refuses, IsMemory, refusal_leaves, refusal_prints, refuses}
-use Rattle.schedule_lines.proofs.Printing.{prints_nothing, prints_same}
+use Rattle.byte_io.proofs.Writing.{prints_nothing}
+use Rattle.schedule_lines.proofs.Printing.{prints_same}
 
 -- the manager of a seat
 pub sits : (items : List Seated) (seat : ℕ) (s : Seated) → seat < length items → s ≡ get_or items seat s

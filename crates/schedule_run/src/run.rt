@@ -3,7 +3,7 @@ ghost use Rattle.std.specs.Prelude.{◌≡◌, ◌⊎◌, ◌+◌, Err, false, l
 ghost use Rattle.std.specs.Io.KnownBytes.{Appends};
 ghost use Rattle.sm_cli.specs.Asked.{texts_for};
 ghost use Rattle.schedule_run.specs.Run.{HasRun, IsRunFault, fault_of_run};
-ghost use Rattle.schedule_lines.specs.Prints.{PrintsSome};
+ghost use Rattle.byte_io.specs.Prints.{PrintsSome};
 
 use crate::commands::run_commands;
 use crate::texts::TopologyAndSchedule;

@@ -28,7 +28,7 @@ impl World<'_> {
     }
 
     /// Prints where a packet from the port `from` to `lid` ends. If the fabric refuses the ping, prints the refusal.
-    #[tactic(auto, using(schedule_lines::proofs::Printing::wrote), unfolding(crate::specs::Commands::ping_shown))]
+    #[tactic(auto, using(byte_io::proofs::Writing::wrote), unfolding(crate::specs::Commands::ping_shown))]
     pub(crate) fn show_ping<W: Sink>(
         &self,
         topology: &Topology,

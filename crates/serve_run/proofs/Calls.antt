@@ -15,7 +15,8 @@ use Rattle.schedule_lines.specs.Refusals.{manager_line}
 use Rattle.schedule_lines.specs.Outcome.{Outcome}
 use Rattle.schedule_lines.specs.Prints.{PrintsUnless}
 use Rattle.schedule_lines.specs.declared.run_fault.RunFault.{RunFault}
-use Rattle.schedule_lines.proofs.Printing.{prints_nothing, prints_same}
+use Rattle.byte_io.proofs.Writing.{prints_nothing}
+use Rattle.schedule_lines.proofs.Printing.{prints_same}
 use Rattle.schedule_lines.proofs.Refused.{IsMemory, memory_is, refusal_prints, refuses}
 use Rattle.serve_run.specs.Lives.{Lives}
 use Rattle.serve_run.specs.Served.{after_called, after_heard, asked, asked_with, fault_text, heard_text, send_line}

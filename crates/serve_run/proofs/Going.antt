@@ -5,10 +5,11 @@ use Rattle.byte_io.proofs.Bytes.{Consumes-trans}
 use Rattle.std.specs.Prelude.{IsErr}
 use Rattle.byte_io.specs.Source.{SourceState}
 use Rattle.byte_io.specs.declared.sink.WriteFault.{WriteFault}
-use Rattle.schedule_lines.specs.Prints.{Prints, PrintsSome}
+use Rattle.byte_io.specs.Prints.{Prints, PrintsSome}
 use Rattle.schedule_lines.specs.declared.run_fault.RunFault.{RunFault}
 use Rattle.schedule_lines.specs.declared.run_fault.RunFault.TheVariants.{Memory, Write}
-use Rattle.schedule_lines.proofs.Printing.{prints_both, prints_then}
+use Rattle.byte_io.proofs.Writing.{prints_both}
+use Rattle.schedule_lines.proofs.Printing.{prints_then}
 use Rattle.serve_run.specs.Kept.{ServerValue, after_bytes}
 use Rattle.serve_run.specs.Seat.{Seat, served_by}
 use Rattle.serve_run.specs.Server.{FailsToRead, GoesOn, HasServed, IsOver, ServesPiece, StopsServing, StopsWithin, Unread, fault_of_run, stopped}

@@ -35,7 +35,7 @@ pub(crate) fn serve_line<W: Sink>(
 }
 
 /// Prints the line that ends an answer, and flushes.
-#[tactic(auto, using(schedule_lines::proofs::Printing::wrote))]
+#[tactic(auto, using(byte_io::proofs::Writing::wrote))]
 pub(crate) fn end_answer<W: Sink>(sink: &mut W) -> Result<(), RunFault>
     ensures prints { PrintsUnless W.written W.has_failed result sink.old sink.new end_line }
     ensures flushed { OnOk result (IsTrue (W.is_flushed sink.new)) }
@@ -46,7 +46,7 @@ pub(crate) fn end_answer<W: Sink>(sink: &mut W) -> Result<(), RunFault>
 }
 
 /// Prints `text`.
-#[tactic(auto, using(schedule_lines::proofs::Printing::wrote))]
+#[tactic(auto, using(byte_io::proofs::Writing::wrote))]
 pub(crate) fn print<W: Sink>(sink: &mut W, text: &[u8]) -> Result<(), RunFault>
     ensures prints { PrintsUnless W.written W.has_failed result sink.old sink.new text.now }
 {

@@ -1,7 +1,7 @@
 //! Serving a manager: lines are read, and each line is handled before the next one is read.
 ghost use Rattle.std.specs.Prelude.{◌≡◌, ◌<◌, [], IfErr, OnOk, IsTrue, false, length};
 ghost use Rattle.std.specs.Io.KnownBytes.{Appends};
-ghost use Rattle.schedule_lines.specs.Prints.{PrintsSome};
+ghost use Rattle.byte_io.specs.Prints.{PrintsSome};
 ghost use Rattle.serve_run.specs.Kept.{after_byte, after_bytes, kept_with};
 ghost use Rattle.serve_run.specs.Lives.{Lives};
 ghost use Rattle.serve_run.specs.Seat.{seat_of};

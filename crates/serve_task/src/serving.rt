@@ -2,7 +2,7 @@
 ghost use Rattle.std.specs.Prelude.{◌≡◌, ◌⊎◌, ◌+◌, Err, false, length, IfErr, OnErr, OnOk, IsTrue};
 ghost use Rattle.std.specs.Io.KnownBytes.{Appends};
 ghost use Rattle.record_file.specs.declared.file_fault.FileFault.TheVariants.{Read};
-ghost use Rattle.schedule_lines.specs.Prints.{PrintsSome};
+ghost use Rattle.byte_io.specs.Prints.{PrintsSome};
 ghost use Rattle.serve_task.specs.RunServe.{HasServedLines, IsServeFault, fault_of_serving};
 ghost use Rattle.sm_cli.specs.Asked.{texts_for};
 

@@ -1,13 +1,11 @@
 -- The text of tables, switch after switch.
-use Rattle.std.proofs.Common.{◌≡◌, ℕ, suc, ◌+◌, ◌<◌, List, [], ◌∷◌, ◌++◌, get_or, length, take, drop, Option, None, Some, refl, sym, ap, subst, ◌∙◌, arith, append_assoc, append-nil}
+use Rattle.std.proofs.Common.{◌≡◌, ℕ, suc, ◌+◌, ◌<◌, List, [], ◌∷◌, ◌++◌, get_or, length, take, drop, refl, sym, ap, ◌∙◌, arith}
 use Rattle.std.specs.Prelude.{map}
-use Rattle.std.specs.Io.KnownBytes.{Appends}
 use Rattle.std.specs.List.{enumerate_from, flat_map, prefix_len}
 use Rattle.std.proofs.Math.Seq.{drop-append_seam, take-append_seam}
 use Rattle.std.proofs.lemmas.Bool.{eq-eqb, ne_eqb}
 use Rattle.std.proofs.lemmas.List.{drop_more}
 use Rattle.std.proofs.lemmas.List.Folds.{flat_map-map}
-use Rattle.record_file.proofs.Writing.{appends_then}
 use Rattle.plan_tables.specs.Plan.{SwitchTable}
 use Rattle.plan_tables.specs.PlanText.{blocks_text, switch_line, table_text}
 use Rattle.held_tables.specs.declared.held.HeldBlock.{HeldBlock}
@@ -15,32 +13,6 @@ use Rattle.held_tables.specs.declared.held.HeldSwitch.{HeldSwitch}
 use Rattle.plan_tables.specs.PlanTables.{blocks_from, blocks_of}
 use Rattle.tables_file.specs.PrintedTextIsRead.{with_own_top}
 use Rattle.tables_file.specs.PrintedTables.{block_text, first_blocks, is_of, later_blocks, switches_text}
-
--- a part of a text was written, and with what is left it is all
-pub record IsPartWritten (old new : Option (List ℕ)) (left all : List ℕ) : Type 0 where
-  pub part : List ℕ
-  pub written : Appends old new part
-  pub parts : part ++ left ≡ all
-
-appends_none : (a : Option (List ℕ)) → Appends a a []
-appends_none None = tt
-appends_none (Some xs) = sym (append-nil xs)
-
-pub part_none : (a : Option (List ℕ)) (all : List ℕ) → IsPartWritten a a all all
-part_none a all = record { part = []; written = appends_none a; parts = refl }
-
-pub part_more : (a b c : Option (List ℕ)) (left later all text : List ℕ) → IsPartWritten a b left all → left ≡ text ++ later → Appends b c text
-    → IsPartWritten a c later all
-part_more a b c left later all text h next more = record {
-  part = h.part ++ text;
-  written = appends_then a b c h.part text h.written more;
-  parts = append_assoc h.part text later ∙ ap (λ t. h.part ++ t) (sym next) ∙ h.parts;
-}
-
-pub part_all : (a b : Option (List ℕ)) (left all : List ℕ) → IsPartWritten a b left all → left ≡ [] → Appends a b all
-part_all a b left all h none =
-    let P : List ℕ → Type 0 = λ t. Appends a b t in
-    subst P (sym (append-nil h.part) ∙ ap (λ t. h.part ++ t) (sym none) ∙ h.parts) h.written
 
 -- a switch more
 pub switch_more : (switches : List HeldSwitch) (blocks : List HeldBlock) (index : ℕ) (switch : HeldSwitch) (own later : List HeldBlock) → index

@@ -3,7 +3,7 @@ ghost use Rattle.std.specs.Prelude.{◌≡◌, ◌≤◌, ◌++◌, IsTrue, OnOk
 ghost use Rattle.std.specs.List.{flat_map, prefix_len};
 ghost use Rattle.byte_io.specs.Writes.{Writes};
 ghost use Rattle.plan_tables.specs.PlanText.{switch_line};
-ghost use Rattle.byte_io.specs.WritesPart.{WritesPart};
+ghost use Rattle.byte_io.specs.Prints.{WritesPart};
 ghost use Rattle.tables_file.specs.PrintedTables.{block_text, first_blocks, is_of, later_blocks, next_text};
 ghost use Rattle.tables_file.specs.PrintedTables.{switches_text, tables_text_of};
 

@@ -7,7 +7,7 @@ use Rattle.smp_bytes.specs.Header.{get_resp, set}
 use Rattle.smp_bytes.specs.Requests.{answer_packet, directed}
 use Rattle.smp_bytes.proofs.Answered.{answer_reads_back}
 use Rattle.fabric_sim.specs.declared.packet.Packet.{Packet}
-use Rattle.fabric_sim.specs.Simulation.{AreCables, is_cable_port, is_seat_at, port_count}
+use Rattle.fabric_sim.specs.Simulation.{AreCables, Simulation, is_cable_port, is_seat_at, port_count}
 use Rattle.fabric_sim.specs.Delivery.{after_deliver}
 use Rattle.fabric_sim.specs.ThereAndBack.{directed_packet}
 use Rattle.fabric_sim.proofs.Traced.{IsForManager, IsOnCourse}
@@ -16,7 +16,7 @@ use Rattle.fabric_sim.proofs.TracedCalls.{losses_trace, repeated_agents}
 use Rattle.fabric_sim.proofs.TripEnds.{request_over}
 use Rattle.lft_blocks.specs.Plan.{PlanValue}
 use Rattle.manager_laws.specs.Scene.{Handed, Scene, Sending, ByLid, ByPath, Answer, Event, Deliver, Lose, Repeat, Send, Emit, CanEmit, CanHappen, CanSend, IsQuiet}
-use Rattle.manager_laws.specs.Scene.{after_event, emitted, emitted_from, answer_to, answered_from, asks_manager, sent, sent_from}
+use Rattle.manager_laws.specs.Scene.{after_event, emitted, emitted_from, answer_to, answered_from, asks_manager, sent, sent_from, with_fabric}
 use Rattle.manager_laws.proofs.Answers.{Continues, begun, bytes_answered, cabled_in_port, continued, seat_in_port}
 use Rattle.manager_laws.proofs.Scenes.{SetsInfoAlone}
 use Rattle.manager_laws.proofs.TracedScenes.{WereTraced, manager_traced, other_traced, sent_traced, traced_by, traced_more, traced_there}
@@ -82,6 +82,11 @@ module _ (from : Scene) (plan : PlanValue) (IsSeat : NodePort → Type 0) where
       pub harmless : AreHarmless after.fabric.flights
       pub agents : after.fabric.agents ≡ w.fabric.agents
 
+    -- where nothing was handed up either
+    stays_with : (w : Scene) → Traces w → (after : Simulation) → AreTraced Requests Told from.fabric after.flights → AreHarmless after.flights
+        → after.agents ≡ w.fabric.agents → StaysOn w (with_fabric w after)
+    stays_with w t after flights harmless agents = record { flights = flights; handed = t.handed; harmless = harmless; agents = agents }
+
     -- what is sent -----------------------------------------------------------------------------------
 
     module _ (w : Scene) (t : Traces w) where
@@ -89,12 +94,9 @@ module _ (from : Scene) (plan : PlanValue) (IsSeat : NodePort → Type 0) where
           → (is_seat_at w.fabric seat ≡ true → IsOnCourse Requests Told from.fabric seat packet.bytes) → IsHarmless packet.bytes
           → StaysOn w (sent_from w seat packet)
       sent_on seat packet on its =
-          record {
-            flights = injections_trace Requests Told cables counts t.continues.fabric.along t.continues.fabric.is t.flights seat packet on;
-            handed = t.handed;
-            harmless = injected_harmless Requests Told cables counts t.continues.fabric.along t.continues.fabric.is t.flights t.harmless seat packet its;
-            agents = injected_agents Requests Told cables counts t.continues.fabric.along t.continues.fabric.is t.flights seat packet;
-          }
+          stays_with w t _ (injections_trace Requests Told cables counts t.continues.fabric.along t.continues.fabric.is t.flights seat packet on)
+          (injected_harmless Requests Told cables counts t.continues.fabric.along t.continues.fabric.is t.flights t.harmless seat packet its)
+          (injected_agents Requests Told cables counts t.continues.fabric.along t.continues.fabric.is t.flights seat packet)
 
       still : StaysOn w w
       still = record { flights = t.flights; handed = t.handed; harmless = t.harmless; agents = refl }
@@ -136,12 +138,9 @@ module _ (from : Scene) (plan : PlanValue) (IsSeat : NodePort → Type 0) where
           → (is_cable_port w.fabric at ≡ true → IsOnCourse Requests Told from.fabric at packet.bytes) → IsHarmless packet.bytes
           → StaysOn w (emitted_from w at packet)
       emit_on at packet on its =
-          record {
-            flights = emissions_trace Requests Told cables counts t.continues.fabric.along t.continues.fabric.is t.flights at packet on;
-            handed = t.handed;
-            harmless = emitted_harmless Requests Told cables counts t.continues.fabric.along t.continues.fabric.is t.flights t.harmless at packet its;
-            agents = emitted_agents Requests Told cables counts t.continues.fabric.along t.continues.fabric.is t.flights at packet;
-          }
+          stays_with w t _ (emissions_trace Requests Told cables counts t.continues.fabric.along t.continues.fabric.is t.flights at packet on)
+          (emitted_harmless Requests Told cables counts t.continues.fabric.along t.continues.fabric.is t.flights t.harmless at packet its)
+          (emitted_agents Requests Told cables counts t.continues.fabric.along t.continues.fabric.is t.flights at packet)
 
       pub emitting_on : (at : NodePort) (sending : Sending) → CanEmit at sending → SendsSo at sending → StaysOn w (emitted w at sending)
       emitting_on at (ByLid packet) ((count, other), sets) so =
@@ -155,21 +154,15 @@ module _ (from : Scene) (plan : PlanValue) (IsSeat : NodePort → Type 0) where
 
     pub lost_on : (w : Scene) (n : ℕ) → Traces w → StaysOn w (after_event w (Lose n))
     lost_on w n t =
-        record {
-          flights = losses_trace Requests Told cables counts t.continues.fabric.along t.continues.fabric.is t.flights n;
-          handed = t.handed;
-          harmless = lost_harmless Requests Told cables counts t.continues.fabric.along t.continues.fabric.is t.flights t.harmless n;
-          agents = lost_agents Requests Told cables counts t.continues.fabric.along t.continues.fabric.is t.flights n;
-        }
+        stays_with w t _ (losses_trace Requests Told cables counts t.continues.fabric.along t.continues.fabric.is t.flights n)
+        (lost_harmless Requests Told cables counts t.continues.fabric.along t.continues.fabric.is t.flights t.harmless n)
+        (lost_agents Requests Told cables counts t.continues.fabric.along t.continues.fabric.is t.flights n)
 
     pub repeated_on : (w : Scene) (n : ℕ) → Traces w → StaysOn w (after_event w (Repeat n))
     repeated_on w n t =
-        record {
-          flights = copies_trace Requests Told cables counts t.continues.fabric.along t.continues.fabric.is t.flights n;
-          handed = t.handed;
-          harmless = copied_harmless Requests Told cables counts t.continues.fabric.along t.continues.fabric.is t.flights t.harmless n;
-          agents = repeated_agents Requests Told cables counts t.continues.fabric.along t.continues.fabric.is t.flights n;
-        }
+        stays_with w t _ (copies_trace Requests Told cables counts t.continues.fabric.along t.continues.fabric.is t.flights n)
+        (copied_harmless Requests Told cables counts t.continues.fabric.along t.continues.fabric.is t.flights t.harmless n)
+        (repeated_agents Requests Told cables counts t.continues.fabric.along t.continues.fabric.is t.flights n)
 
     pub delivered_traces : (w : Scene) (n : ℕ) → Traces w → Traces (after_event w (Deliver n))
     delivered_traces w n t =

@@ -2,14 +2,14 @@
 use Rattle.std.proofs.Common.{◌≡◌, ◌∙◌, ◌++◌, ap, subst}
 use Rattle.std.specs.Prelude.{codes}
 use Rattle.fact_store.specs.View.{cells_of}
-use Rattle.record_file.proofs.Writing.{appends_then}
-use Rattle.byte_io.specs.WritesPart.{WritesPart}
+use Rattle.byte_io.proofs.Bytes.{Appends-trans}
+use Rattle.byte_io.proofs.Writing.{writes_then}
+use Rattle.byte_io.specs.Writes.{Writes}
 use Rattle.audit_report.specs.AuditText.{disputed_line, findings_text, lid_line, kind_text, port_line, switch_line, tally_text, unmatched_text, unmatched_told}
 use Rattle.audit_report.specs.AuditText.{ways_text}
 use Rattle.audit_report.specs.Passing.{Audited}
 use Rattle.audit_counts.specs.Packets.{packets_of}
 use Rattle.audit_report.proofs.TallyText.{tally_told}
-use Rattle.audit_channels.proofs.Written.{part_then}
 use Rattle.audit_report.proofs.audit_text.write_findings.Goals as goal
 
 pub returns : goal.returns
@@ -27,10 +27,10 @@ returns g c =
     let unmatched = unmatched_text f.unmatched in
     let disputed = disputed_line f.disputed in
     let ways = ways_text f.ways.hops f.ways.load in
-    let two = appends_then (written c.args.sink.now) (written c.write_tally.new.sink) (written c.write_unmatched.new.sink) tally unmatched
-    c.in_ok-write_tally.ensures.ok c.in_ok-write_unmatched.ensures.ok in
-    let three = appends_then (written c.args.sink.now) (written c.write_unmatched.new.sink) (written c.write_disputed.new.sink) (tally ++ unmatched) disputed
-    two c.in_ok-write_disputed.ensures.ok in
+    let two = Appends-trans (written c.args.sink.now) (written c.write_tally.new.sink) (written c.write_unmatched.new.sink) tally unmatched
+    c.in_ok-write_tally.ensures.ok c.in_ok-write_unmatched.ensures.grown in
+    let three = Appends-trans (written c.args.sink.now) (written c.write_unmatched.new.sink) (written c.write_disputed.new.sink) (tally ++ unmatched) disputed
+    two c.in_ok-write_disputed.ensures.grown in
     let differs : unmatched ≡ unmatched_told a.most cells held =
     (λ i. kind_text lid_line (codes "unowned") (differ.unowned_are i)
     ++ kind_text lid_line (codes "twice") (differ.twice_are i)
@@ -42,5 +42,5 @@ returns g c =
     let whole : (((tally ++ unmatched) ++ disputed) ++ ways) ≡ findings_text a.most cells held =
     (λ i. (((counted i) ++ differs i) ++ disputed_line (found.count_is i)) ++ ways_text (found.told.hops i) (found.told.load i)) in
     let told = λ (x : Audited). findings_text x.most (cells_of x.facts) x.held in
-    subst (WritesPart written g.W.Sink.has_failed c.write_ways.result c.args.sink.now c.write_ways.new.sink) (whole ∙ ap told c.audit.view_is)
-    (part_then _ _ _ _ _ _ ((tally ++ unmatched) ++ disputed) ways three c.write_ways.ensures)
+    subst (Writes written g.W.Sink.has_failed c.write_ways.result c.args.sink.now c.write_ways.new.sink) (whole ∙ ap told c.audit.view_is)
+    (writes_then _ _ _ _ _ _ ((tally ++ unmatched) ++ disputed) ways three c.write_ways.ensures)

@@ -1,18 +1,16 @@
 -- Its parts in turn.
-use Rattle.std.proofs.Common.{ap, subst}
+use Rattle.std.proofs.Common.{ap}
 use Rattle.fact_store.specs.View.{cells_of}
-use Rattle.byte_io.specs.WritesPart.{WritesPart}
-use Rattle.record_file.proofs.Writing.{appends_then}
+use Rattle.byte_io.proofs.Bytes.{Appends-trans}
 use Rattle.audit_channels.specs.declared.cycle_text.ChannelKind.TheVariants.{ByLane}
 use Rattle.audit_channels.specs.CycleText.{cycle_line}
-use Rattle.audit_channels.proofs.Written.{part_then, spelled}
+use Rattle.byte_io.proofs.Writing.{spelled, writes_as, writes_then}
 use Rattle.audit_run.proofs.lane_text.write_order.Goals as goal
 
 pub returns : goal.returns
 returns g c =
     let cells = cells_of c.args.network.now.facts in
     let lead = spelled _ _ _ _ c.as_bytes.ensures.value c.in_ok-write.ensures.writes.ok in
-    let two = appends_then _ _ _ _ _ c.in_ok-write_dropped.ensures.ok lead in
-    let cycle = subst (WritesPart g.W.Sink.written g.W.Sink.has_failed c.write_cycle.result c.write.new.self c.write_cycle.new.sink)
-    (ap (cycle_line cells ByLane) c.deref.ensures.value) c.write_cycle.ensures in
-    part_then _ _ _ _ _ _ _ _ two cycle
+    let two = Appends-trans _ _ _ _ _ c.in_ok-write_dropped.ensures.grown lead in
+    let cycle = writes_as _ _ _ _ _ _ _ (ap (cycle_line cells ByLane) c.deref.ensures.value) c.write_cycle.ensures in
+    writes_then _ _ _ _ _ _ _ _ two cycle

@@ -56,7 +56,7 @@ returns-clause-done g c =
     c.is_none.result c.in_ok-from.from.facts cycle.channels.items cycle.lids.items facts_is (judged_there asked.lmc c.in_ok-planned.planned.subnet store subnet_is c.in_ok-plan.ensures.judged)
     (c.in-Ok.ensures.still rule positions_are) (subst Found facts_is c.in_ok-cycle.ensures)
     (subst Printed c.lids.ensures c.in_ok-write_next.ensures.writes.ok)
-    (was_said g.E.Sink.written g.E.Sink.has_failed c.write_loop_and_order.result _ _ _ c.write_loop_and_order.ensures.ok c.write_loop_and_order.ensures.err)
+    (was_said g.E.Sink.written g.E.Sink.has_failed c.write_loop_and_order.result _ _ _ c.write_loop_and_order.ensures)
     c.is_none.ensures
 
 pub returns-in-Err-clause-refused : goal.returns-in-Err-clause-refused

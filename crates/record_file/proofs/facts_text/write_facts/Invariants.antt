@@ -1,9 +1,9 @@
 use Rattle.fact_store.specs.Iter.{cells_left}
-use Rattle.record_file.proofs.Writing.{HasWritten}
+use Rattle.byte_io.proofs.Writing.{HasWritten}
 use Rattle.record_file.specs.FactsText.{line_text}
 use Rattle.record_file.proofs.facts_text.write_facts.Given as goal
 
 -- the lines of the cells given so far were written
 abbrev pub invariant-loop-cell : goal.invariant-loop-cell
 invariant-loop-cell g l =
-    HasWritten line_text (g.W.Sink.written l.initial.sink) (g.W.Sink.written l.sink) l.yielded (cells_left l.cell-iterator) (cells_left l.initial.cell-iterator)
+    HasWritten g.W.Sink.written g.W.Sink.has_failed line_text l.initial.sink l.sink l.yielded (cells_left l.cell-iterator) (cells_left l.initial.cell-iterator)

@@ -1,5 +1,4 @@
 use Rattle.std.proofs.Common.{Option, refl}
-use Rattle.std.proofs.lemmas.Result.{err_from_is_err_and}
 use Rattle.fact_store.specs.View.{cells_of}
 use Rattle.sm_manager.specs.declared.fault.ManagerFault.{ManagerFault}
 use Rattle.schedule_lines.specs.ManagerAsks.{plan_or_refusal}
@@ -18,8 +17,3 @@ returns-in-Err g c =
       prints = refusal_prints g.W.Sink.written g.W.Sink.has_failed c.in-Err.fault u _ c.refuse_manager.result _ _ refused
           c.refuse_manager.ensures.memory c.refuse_manager.ensures.prints c.refuse_manager.ensures.unprinted;
     }
-
-pub returns-in_err-write_plan-in-Ok : goal.returns-in_err-write_plan-in-Ok
-returns-in_err-write_plan-in-Ok g c =
-    let p = err_from_is_err_and c.from_residual.result c.from_residual.ensures.1 in
-    record { prints = rw (p.1, p.2) (c.in_err-write_plan-in-Ok.ensures.writes.failed.0 refl) }

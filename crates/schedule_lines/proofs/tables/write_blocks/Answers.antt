@@ -3,7 +3,8 @@ use Rattle.lft_blocks.specs.PlanText.{block_line}
 use Rattle.byte_io.specs.Writes.{Writes}
 use Rattle.schedule_lines.specs.Tables.{block_shown, blocks_to}
 use Rattle.schedule_lines.specs.Outcome.{Outcome, shows}
-use Rattle.schedule_lines.proofs.Printing.{IsUnderWay, goes_on, is_over, wrote}
+use Rattle.byte_io.proofs.Writing.{wrote}
+use Rattle.schedule_lines.proofs.Printing.{IsUnderWay, goes_on, is_over}
 use Rattle.schedule_lines.proofs.LinesFrom.{block_there, blocks_many, lines_from, lines_next, lines_none}
 use Rattle.schedule_lines.proofs.tables.write_blocks.Goals as goal
 

@@ -2,7 +2,8 @@ use Rattle.std.proofs.Common.{ℕ, Ok, subst}
 use Rattle.lft_blocks.specs.PlanText.{switch_line}
 use Rattle.byte_io.specs.Writes.{Writes}
 use Rattle.schedule_lines.specs.Tables.{blocks_text, table_text}
-use Rattle.schedule_lines.proofs.Printing.{prints_then, wrote}
+use Rattle.byte_io.proofs.Writing.{wrote}
+use Rattle.schedule_lines.proofs.Printing.{prints_then}
 use Rattle.schedule_lines.proofs.tables.write_table.Goals as goal
 
 pub returns : goal.returns

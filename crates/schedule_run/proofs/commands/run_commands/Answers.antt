@@ -8,10 +8,11 @@ use Rattle.schedule_file.specs.Resolve.{SeatCommand, is_seat}
 use Rattle.schedule_file.specs.declared.schedule.Seat.{Seat}
 use Rattle.schedule_run.specs.Commands.{after_command, after_commands, new_seated, world_of}
 use Rattle.schedule_run.specs.RunText.{script_text}
-use Rattle.schedule_lines.specs.Prints.{Prints}
+use Rattle.byte_io.specs.Prints.{Prints}
 use Rattle.schedule_lines.specs.Outcome.{Outcome}
 use Rattle.schedule_run.specs.World.{WorldValue, seated_value, value_of}
-use Rattle.schedule_lines.proofs.Printing.{IsUnderWay, begins, ends_unprinted, failed_with, goes_on, is_over, prints_both, prints_same, stops_in, wrote}
+use Rattle.byte_io.proofs.Writing.{prints_both, wrote}
+use Rattle.schedule_lines.proofs.Printing.{IsUnderWay, begins, ends_unprinted, failed_with, goes_on, is_over, prints_same, stops_in}
 use Rattle.schedule_run.proofs.Turns.{commands_next, commands_none}
 use Rattle.schedule_run.proofs.commands.run_commands.Goals as goal
 
@@ -100,11 +101,6 @@ pub returns-in_err-world-clause-prints : goal.returns-in_err-world-clause-prints
 returns-in_err-world-clause-prints g c =
     let p = err_from_is_err_and c.from_residual.result c.from_residual.ensures.1 in
     rw (p.1, p.2) (ends_unprinted g.W.Sink.written g.W.Sink.has_failed c.args.sink.now c.args.sink.now _ refl)
-
-pub returns-in_err-flush-clause-prints : goal.returns-in_err-flush-clause-prints
-returns-in_err-flush-clause-prints g c =
-    let p = err_from_is_err_and c.from_residual-in_err-flush.result c.from_residual-in_err-flush.ensures.1 in
-    rw (p.1, p.2) (c.in_err-flush.ensures.writes.failed.0 refl)
 
 pub of-requires-clause-deciders : goal.of-requires-clause-deciders
 of-requires-clause-deciders g c =

@@ -6,7 +6,7 @@ use Rattle.serve_run.specs.Acting.{Acting}
 use Rattle.serve_run.specs.Acting.{value_of as acting_value}
 use Rattle.serve_run.specs.Decided.{note_line}
 use Rattle.serve_run.proofs.Taken.{unready}
-use Rattle.schedule_lines.specs.Prints.{Prints}
+use Rattle.byte_io.specs.Prints.{Prints}
 use Rattle.schedule_lines.proofs.Printing.{ends_in, failed_with, prints_same, prints_then}
 use Rattle.schedule_run.specs.Deciders.{notes_text}
 use Rattle.schedule_run.specs.World.{after_inject_all}

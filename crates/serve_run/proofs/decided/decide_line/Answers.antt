@@ -1,9 +1,10 @@
-use Rattle.std.proofs.Common.{◌++◌, ◌∙◌, refl, ap, subst}
+use Rattle.std.proofs.Common.{◌++◌, ◌∙◌, ap, subst}
 use Rattle.std.proofs.lemmas.Result.{err_from_is_err_and}
 use Rattle.acting_manager.specs.Acting.{Acting, value_of}
 use Rattle.acting_manager.specs.Working.{given_away, wake_of}
-use Rattle.schedule_lines.specs.Prints.{Prints}
-use Rattle.schedule_lines.proofs.Printing.{ends_in, failed_with, prints_both, prints_same, prints_then, wrote}
+use Rattle.byte_io.specs.Prints.{Prints}
+use Rattle.byte_io.proofs.Writing.{prints_both, wrote}
+use Rattle.schedule_lines.proofs.Printing.{ends_in, failed_with, prints_same, prints_then}
 use Rattle.serve_run.specs.Decided.{after_manage, decided, given_out, wake_line}
 use Rattle.serve_run.specs.Served.{end_line}
 use Rattle.serve_run.proofs.Calls.{all_well, on_ok}
@@ -43,15 +44,6 @@ returns-in_err-give_out g c =
             (prints_then g.W.Sink.written g.W.Sink.has_failed (failed_with fault) c.args.sink.now c.do_line.new.sink c.give_out.new.sink o.text gives
             c.in_ok-do_line.ensures.does.prints given);
       });
-      flushed = rw p.1 tt;
-    }
-
-pub returns-in_err-write_wake : goal.returns-in_err-write_wake
-unfolding decided
-returns-in_err-write_wake g c =
-    let p = err_from_is_err_and c.from_residual-in_err-write_wake.result c.from_residual-in_err-write_wake.ensures.1 in
-    record {
-      decides = rw (p.1, p.2) (record { leaves = tt; prints = c.in_err-write_wake.ensures.writes.failed.0 refl });
       flushed = rw p.1 tt;
     }
 

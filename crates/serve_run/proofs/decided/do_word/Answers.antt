@@ -1,6 +1,7 @@
 use Rattle.std.proofs.Common.{refl}
 use Rattle.std.proofs.lemmas.Result.{err_from_is_err_and}
-use Rattle.schedule_lines.proofs.Printing.{ends_unprinted, prints_nothing}
+use Rattle.byte_io.proofs.Writing.{prints_nothing}
+use Rattle.schedule_lines.proofs.Printing.{ends_unprinted}
 use Rattle.serve_run.proofs.decided.do_word.Goals as goal
 
 pub returns-in_err-handle_packet-in-Packet : goal.returns-in_err-handle_packet-in-Packet

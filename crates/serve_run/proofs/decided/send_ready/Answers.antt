@@ -1,10 +1,10 @@
-use Rattle.std.proofs.Common.{◌∙◌, List, refl, ap, subst}
-use Rattle.std.proofs.lemmas.Result.{err_from_is_err_and}
+use Rattle.std.proofs.Common.{◌∙◌, List, ap, subst}
 use Rattle.std.specs.List.{flat_map}
 use Rattle.acting_manager.specs.Acting.{value_of}
 use Rattle.sm_manager.specs.declared.outgoing.Outgoing.{Outgoing}
 use Rattle.schedule_lines.specs.Outcome.{shows}
-use Rattle.schedule_lines.proofs.Printing.{IsUnderWay, goes_on, is_over, wrote}
+use Rattle.byte_io.proofs.Writing.{wrote}
+use Rattle.schedule_lines.proofs.Printing.{IsUnderWay, goes_on, is_over}
 use Rattle.serve_run.specs.Served.{send_line}
 use Rattle.serve_run.proofs.Taken.{fewer_taken, first_taken, none_ready, none_taken, unready}
 use Rattle.serve_run.proofs.Turns.{told}
@@ -31,11 +31,6 @@ loop-outgoing-smaller g c =
     let left = value_of c.take_packet.new.self in
     fewer_taken now.ready left.ready c.in-Some.outgoing
     (first_taken now.ready left.ready c.in-Some.outgoing c.in-Some.ensures.packet (ap (λ a. a.ready) c.in-Some.ensures.rest))
-
-pub returns-in_err-write_outgoing-clause-prints : goal.returns-in_err-write_outgoing-clause-prints
-returns-in_err-write_outgoing-clause-prints g c =
-    let p = err_from_is_err_and c.from_residual.result c.from_residual.ensures.1 in
-    rw (p.1, p.2) (c.in_err-write_outgoing.ensures.writes.failed.0 refl)
 
 pub returns-clause-acting : goal.returns-clause-acting
 returns-clause-acting g c =

@@ -4,7 +4,8 @@ use Rattle.byte_io.specs.Writes.{Writes}
 use Rattle.light_sweep.specs.LightSweep.{light_request}
 use Rattle.sweep.specs.declared.vertex.Vertex.{Vertex}
 use Rattle.schedule_lines.specs.Outcome.{Outcome, shows}
-use Rattle.schedule_lines.proofs.Printing.{IsUnderWay, goes_on, is_over, wrote}
+use Rattle.byte_io.proofs.Writing.{wrote}
+use Rattle.schedule_lines.proofs.Printing.{IsUnderWay, goes_on, is_over}
 use Rattle.schedule_lines.proofs.LinesFrom.{lines_from, lines_next, lines_none}
 use Rattle.serve_run.specs.Decided.{light_line}
 use Rattle.serve_run.proofs.Indices.{all_indices, index_there}

@@ -1,10 +1,10 @@
-use Rattle.std.proofs.Common.{◌∙◌, List, refl, ap, subst}
-use Rattle.std.proofs.lemmas.Result.{err_from_is_err_and}
+use Rattle.std.proofs.Common.{◌∙◌, List, ap, subst}
 use Rattle.std.specs.List.{flat_map}
 use Rattle.acting_manager.specs.Acting.{value_of}
 use Rattle.acting_manager.specs.declared.note.Note.{Note}
 use Rattle.schedule_lines.specs.Outcome.{shows}
-use Rattle.schedule_lines.proofs.Printing.{IsUnderWay, goes_on, is_over, wrote}
+use Rattle.byte_io.proofs.Writing.{wrote}
+use Rattle.schedule_lines.proofs.Printing.{IsUnderWay, goes_on, is_over}
 use Rattle.schedule_lines.specs.Lines.{name_of}
 use Rattle.serve_run.specs.Decided.{note_line}
 use Rattle.serve_run.proofs.Taken.{fewer_taken, first_taken, none_noted, none_taken, unnoted}
@@ -32,11 +32,6 @@ loop-note-smaller g c =
     let left = value_of c.take_note.new.self in
     fewer_taken now.notes left.notes c.in-Some.note
     (first_taken now.notes left.notes c.in-Some.note c.in-Some.ensures.note (ap (λ a. a.notes) c.in-Some.ensures.rest))
-
-pub returns-in_err-write_note-clause-prints : goal.returns-in_err-write_note-clause-prints
-returns-in_err-write_note-clause-prints g c =
-    let p = err_from_is_err_and c.from_residual.result c.from_residual.ensures.1 in
-    rw (p.1, p.2) (c.in_err-write_note.ensures.writes.failed.0 refl)
 
 pub returns-clause-acting : goal.returns-clause-acting
 returns-clause-acting g c =

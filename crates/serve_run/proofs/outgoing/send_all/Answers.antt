@@ -1,10 +1,10 @@
-use Rattle.std.proofs.Common.{List, refl, sym, ap, subst, ◌∙◌}
-use Rattle.std.proofs.lemmas.Result.{err_from_is_err_and}
+use Rattle.std.proofs.Common.{List, sym, ap, subst, ◌∙◌}
 use Rattle.std.specs.List.{flat_map}
 use Rattle.sm_manager.specs.declared.outgoing.Outgoing.{Outgoing}
 use Rattle.sm_manager.specs.Manager.{emptied}
 use Rattle.schedule_lines.specs.Outcome.{shows}
-use Rattle.schedule_lines.proofs.Printing.{IsUnderWay, goes_on, is_over, wrote}
+use Rattle.byte_io.proofs.Writing.{wrote}
+use Rattle.schedule_lines.proofs.Printing.{IsUnderWay, goes_on, is_over}
 use Rattle.sm_manager.proofs.Taking.{fewer_left, first_is, none_emptied, none_is, taken_emptied}
 use Rattle.serve_run.specs.Served.{send_line}
 use Rattle.serve_run.proofs.Turns.{told}
@@ -27,11 +27,6 @@ loop-outgoing-preserved g c =
 pub loop-outgoing-smaller : goal.loop-outgoing-smaller
 loop-outgoing-smaller g c =
     fewer_left c.loop-outgoing.manager c.take_outgoing.new.self c.in-Some.outgoing c.in-Some.ensures.packet c.in-Some.ensures.manager
-
-pub returns-in_err-write_outgoing-clause-prints : goal.returns-in_err-write_outgoing-clause-prints
-returns-in_err-write_outgoing-clause-prints g c =
-    let p = err_from_is_err_and c.from_residual.result c.from_residual.ensures.1 in
-    rw (p.1, p.2) (c.in_err-write_outgoing.ensures.writes.failed.0 refl)
 
 pub returns-clause-manager : goal.returns-clause-manager
 returns-clause-manager g c =

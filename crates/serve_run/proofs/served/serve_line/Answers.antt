@@ -2,7 +2,8 @@ use Rattle.std.proofs.Common.{◌++◌, ◌∙◌, ap}
 use Rattle.std.specs.List.{flat_map}
 use Rattle.std.proofs.lemmas.Result.{err_from_is_err_and}
 use Rattle.sm_manager.specs.Manager.{emptied}
-use Rattle.schedule_lines.proofs.Printing.{ends_in, failed_with, prints_both, prints_then}
+use Rattle.byte_io.proofs.Writing.{prints_both}
+use Rattle.schedule_lines.proofs.Printing.{ends_in, failed_with, prints_then}
 use Rattle.serve_run.specs.Served.{after_line, end_line, send_line, served}
 use Rattle.serve_run.proofs.Calls.{all_well, on_ok, sends_same}
 use Rattle.serve_run.proofs.served.serve_line.Goals as goal

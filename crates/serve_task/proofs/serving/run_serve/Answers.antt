@@ -1,7 +1,7 @@
 use Rattle.std.proofs.Common.{◌≡◌, ◌∙◌, ◌+◌, ℕ, ◌++◌, inl, inr, refl, ap, subst}
 use Rattle.std.specs.Io.KnownBytes.{Appends}
 use Rattle.lft_blocks.specs.Rule.{value_of}
-use Rattle.schedule_lines.specs.Prints.{PrintsSome}
+use Rattle.byte_io.specs.Prints.{PrintsSome}
 use Rattle.sm_cli.specs.Asked.{texts_for}
 use Rattle.sm_cli.proofs.HandedOn.{handed_on}
 use Rattle.sm_manager.specs.Manager.{new_manager}

@@ -2,11 +2,11 @@ use Rattle.std.proofs.Common.{◌≡◌, ◌∙◌, ℕ, List, [], true, false, 
 use Rattle.schedule_file.specs.Schedule.{NamesManagers}
 use Rattle.sm_manager.specs.Manager.{after_raise_floor}
 use Rattle.schedule_run.specs.Commands.{after_command, after_floor_line}
-use Rattle.schedule_lines.specs.Prints.{Prints}
+use Rattle.byte_io.specs.Prints.{Prints}
 use Rattle.schedule_run.specs.World.{value_of, with_manager}
 use Rattle.schedule_run.proofs.Deciding.{pause_quiet}
 use Rattle.schedule_run.proofs.Doing.{does_same, does_show}
-use Rattle.schedule_lines.proofs.Printing.{prints_nothing}
+use Rattle.byte_io.proofs.Writing.{prints_nothing}
 use Rattle.schedule_run.proofs.Seats.{quiet_at}
 use Rattle.schedule_run.proofs.world.World.execute.Goals as goal
 

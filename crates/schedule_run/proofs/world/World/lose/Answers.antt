@@ -1,7 +1,7 @@
 use Rattle.std.proofs.Common.{Ok, Err, sym, ◌∙◌}
 use Rattle.fabric_sim.specs.Changes.{after_lose}
 use Rattle.schedule_run.proofs.Doing.{calls_fabric}
-use Rattle.schedule_lines.proofs.Printing.{prints_nothing}
+use Rattle.byte_io.proofs.Writing.{prints_nothing}
 use Rattle.schedule_run.proofs.world.World.lose.Goals as goal
 
 pub returns-in-Ok : goal.returns-in-Ok

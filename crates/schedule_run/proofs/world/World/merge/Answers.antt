@@ -1,8 +1,8 @@
 use Rattle.std.proofs.Common.{ℕ, List, refl, subst, sym}
-use Rattle.schedule_lines.specs.Prints.{Prints}
+use Rattle.byte_io.specs.Prints.{Prints}
 use Rattle.schedule_run.specs.World.{value_of}
 use Rattle.schedule_run.proofs.Merging.{merge_quiet, merges, merges_itself, somebody}
-use Rattle.schedule_lines.proofs.Printing.{prints_nothing}
+use Rattle.byte_io.proofs.Writing.{prints_nothing}
 use Rattle.schedule_run.proofs.world.World.merge.Goals as goal
 
 pub returns-then-seat-other : goal.returns-then-seat-other

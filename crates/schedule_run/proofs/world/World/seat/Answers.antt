@@ -3,7 +3,7 @@ use Rattle.fabric_sim.specs.Changes.{after_seat}
 use Rattle.schedule_run.specs.Commands.{after_manager_line}
 use Rattle.schedule_run.specs.World.{after_fabric_call, value_of}
 use Rattle.schedule_run.proofs.Doing.{calls_fabric, does_same}
-use Rattle.schedule_lines.proofs.Printing.{prints_nothing}
+use Rattle.byte_io.proofs.Writing.{prints_nothing}
 use Rattle.schedule_run.proofs.Seats.{at_seat_is}
 use Rattle.schedule_run.proofs.world.World.seat.Goals as goal
 

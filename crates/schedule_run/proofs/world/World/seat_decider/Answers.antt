@@ -1,7 +1,7 @@
 use Rattle.std.proofs.Common.{◌∙◌, Ok, Err, arith, refl, sym}
 use Rattle.schedule_run.proofs.Deciding.{nobody_does, seats_does}
 use Rattle.schedule_run.specs.Deciders.{after_decider_line}
-use Rattle.schedule_lines.proofs.Printing.{prints_nothing}
+use Rattle.byte_io.proofs.Writing.{prints_nothing}
 use Rattle.schedule_run.proofs.world.World.seat_decider.Goals as goal
 
 pub returns-then-index-len : goal.returns-then-index-len

@@ -1,9 +1,10 @@
 use Rattle.std.proofs.Common.{◌∙◌, ℕ, List, [], Some, arith, ap, subst, sym}
 use Rattle.std.specs.Option.{option_map_or}
 use Rattle.schedule_lines.specs.ManagerAsks.{text_of}
-use Rattle.schedule_lines.specs.Prints.{Prints}
+use Rattle.byte_io.specs.Prints.{Prints}
 use Rattle.schedule_run.specs.Deciders.{decider_shown, decider_shown_at}
-use Rattle.schedule_lines.proofs.Printing.{prints_nothing, prints_same}
+use Rattle.byte_io.proofs.Writing.{prints_nothing}
+use Rattle.schedule_lines.proofs.Printing.{prints_same}
 use Rattle.schedule_run.proofs.Deciding.{decides_at, nobody_shown}
 use Rattle.schedule_run.proofs.world.World.show_decider.Goals as goal
 

@@ -6,7 +6,8 @@ use Rattle.schedule_run.specs.Commands.{flight_shown}
 use Rattle.schedule_lines.specs.Lines.{flight_line}
 use Rattle.schedule_lines.specs.Outcome.{Outcome, shows}
 use Rattle.schedule_lines.proofs.Present.{is_present}
-use Rattle.schedule_lines.proofs.Printing.{IsUnderWay, goes_on, is_over, wrote}
+use Rattle.byte_io.proofs.Writing.{wrote}
+use Rattle.schedule_lines.proofs.Printing.{IsUnderWay, goes_on, is_over}
 use Rattle.schedule_lines.proofs.LinesFrom.{lines_from, lines_next, lines_none}
 use Rattle.schedule_run.proofs.world.World.show_flight.Goals as goal
 

@@ -1,6 +1,6 @@
 use Rattle.std.proofs.Common.{◌∙◌, List, [], ℕ, ap, sym, subst}
 use Rattle.std.proofs.lemmas.Result.{err_from_is_err_and}
-use Rattle.schedule_lines.proofs.Printing.{wrote}
+use Rattle.byte_io.proofs.Writing.{wrote}
 use Rattle.serve_run.specs.Seat.{seat_of}
 use Rattle.serve_run.specs.Server.{value_of}
 use Rattle.serve_run.proofs.Going.{Going, goes_first, goes_more, has_served, not_failed, piece_ends, piece_goes, piece_stops, reads_spent}
