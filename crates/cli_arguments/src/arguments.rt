@@ -8,8 +8,8 @@ ghost use Rattle.cli_arguments.specs.CommandLine.{outstanding_rule, poll_rule, p
 ghost use Rattle.cli_arguments.specs.CommandLine.{routing_rule, strict_rule, text_rule, timeout_rule, tries_rule};
 
 use crate::argument_names::{
-    ALL, EVERY, FILE, FLOOR, HELD, LANES, LAST_ORDER, LMC, LOADS, MAX_LOAD, MULTICAST, NEWEST, ORDER,
-    OUTSTANDING, POLL, PORT, PRIORITY, ROOTS, ROUTING, SM_KEY, STRICT, TIMEOUT, TRIES, WAY,
+    ALL, EVERY, FILE, FLOOR, HELD, LANES, LAST_ORDER, LMC, LOADS, MAX_LOAD, MULTICAST, NEWEST,
+    ORDER, OUTSTANDING, POLL, PORT, PRIORITY, ROOTS, ROUTING, SM_KEY, STRICT, TIMEOUT, TRIES, WAY,
 };
 use clap::{Arg, ArgAction, value_parser};
 use std::alloc::Global;

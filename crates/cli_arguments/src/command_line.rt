@@ -15,8 +15,9 @@ use crate::argument_names::{
     TABLES, TOPOLOGY, UPDOWN,
 };
 use crate::arguments::{
-    all, every, files, floor, held, lanes, last_order, lmc, loads, max_load, multicast, newest, order_file,
-    outstanding, poll, port, priority, roots, routing, sm_key, strict, text, timeout, tries, way,
+    all, every, files, floor, held, lanes, last_order, lmc, loads, max_load, multicast, newest,
+    order_file, outstanding, poll, port, priority, roots, routing, sm_key, strict, text, timeout,
+    tries, way,
 };
 use crate::conflicts::{conflict, has_conflict};
 use clap::{ArgMatches, Command, Error};

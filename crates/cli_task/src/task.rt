@@ -16,8 +16,8 @@ use arrayvec::ArrayVec;
 use attr_codec::Lmc;
 use clap::ArgMatches;
 use cli_arguments::argument_names::{
-    ALL, AUDIT, FACTS, FILE, GUID, HELD, JOIN, LANES, LAST_ORDER, LOADS, MANAGE, MULTICAST, NEXT, ORDER, PLAN,
-    ROOTS, RUN, SCHEDULE, SERVE, TABLES, TOPOLOGY,
+    ALL, AUDIT, FACTS, FILE, GUID, HELD, JOIN, LANES, LAST_ORDER, LOADS, MANAGE, MULTICAST, NEXT,
+    ORDER, PLAN, ROOTS, RUN, SCHEDULE, SERVE, TABLES, TOPOLOGY,
 };
 use cli_arguments::is_set;
 use sm_cli::{AuditAsked, Invocation, Output, RuleAsked, Serving, StepAsked};

@@ -3,7 +3,7 @@ use Rattle.std.proofs.Common.{◌≡◌, ◌≢◌, ◌⊎◌, inl, inr, ℕ, �
 use Rattle.std.proofs.lemmas.Bool.{cond_both, eqb-true, eqb-false, cases_lt}
 use Rattle.std.proofs.lemmas.Option.{same_Some}
 use Rattle.std.specs.Prelude.{Contains, Some, slice_index, ◌==◌}
-use Rattle.smp_bytes.specs.Header.{get, set, done, port_info, switch_info, linear_forwarding_table}
+use Rattle.smp_bytes.specs.Header.{get, set, done, port_info, switch_info, linear_forwarding_table, multicast_forwarding_table}
 use Rattle.smp_bytes.specs.Field.{number_in, bytes_in}
 use Rattle.smp_bytes.specs.Packet.{method, attribute_id, attribute_modifier, attribute_data, status}
 use Rattle.attr_codec.specs.PortInfo.{range_in}
@@ -14,7 +14,7 @@ use Rattle.node_agents.specs.PortInfo.{port_meant, has_lid, SetsPort}
 use Rattle.node_agents.specs.Answers.{Met, after_answer}
 use Rattle.node_agents.specs.AnswerLaws.{IsPacket, IsTaken}
 use Rattle.node_agents.specs.LftBlock.{SetsBlock}
-use Rattle.node_agents.specs.MftBlock.{SetsMasks, multicast_forwarding_table, position_in}
+use Rattle.node_agents.specs.MftBlock.{SetsMasks, position_in}
 use Rattle.node_agents.specs.SwitchInfo.{SetsTop}
 use Rattle.node_agents.proofs.Outcomes.{what_is_set}
 use Rattle.node_agents.proofs.Sets.{blocks_are_set, masks_are_set, tops_are_set, ports_are_set}
@@ -119,7 +119,6 @@ module _ (a : Agent) (packet : List ℕ) (arrival : ℕ) (is : IsAgent a) (whole
             block = λ _ i less. ap (λ m. entry_at (after_answer a packet arrival).agent (64 * m + i)) (sym asks.modifier) ∙ sb.inside i less
                 ∙ ap (λ d. slice_index d i) asks.payload;
           }
-
       own_by (inr (inr (inr (e, sm)))) =
           let is_masks : s.attribute ≡ multicast_forwarding_table = sym asks.attribute ∙ e in
           record {
@@ -178,7 +177,6 @@ module _ (a : Agent) (packet : List ℕ) (arrival : ℕ) (is : IsAgent a) (whole
             where
               apart : (m n i : ℕ) → i < 64 → m ≢ n → (64 * n + i < 64 * m) ⊎ (64 * m + 64 ≤ 64 * n + i)
               apart m n i less other = elim (cases_lt n m) [ inl lt ↦ inl (omega (arith, lt, less)) | inr ge ↦ inr (omega (arith, ge, less, other)) ]
-
       kept_by (inr (inr (inr (e, sm)))) =
           subst (λ (x : Agent). Holds x s) (sym sm.all_else) (record { lids = held.lids; top = held.top; block = held.block })
 

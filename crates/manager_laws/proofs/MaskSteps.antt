@@ -9,8 +9,9 @@ use Rattle.subnet_view.specs.Reading.{Cells, port_count_of}
 use Rattle.subnet_view.proofs.Members.{contains_none}
 use Rattle.subnet_view.proofs.Taken.{taken_from}
 use Rattle.sweep.specs.Sweep.{Sweep, path_to, switch_image}
+use Rattle.smp_bytes.specs.Header.{multicast_forwarding_table}
 use Rattle.plan_steps.specs.declared.step.Step.{Step}
-use Rattle.plan_steps.specs.MaskSteps.{has_table, mask_of, mask_step, masks_data, multicast_forwarding_table, position_count, switch_mask_steps}
+use Rattle.plan_steps.specs.MaskSteps.{has_table, mask_of, mask_step, masks_data, position_count, switch_mask_steps}
 use Rattle.plan_steps.specs.Tree.{TreePorts}
 use Rattle.manager_laws.proofs.WritingLists.{from_flat_map}
 

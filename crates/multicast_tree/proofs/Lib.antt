@@ -10,3 +10,4 @@ pub mod InWords
 pub mod TreePorts
 pub mod ChannelTurns
 pub mod Masks
+pub mod Switches

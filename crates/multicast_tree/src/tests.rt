@@ -6,7 +6,7 @@ use smp_bytes::{Generation, Guid, NodeType, PortNum};
 use spread_routes::SwitchOrder;
 use std::alloc::{AllocError, Global};
 use std::test::Fail;
-use subnet_view::{Refused, SwitchGraph, Wires};
+use subnet_view::{Refused, SwitchGraph, WiredGraph, Wires};
 
 /// The nodes: the GUID, whether it is a switch, and the number of ports.
 const NODES: [(u64, bool, u8); 6] = [
@@ -74,7 +74,11 @@ fn tree(alloc: Global, rule: &Rule) -> Result<Vec<SwitchPorts>, Refused> {
     let store = facts(alloc)?;
     let wires = Wires::of(alloc, &store)?;
     let graph = SwitchGraph::of(alloc, &wires)?;
-    Ok(plan_tree(alloc, &wires, &graph, rule)?)
+    let wired = WiredGraph {
+        wires: &wires,
+        graph: &graph,
+    };
+    Ok(plan_tree(alloc, &wired, rule)?)
 }
 
 /// Returns the rule that spreads by the order that begins with the switch 0x30 and then the switch 0x20.

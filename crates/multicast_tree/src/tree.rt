@@ -2,7 +2,6 @@
 ghost use Rattle.std.specs.Prelude.{◌≡◌, IfOk, length};
 ghost use Rattle.std.specs.List.Sorted.{IsStrictlyIncreasing};
 ghost use Rattle.fact_store.specs.View.{cells_of};
-ghost use Rattle.subnet_view.specs.Graph.{graph_of};
 ghost use Rattle.subnet_view.specs.Reading.{switches};
 ghost use Rattle.lft_blocks.specs.Rule.{value_of};
 ghost use Rattle.multicast_tree.specs.Tree.{is_below, is_given, is_tree_port, parent_in, tree_by};
@@ -14,7 +13,7 @@ use plan_order::plan_positions;
 use smp_bytes::{Guid, PortNum};
 use std::alloc::{AllocError, Global};
 use std::marker::Model;
-use subnet_view::{SwitchGraph, Wires, is_usable, port_count};
+use subnet_view::{WiredGraph, Wires, is_usable, port_count};
 
 /// The ports of a switch that are in the tree, in ascending order.
 #[derive(Drop)]
@@ -48,37 +47,32 @@ impl SwitchPorts {
 }
 
 /// Returns the ports in the tree of each usable switch, in ascending order of GUID, for the order that `rule` plans by.
-/// `graph` must be the graph of `wires`. Finds the order as `plan_positions` does, and the ports as `tree_in` does.
-/// Returns an error if memory runs out.
+/// Finds the order as `plan_positions` does, and the ports as `tree_in` does. Returns an error if memory runs out.
 pub fn plan_tree(
     alloc: Global,
-    wires: &Wires,
-    graph: &SwitchGraph,
+    wired: &WiredGraph,
     rule: &Rule,
 ) -> Result<Vec<SwitchPorts>, AllocError>
-    requires { graph.now ≡ graph_of (cells_of wires.now) }
-    ensures { IfOk result (λ tree. tree.items ≡ tree_of (value_of rule.now) (cells_of wires.now)) }
+    ensures { IfOk result (λ tree. tree.items ≡ tree_of (value_of rule.now) (cells_of wired.now.wires.now)) }
 {
-    let positions = plan_positions(alloc, wires, graph, rule)?;
-    tree_in(alloc, wires, graph, &positions)
+    let positions = plan_positions(alloc, wired, rule)?;
+    tree_in(alloc, wired, &positions)
 }
 
 /// Returns the ports in the tree of each usable switch, in ascending order of GUID, for the order in which the switches
-/// have `positions`, which are in ascending order of GUID too. `graph` must be the graph of `wires`. Walks the edges
-/// once. For each port of a switch, does at most two binary searches among the ports that can have a wire, one among
-/// the cells, and two among the switches. Returns an error if memory runs out.
+/// have `positions`, which are in ascending order of GUID too. Walks the edges once. For each port of a switch, does at
+/// most two binary searches among the ports that can have a wire, one among the cells, and two among the switches.
+/// Returns an error if memory runs out.
 pub fn tree_in(
     alloc: Global,
-    wires: &Wires,
-    graph: &SwitchGraph,
+    wired: &WiredGraph,
     positions: &[usize],
 ) -> Result<Vec<SwitchPorts>, AllocError>
-    requires graph { graph.now ≡ graph_of (cells_of wires.now) }
-    requires all { length positions.now ≡ length graph.now }
-    ensures { IfOk result (λ tree. tree.items ≡ tree_in (cells_of wires.now) positions.now) }
+    requires { length positions.now ≡ length wired.now.graph.now }
+    ensures { IfOk result (λ tree. tree.items ≡ tree_in (cells_of wired.now.wires.now) positions.now) }
 {
-    let parents = parent_ports(alloc, graph, positions)?;
-    tree_by(alloc, wires, graph.switches(), &parents)
+    let parents = parent_ports(alloc, wired.graph, positions)?;
+    tree_by(alloc, wired.wires, wired.switches(), &parents)
 }
 
 /// Returns the ports in the tree of each switch of `guids`, given the port of each to its parent. `guids` must be the

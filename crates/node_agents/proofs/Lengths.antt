@@ -3,7 +3,7 @@ use Rattle.std.proofs.Common.{◌≡◌, ℕ, ◌*◌, ◌<◌, Bool, true, fals
 use Rattle.std.specs.Prelude.{Option, Some, None, Result, Ok, Err, option_map, if◌then◌else◌, ◌==◌, ◌&&◌}
 use Rattle.std.specs.Option.{ok_or}
 use Rattle.std.proofs.lemmas.List.{length-drop, length-take-le}
-use Rattle.smp_bytes.specs.Header.{node_description, node_info, switch_info, port_info, linear_forwarding_table}
+use Rattle.smp_bytes.specs.Header.{node_description, node_info, switch_info, port_info, linear_forwarding_table, multicast_forwarding_table}
 use Rattle.smp_bytes.specs.Field.{Bits, Entry, number_in, with_bits, replaced}
 use Rattle.smp_bytes.specs.Packet.{attribute_id, attribute_modifier}
 use Rattle.smp_bytes.specs.Requests.{flag}
@@ -21,7 +21,7 @@ use Rattle.node_agents.specs.NodeInfo.{node_info_of, get_node_info}
 use Rattle.node_agents.specs.SwitchInfo.{get_switch_info}
 use Rattle.node_agents.specs.PortInfo.{port_info_of, port_meant}
 use Rattle.node_agents.specs.LftBlock.{has_block}
-use Rattle.node_agents.specs.MftBlock.{has_masks, multicast_cap, multicast_forwarding_table, position_in}
+use Rattle.node_agents.specs.MftBlock.{has_masks, multicast_cap, position_in}
 use Rattle.node_agents.specs.Answers.{get_of}
 use Rattle.node_agents.proofs.Shapes.{block_within, masks_within}
 

@@ -4,7 +4,7 @@ use Rattle.std.specs.Prelude.{Option, Some, Result, Ok, Err, if◌then◌else◌
 use Rattle.std.specs.Option.{ok_or}
 use Rattle.std.proofs.lemmas.Bool.{and_parts, eqb-true}
 use Rattle.std.proofs.lemmas.List.{length-drop, length-take-le}
-use Rattle.smp_bytes.specs.Header.{get, set, switch_info, port_info, linear_forwarding_table}
+use Rattle.smp_bytes.specs.Header.{get, set, switch_info, port_info, linear_forwarding_table, multicast_forwarding_table}
 use Rattle.smp_bytes.specs.Field.{number_in, bytes_in}
 use Rattle.smp_bytes.specs.Packet.{method, attribute_id, attribute_modifier, attribute_data}
 use Rattle.smp_bytes.proofs.Answered.{answer_reads_back}
@@ -14,7 +14,7 @@ use Rattle.node_agents.specs.Agent.{Agent, IsAgent, is_switch}
 use Rattle.node_agents.specs.SwitchInfo.{get_switch_info, set_switch_info}
 use Rattle.node_agents.specs.PortInfo.{get_port_info, set_port_info}
 use Rattle.node_agents.specs.LftBlock.{get_block, set_block}
-use Rattle.node_agents.specs.MftBlock.{get_masks, multicast_forwarding_table, set_masks}
+use Rattle.node_agents.specs.MftBlock.{get_masks, set_masks}
 use Rattle.node_agents.specs.Answers.{get_attribute, get_of, set_of, Met, met_set, after_request, status_told, payload_told, after_answer}
 use Rattle.node_agents.specs.AnswerLaws.{AnswersHold}
 use Rattle.node_agents.proofs.Shapes.{from_ok, keeps-set_of}

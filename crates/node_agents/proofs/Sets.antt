@@ -5,7 +5,7 @@ use Rattle.std.proofs.lemmas.Bool.{or_cases, eqb-true, ltb-true, leb-true, cases
 use Rattle.std.proofs.lemmas.Grind.{get_or_default_zero}
 use Rattle.std.proofs.lemmas.Nat.{pow_pos}
 use Rattle.std.proofs.lemmas.List.{get_or-replicate, get_or_past, get_or-set_same, get_or-set_other, length-drop, length-take-le}
-use Rattle.smp_bytes.specs.Header.{switch_info, port_info, linear_forwarding_table}
+use Rattle.smp_bytes.specs.Header.{switch_info, port_info, linear_forwarding_table, multicast_forwarding_table}
 use Rattle.smp_bytes.specs.Field.{number_in, bytes_in, bits_in, with_bytes}
 use Rattle.smp_bytes.specs.LidRange.{lid_end}
 use Rattle.smp_bytes.specs.Packet.{attribute_id, attribute_modifier, attribute_data}
@@ -24,7 +24,7 @@ use Rattle.node_agents.specs.SwitchInfo.{get_switch_info, SetsTop}
 use Rattle.node_agents.specs.PortInfo.{has_lid, max_lmc, is_next_state, state_after, port_with, are_lids_taken}
 use Rattle.node_agents.specs.PortInfo.{port_after, port_meant, port_info_of, SetsPort}
 use Rattle.node_agents.specs.LftBlock.{has_block, SetsBlock}
-use Rattle.node_agents.specs.MftBlock.{has_masks, multicast_forwarding_table, position_in, SetsMasks}
+use Rattle.node_agents.specs.MftBlock.{has_masks, position_in, SetsMasks}
 use Rattle.node_agents.specs.declared.refusal.Refusal.{Refusal}
 use Rattle.node_agents.specs.Answers.{get_of, after_answer}
 use Rattle.node_agents.specs.AnswerLaws.{BlocksAreSet, MasksAreSet, TopsAreSet, PortsAreSet}

@@ -5,7 +5,7 @@ use Rattle.std.specs.Option.{ok_or}
 use Rattle.std.proofs.lemmas.Bool.{and_parts, ltb-true, cases_lt}
 use Rattle.std.proofs.lemmas.List.{get_or_past, length-set, length-take}
 use Rattle.std.proofs.lemmas.List.Elements.{All-set, All-get_or}
-use Rattle.smp_bytes.specs.Header.{get, set, switch_info, port_info, linear_forwarding_table}
+use Rattle.smp_bytes.specs.Header.{get, set, switch_info, port_info, linear_forwarding_table, multicast_forwarding_table}
 use Rattle.smp_bytes.specs.Field.{number_in, bytes_in, with_bytes}
 use Rattle.smp_bytes.specs.Packet.{method, attribute_id, attribute_modifier, attribute_data}
 use Rattle.smp_bytes.proofs.FieldLaws.{length-with_bytes}
@@ -18,7 +18,7 @@ use Rattle.node_agents.specs.declared.refusal.Refusal.TheVariants.{MethodAndAttr
 use Rattle.node_agents.specs.Agent.{Agent, IsAgent, IsPort, is_switch, port_in, port_at, with_port, block_count, position_count}
 use Rattle.node_agents.specs.SwitchInfo.{set_switch_info}
 use Rattle.node_agents.specs.LftBlock.{has_block, set_block}
-use Rattle.node_agents.specs.MftBlock.{has_masks, multicast_forwarding_table, position_in, set_masks}
+use Rattle.node_agents.specs.MftBlock.{has_masks, position_in, set_masks}
 use Rattle.node_agents.specs.PortInfo.{changed_port, set_port_info}
 use Rattle.node_agents.specs.Answers.{set_of, after_request, Met, met_set, after_answer}
 use Rattle.node_agents.specs.AnswerLaws.{KeepsShape, AnsweredKeepsShape, AnsweredIsAgent}

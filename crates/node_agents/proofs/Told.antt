@@ -2,7 +2,7 @@
 use Rattle.std.proofs.Common.{◌≡◌, ◌≢◌, ℕ, ◌*◌, Bool, true, false, List, inl, inr, refl, sym, ap, ◌∙◌, subst, arith, take, drop}
 use Rattle.std.specs.Prelude.{Option, Some, None, Result, Ok, Err, option_map, option_and_then, if◌then◌else◌, ◌==◌}
 use Rattle.std.specs.Option.{ok_or}
-use Rattle.smp_bytes.specs.Header.{get, set, done, switch_info, port_info, linear_forwarding_table}
+use Rattle.smp_bytes.specs.Header.{get, set, done, switch_info, port_info, linear_forwarding_table, multicast_forwarding_table}
 use Rattle.smp_bytes.specs.Field.{number_in, bytes_in, with_bytes}
 use Rattle.smp_bytes.specs.Packet.{method, attribute_id, attribute_modifier, attribute_data}
 use Rattle.attr_codec.specs.SwitchInfo.{linear_fdb_top}
@@ -13,7 +13,7 @@ use Rattle.node_agents.specs.Agent.{Agent, IsAgent, is_switch, port_at, with_por
 use Rattle.node_agents.specs.SwitchInfo.{get_switch_info, set_switch_info}
 use Rattle.node_agents.specs.PortInfo.{has_lid, max_lmc, port_meant, port_info_of, port_after, changed_port, set_port_info}
 use Rattle.node_agents.specs.LftBlock.{has_block, set_block}
-use Rattle.node_agents.specs.MftBlock.{has_masks, multicast_forwarding_table, position_in, set_masks}
+use Rattle.node_agents.specs.MftBlock.{has_masks, position_in, set_masks}
 use Rattle.node_agents.specs.Answers.{get_attribute, get_of, set_of, Met, met_set, after_request, status_told, payload_told, after_answer}
 use Rattle.node_agents.specs.AnswerLaws.{GetsChangeNothing, RefusalsChangeNothing, IsTaken, IsAboutTheSame, GetsTellAsSets}
 use Rattle.node_agents.proofs.Shapes.{answered_is_agent}

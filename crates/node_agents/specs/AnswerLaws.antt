@@ -1,8 +1,7 @@
 -- What an answer is, what it leaves unchanged in the agent, and what an accepted Set does.
 use Rattle.std.specs.Prelude.{◌≡◌, ◌≢◌, ◌↔◌, ℕ, ◌≤◌, Bool, true, false, List, length, None, Some}
-use Rattle.smp_bytes.specs.Header.{get, set, done, node_info, switch_info, port_info}
+use Rattle.smp_bytes.specs.Header.{get, set, done, node_info, switch_info, port_info, multicast_forwarding_table}
 use Rattle.smp_bytes.specs.Header.{linear_forwarding_table}
-use Rattle.node_agents.specs.MftBlock.{multicast_forwarding_table}
 use Rattle.smp_bytes.specs.Field.{number_in, bytes_in, bits_in}
 use Rattle.smp_bytes.specs.Packet.{method, attribute_id, attribute_modifier, attribute_data, status, fault_of}
 use Rattle.smp_bytes.specs.ReadBack.{HoldsAnswer}

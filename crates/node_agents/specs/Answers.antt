@@ -2,9 +2,8 @@
 -- Architecture Specification, Volume 1: subnet management class, methods and attributes.
 use Rattle.std.specs.Prelude.{◌≡◌, ℕ, ◌&&◌, ◌==◌, List, if◌then◌else◌, Result, Ok, Err}
 use Rattle.std.specs.Option.{ok_or}
-use Rattle.smp_bytes.specs.Header.{get, set, node_description, node_info, switch_info, port_info, done}
+use Rattle.smp_bytes.specs.Header.{get, set, node_description, node_info, switch_info, port_info, done, multicast_forwarding_table}
 use Rattle.smp_bytes.specs.Header.{linear_forwarding_table}
-use Rattle.node_agents.specs.MftBlock.{multicast_forwarding_table}
 use Rattle.smp_bytes.specs.Field.{number_in, bytes_in}
 use Rattle.smp_bytes.specs.Packet.{method, attribute_id, attribute_modifier, attribute_data}
 use Rattle.smp_bytes.specs.Requests.{answer_packet}

@@ -6,10 +6,6 @@ use Rattle.std.specs.Prelude.{◌≡◌, ◌⊎◌, ◌+◌, ◌<◌, ◌≤◌,
 use Rattle.smp_bytes.specs.Field.{with_bytes}
 use Rattle.node_agents.specs.Agent.{Agent, position_count}
 
--- the attribute MulticastForwardingTable
-abbrev pub multicast_forwarding_table : ℕ
-multicast_forwarding_table = 0x001B
-
 -- the number of multicast LIDs that a switch has masks for (MulticastFDBCap)
 abbrev pub multicast_cap : ℕ
 multicast_cap = 32

@@ -43,7 +43,7 @@ fn get(agent: &Agent, smp: &Smp, arrival: PortNum) -> Result<[u8; 64], Refusal>
         Ok(switch_info::get(agent))
     } else if agent.is_switch() && attribute == AttributeId::LINEAR_FORWARDING_TABLE {
         lft_block::get(agent, modifier).ok_or(Refusal::InvalidField)
-    } else if agent.is_switch() && attribute == mft_block::MULTICAST_FORWARDING_TABLE {
+    } else if agent.is_switch() && attribute == AttributeId::MULTICAST_FORWARDING_TABLE {
         mft_block::get(agent, modifier).ok_or(Refusal::InvalidField)
     } else {
         Err(Refusal::MethodAndAttribute)
@@ -65,7 +65,7 @@ fn set(agent: &mut Agent, smp: &Smp, arrival: PortNum) -> Result<(), Refusal>
         valid_if(switch_info::set(agent, &payload))
     } else if agent.is_switch() && attribute == AttributeId::LINEAR_FORWARDING_TABLE {
         valid_if(lft_block::set(agent, modifier, &payload))
-    } else if agent.is_switch() && attribute == mft_block::MULTICAST_FORWARDING_TABLE {
+    } else if agent.is_switch() && attribute == AttributeId::MULTICAST_FORWARDING_TABLE {
         valid_if(mft_block::set(agent, modifier, &payload))
     } else {
         Err(Refusal::MethodAndAttribute)

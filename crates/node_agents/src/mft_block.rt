@@ -6,10 +6,7 @@ ghost use Rattle.node_agents.specs.MftBlock.{get_masks, has_masks, position_in, 
 
 use crate::agent::Agent;
 use crate::agent_node::AgentNode;
-use smp_bytes::AttributeId;
 use smp_bytes::wire::put_bytes;
-
-pub(crate) const MULTICAST_FORWARDING_TABLE: AttributeId = AttributeId(0x001B);
 
 /// The number of multicast LIDs that a switch has masks for, from 0xC000 on.
 pub(crate) const MULTICAST_CAP: u16 = 32;

@@ -7,5 +7,5 @@ mod rank_positions;
 mod switches;
 
 pub use ordered_plan::{plan_in_order, subnet_to_plan};
-pub use positions::positions_named;
+pub use positions::{plan_positions, positions_named};
 pub use switches::plan_switches;

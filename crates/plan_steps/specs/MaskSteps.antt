@@ -4,16 +4,13 @@ use Rattle.std.specs.Prelude.{ℕ, ◌+◌, ◌*◌, ◌/◌, ◌%◌, ◌^◌, 
 use Rattle.std.specs.List.{filter_map, flat_map, range_with_len}
 use Rattle.std.specs.Option.{option_map_or}
 use Rattle.smp_bytes.specs.Field.{Field, number_in, with_number}
+use Rattle.smp_bytes.specs.Header.{multicast_forwarding_table}
 use Rattle.attr_codec.specs.SwitchInfo.{multicast_fdb_cap}
 use Rattle.subnet_view.specs.Reading.{Cells, port_count_of}
 use Rattle.sweep.specs.Sweep.{Sweep, switch_image}
 use Rattle.multicast_tree.specs.Tree.{TreePorts}
 use Rattle.plan_steps.specs.declared.step.Step.{Step}
 use Rattle.plan_steps.specs.Step.{step_at}
-
--- the attribute MulticastForwardingTable
-abbrev pub multicast_forwarding_table : ℕ
-multicast_forwarding_table = 0x001B
 
 -- the mask of the first multicast LID, 0xC000, in a block of a multicast forwarding table
 abbrev pub first_mask : Field

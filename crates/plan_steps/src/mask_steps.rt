@@ -14,8 +14,6 @@ use std::alloc::{AllocError, Global};
 use subnet_view::port_count;
 use sweep::Sweep;
 
-const MULTICAST_FORWARDING_TABLE: AttributeId = AttributeId(0x001B);
-
 /// Builds the steps that set the masks of `tree` at its switches, as far as the sweep reached them.
 pub(crate) fn tree_steps(
     alloc: Global,
@@ -98,7 +96,7 @@ fn mask_step(sweep: &Sweep, guid: Guid, ports: &[PortNum], position: usize) -> O
         sweep,
         guid,
         PortNum::MANAGEMENT,
-        MULTICAST_FORWARDING_TABLE,
+        AttributeId::MULTICAST_FORWARDING_TABLE,
         0x1000_0000 * position as u32,
         masks_data(mask_of(ports, position)),
     )

@@ -9,7 +9,7 @@ use fact_store::Store;
 use lft_blocks::{Planning, Rule};
 use multicast_tree::{SwitchPorts, plan_tree};
 use std::alloc::{AllocError, Global};
-use subnet_view::{SwitchGraph, Wires};
+use subnet_view::{SwitchGraph, WiredGraph, Wires};
 
 /// Returns the ports in the multicast tree of each usable switch of the view in `store`, in ascending order of GUID, for
 /// the order of the planning's rule. Returns none if the planning writes no tree. Returns an error if memory runs out.
@@ -37,5 +37,9 @@ fn tree_by(alloc: Global, store: &Store, rule: &Rule) -> Result<Vec<SwitchPorts>
     let Ok(graph) = SwitchGraph::of(alloc, &wires) else {
         return Err(AllocError);
     };
-    plan_tree(alloc, &wires, &graph, rule)
+    let wired = WiredGraph {
+        wires: &wires,
+        graph: &graph,
+    };
+    plan_tree(alloc, &wired, rule)
 }

@@ -15,7 +15,9 @@ use crate::port_reply::port_reply;
 use crate::reply::{Reply, SaRefusal};
 use crate::told::Told;
 use attr_codec::{Attribute, NodeInfo};
-use sa_bytes::{MemberRecord, PathRecord, SaAttributeId, SaMethod, SaRequest, SaStatus, sa_class_port_info};
+use sa_bytes::{
+    MemberRecord, PathRecord, SaAttributeId, SaMethod, SaRequest, SaStatus, sa_class_port_info,
+};
 
 /// Returns the answer to `request` by what is told. Get of ClassPortInfo, PathRecord, NodeRecord, PortInfoRecord and
 /// MCMemberRecord is supported, and Set and Delete of MCMemberRecord. A path is told if packets arrive on it there and back, and if it is as the request asks; a node or a

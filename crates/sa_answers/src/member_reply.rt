@@ -55,10 +55,7 @@ pub(crate) fn member_reply(told: &Told<'_>, mask: u64, asked: &MemberRecord) -> 
     ensures { result ≡ member_reply (value_of told.now) mask asked.now }
 {
     if told.multicast {
-        reply_with(
-            join_fault(told, mask, asked),
-            member_of(mask, asked),
-        )
+        reply_with(join_fault(told, mask, asked), member_of(mask, asked))
     } else {
         Reply::Refused(SaRefusal::NotSupported)
     }

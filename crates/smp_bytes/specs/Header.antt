@@ -67,6 +67,10 @@ port_info = 0x0015
 abbrev pub linear_forwarding_table : ℕ
 linear_forwarding_table = 0x0019
 
+-- the attribute MulticastForwardingTable
+abbrev pub multicast_forwarding_table : ℕ
+multicast_forwarding_table = 0x001B
+
 -- the attribute SMInfo
 abbrev pub sm_info : ℕ
 sm_info = 0x0020

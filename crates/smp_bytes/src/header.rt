@@ -48,5 +48,7 @@ impl AttributeId {
 
     pub const LINEAR_FORWARDING_TABLE: AttributeId = AttributeId(0x0019);
 
+    pub const MULTICAST_FORWARDING_TABLE: AttributeId = AttributeId(0x001B);
+
     pub const SM_INFO: AttributeId = AttributeId(0x0020);
 }

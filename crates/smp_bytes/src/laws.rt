@@ -3,6 +3,7 @@ ghost use Rattle.std.specs.Prelude.{◌≡◌};
 ghost use Rattle.smp_bytes.specs.Header.{get, set, get_resp, done, method_not_supported};
 ghost use Rattle.smp_bytes.specs.Header.{method_and_attribute_not_supported, invalid_field, node_description};
 ghost use Rattle.smp_bytes.specs.Header.{node_info, switch_info, port_info, linear_forwarding_table, sm_info};
+ghost use Rattle.smp_bytes.specs.Header.{multicast_forwarding_table};
 ghost use Rattle.smp_bytes.specs.Laws.{NumberIsRead, FieldApartStays, BytesOutsideStay, WriteIsUnique};
 ghost use Rattle.smp_bytes.specs.Laws.{LastWriteStands, BitsAreRead, BitsApartStay, OtherBytesStay};
 ghost use Rattle.smp_bytes.specs.ReadBack.{DirectedReadsBack, LidRoutedReadsBack, AnswerReadsBack, StatusReadsBack};
@@ -98,5 +99,7 @@ pub fn attribute_numbers()
     ensures port_info { AttributeId.PORT_INFO.0 ≡ port_info }
     ensures linear_forwarding_table { AttributeId.LINEAR_FORWARDING_TABLE.0
         ≡ linear_forwarding_table }
+    ensures multicast_forwarding_table { AttributeId.MULTICAST_FORWARDING_TABLE.0
+        ≡ multicast_forwarding_table }
     ensures sm_info { AttributeId.SM_INFO.0 ≡ sm_info }
 {}

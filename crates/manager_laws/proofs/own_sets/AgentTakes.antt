@@ -4,7 +4,7 @@ use Rattle.std.proofs.Common.{◌≡◌, ℕ, ◌*◌, ◌<◌, ◌≤◌, Bool,
 use Rattle.std.proofs.lemmas.Bool.{and_from, le-leb, lt-ltb}
 use Rattle.std.specs.Prelude.{Option, Some, None, Result, Ok, option_map, option_and_then, if◌then◌else◌, ◌&&◌}
 use Rattle.std.specs.Option.{ok_or}
-use Rattle.smp_bytes.specs.Header.{set, done, switch_info, port_info, linear_forwarding_table}
+use Rattle.smp_bytes.specs.Header.{set, done, switch_info, port_info, linear_forwarding_table, multicast_forwarding_table}
 use Rattle.smp_bytes.specs.Field.{bits_in, number_in, bytes_in, with_bytes}
 use Rattle.smp_bytes.specs.Packet.{method, attribute_id, attribute_modifier, attribute_data, status}
 use Rattle.attr_codec.specs.PortInfo.{port_state, state_of_number}
@@ -13,7 +13,7 @@ use Rattle.node_agents.specs.declared.port.Port.{Port}
 use Rattle.node_agents.specs.Agent.{Agent, IsAgent, is_switch, port_at, with_port}
 use Rattle.node_agents.specs.SwitchInfo.{set_switch_info}
 use Rattle.node_agents.specs.PortInfo.{are_lids_taken, changed_port, has_lid, max_lmc, port_after, port_meant, port_with, set_port_info, state_after}
-use Rattle.node_agents.specs.MftBlock.{has_masks, multicast_forwarding_table, position_in, set_masks}
+use Rattle.node_agents.specs.MftBlock.{has_masks, position_in, set_masks}
 use Rattle.node_agents.specs.LftBlock.{has_block, set_block}
 use Rattle.node_agents.specs.Answers.{Met, after_answer, after_request, met_set, set_attribute, set_of, status_told}
 use Rattle.node_agents.specs.AnswerLaws.{IsPacket}

@@ -6,7 +6,7 @@ use Rattle.std.specs.Option.{option_map_or}
 use Rattle.std.specs.List.{AllByRecursion, cons_option, filter_map, flat_map, range_with_len}
 use Rattle.attr_codec.specs.declared.port_state.PortState.{PortState}
 use Rattle.attr_codec.specs.declared.port_state.PortState.TheVariants.{Active, Armed}
-use Rattle.smp_bytes.specs.Header.{linear_forwarding_table, port_info, sm_info, switch_info}
+use Rattle.smp_bytes.specs.Header.{linear_forwarding_table, port_info, sm_info, switch_info, multicast_forwarding_table}
 use Rattle.fact_store.specs.View.{cells_of}
 use Rattle.subnet_view.specs.declared.end_port.EndPort.{EndPort}
 use Rattle.subnet_view.specs.Reading.{Cells}
@@ -15,7 +15,7 @@ use Rattle.sweep.specs.Sweep.{Sweep, path_to, seen_state, switch_image}
 use Rattle.plan_steps.specs.declared.step.Step.{Step}
 use Rattle.plan_steps.specs.BlockSteps.{block_step, block_steps, switch_steps, top_step, top_steps}
 use Rattle.plan_steps.specs.LidSteps.{lid_step, lid_steps, own_lid, owner_step}
-use Rattle.plan_steps.specs.MaskSteps.{clear_steps, has_table, mask_step, multicast_forwarding_table, position_count, switch_mask_steps, tree_steps}
+use Rattle.plan_steps.specs.MaskSteps.{clear_steps, has_table, mask_step, position_count, switch_mask_steps, tree_steps}
 use Rattle.plan_steps.specs.Phase.{phases_by as phases_along}
 use Rattle.plan_steps.specs.PlannedTree.{planned_tree}
 use Rattle.plan_steps.specs.Tree.{TreePorts}

@@ -7,5 +7,5 @@ use Rattle.multicast_tree.proofs.tree.plan_tree.Goals as goal
 pub returns : goal.returns
 returns c =
     let found = c.in_ok-positions.ensures in
-    let same = ap (tree_in (cells_of c.args.wires.now)) (c.deref.ensures.value ∙ found) in
+    let same = ap (tree_in (cells_of c.args.wired.now.wires.now)) (c.deref.ensures.value ∙ found) in
     subst (λ (t : List TreePorts). IfOk c.tree_in.result (λ tree. tree.items ≡ t)) same c.tree_in.ensures

@@ -10,17 +10,17 @@ use Rattle.multicast_tree.proofs.ParentPorts.{tree_is}
 use Rattle.multicast_tree.proofs.tree.tree_in.Goals as goal
 
 pub tree_by-requires-clause-usable : goal.tree_by-requires-clause-usable
-tree_by-requires-clause-usable c = c.switches.ensures ∙ ap guids_of c.requires.graph ∙ graph_guids (cells_of c.args.wires.now)
+tree_by-requires-clause-usable c = c.switches.ensures
 
 pub returns : goal.returns
 returns c =
-    let cells = cells_of c.args.wires.now in
+    let cells = cells_of c.args.wired.now.wires.now in
     let positions = c.args.positions.now in
-    let guids : c.switches.result.now ≡ switches cells = c.switches.ensures ∙ ap guids_of c.requires.graph ∙ graph_guids cells in
+    let guids : c.switches.result.now ≡ switches cells = c.switches.ensures in
     let found = c.in_ok-parents.ensures in
     let parents : c.deref.result.now ≡ map (parent_port (graph_of cells) (position_in (switches cells) positions)) (switches cells) =
     c.deref.ensures.value ∙ found
-    ∙ ap (λ (g : List SwitchEdges). map (parent_port g (position_in (guids_of g) positions)) (guids_of g)) c.requires.graph
+    ∙ ap (λ (g : List SwitchEdges). map (parent_port g (position_in (guids_of g) positions)) (guids_of g)) c.args.wired.now.is_graph
     ∙ ap (λ (gs : List ℕ). map (parent_port (graph_of cells) (position_in gs positions)) gs) (graph_guids cells) in
     let same : tree_by cells (parent_in c.switches.result.now c.deref.result.now) ≡ tree_in cells positions =
     ap (λ (gs : List ℕ). tree_by cells (parent_in gs c.deref.result.now)) guids ∙ tree_is cells positions c.deref.result.now parents in
