@@ -1,4 +1,5 @@
-"""What `tests/test-serve` checks of `--multicast`: that each packet comes to each adapter once, and when masks are set."""
+"""What `tests/test-serve` checks of `--multicast`: that each packet comes to each adapter once, when masks are set, and
+who joins groups."""
 from __future__ import annotations
 
 import os
@@ -66,12 +67,15 @@ def check_tree(program: Program, fabric: Fabric, *options: str) -> None:
         came = copies(agents, sender)
         check(came == wanted, f"{options}: from {sender} copies come to {came} and not {wanted}")
     check(all(not any(it[2:]) for it in agents.groups.values()), "other multicast LIDs have masks")
-    kinds = [(attribute, any(data)) for _, attribute, _, data in agents.sets if attribute in (GROUPS, SWITCH_INFO, TABLE)]
+    kinds = [
+        (attribute, any(data)) for _, attribute, _, data in agents.sets if attribute in (GROUPS, SWITCH_INFO, TABLE)
+    ]
     blocks = [it for it, (attribute, _) in enumerate(kinds) if attribute in (SWITCH_INFO, TABLE)]
     full = [it for it, kind in enumerate(kinds) if kind == (GROUPS, True)]
     switches = [it for it in fabric.nodes if fabric.is_switch(it)]
     positions = sum(fabric.ports(it) // POSITION + 1 for it in switches)
-    check(kinds[:positions] == [(GROUPS, False)] * positions, f"{options}: masks are cleared first: {kinds[:positions]}")
+    first = kinds[:positions]
+    check(first == [(GROUPS, False)] * positions, f"{options}: masks are cleared first: {first}")
     check(full and full[0] > blocks[-1], f"{options}: masks are set before tables")
     check(sum(attribute == GROUPS for attribute, _ in kinds) == 2 * positions, f"{options}: masks are set twice")
     for room, words in (None, ["--multicast"]), (0, ["--multicast"]), (ONE_BLOCK, []):
@@ -96,7 +100,8 @@ def asking(method: int, mask: int, group: int, guid: int, numbers: dict[int, byt
     packet[:4] = *SA_HEAD, method
     packet[8:16], packet[16:18], packet[48:56] = bytes(range(8)), MEMBER.to_bytes(2, "big"), mask.to_bytes(8, "big")
     record = bytearray(64)
-    record[:16], record[16:24], record[24:32] = group.to_bytes(16, "big"), PREFIX.to_bytes(8, "big"), guid.to_bytes(8, "big")
+    record[:16], record[16:24] = group.to_bytes(16, "big"), PREFIX.to_bytes(8, "big")
+    record[24:32] = guid.to_bytes(8, "big")
     record[40:42], record[48] = b"\xff\xff", 0x21
     for at, some in (numbers or {}).items():
         record[at : at + len(some)] = some
@@ -114,8 +119,10 @@ def check_joins(program: Program) -> None:
         # The title, the request, the status, and bytes of the record told, by their offset.
         ("IPoIB comes up", asking(SA_SET, COMES_UP, BROADCAST, guid), DONE, {32: "00000b1bc00084"}),
         ("a further group", asking(SA_SET, FURTHER, other, guid, further), DONE, {36: "c00084"}),
-        ("a group with a Q_Key of its own", asking(SA_SET, FURTHER, other, guid, further | {32: b"\1\x23\x45\x67"}), DONE,
-         {32: "01234567c000"}),
+        (
+            "a group with a Q_Key of its own",
+            asking(SA_SET, FURTHER, other, guid, further | {32: b"\1\x23\x45\x67"}), DONE, {32: "01234567c000"},
+        ),
         ("it leaves", asking(DELETE, 0x10003, BROADCAST, guid), DONE, {36: "c000", 48: "21"}),
         ("nothing names the port", asking(SA_SET, 0x10081, BROADCAST, guid), TOO_FEW, {}),
         ("too little of a new group", asking(SA_SET, COMES_UP, other, guid), TOO_FEW, {}),
@@ -131,7 +138,8 @@ def check_joins(program: Program) -> None:
         ("all groups", asking(GET_TABLE, 0, 0, 0), DONE, {0: f"{BROADCAST:032x}", 36: "c000"}),
     ]
     for has_tree in True, False:
-        served, agents = Served(program, [*seat(fabric), *["--multicast"] * has_tree], command="manage"), Agents(fabric, ("H1", 1))
+        served = Served(program, [*seat(fabric), *["--multicast"] * has_tree], command="manage")
+        agents = Agents(fabric, ("H1", 1))
         agents.group_room = ONE_BLOCK
         lines = managed_up(lambda line: served.ask(line.encode()).decode().splitlines(), agents)
         time = int(lines[-1].split()[0])
@@ -140,8 +148,9 @@ def check_joins(program: Program) -> None:
             answer = bytes.fromhex(words[1])
             wanted = status if has_tree else REFUSED
             check(words[0] == "sa" and words[2:4] == ["to", "9"], f"{title}: it is answered")
-            check(int.from_bytes(answer[4:6], "big") == wanted, f"{title}, {has_tree=}: {answer[4:6].hex()}, not {wanted:04x}")
-            check(answer[3] == (0x81 if request[3] == SA_SET else 0x80 | request[3]), f"{title}: method {answer[3]:02x}")
+            found, method = int.from_bytes(answer[4:6], "big"), 0x81 if request[3] == SA_SET else 0x80 | request[3]
+            check(found == wanted, f"{title}, {has_tree=}: status {found:04x}, and not {wanted:04x}")
+            check(answer[3] == method, f"{title}: method {answer[3]:02x}")
             check(answer[8:18] == request[8:18], f"{title}: the answer is the request's")
             for at, digits in told.items() if has_tree else ():
                 some = answer[RECORD + at : RECORD + at + len(digits) // 2].hex()

@@ -1,4 +1,4 @@
--- The agents take a manager's own Sets of LIDs, tops and blocks. So once each of these was answered, the plan is
+-- The agents take a manager's own Sets of LIDs, masks, tops and blocks. So once each of these was answered, the plan is
 -- written, and pings arrive. InfiniBand Architecture Specification, Volume 1: subnet management, PortInfo, SwitchInfo
 -- and LinearForwardingTable; initialization.
 use Rattle.std.specs.Prelude.{◌≡◌, ℕ, true, false, List, filter, Contains, Some}
@@ -22,8 +22,8 @@ use Rattle.manager_laws.specs.Written.{at_end, at_first_steps, at_writing}
 
 -- own Sets are taken ------------------------------------------------------------------------------
 
--- the Sets of the steps that the manager of `w` writes and that count (LIDs, blocks and tops), from the seat and in the
--- fabric of `start`
+-- the Sets of the steps that the manager of `w` writes and that count (LIDs, masks, blocks and tops), from the seat and
+-- in the fabric of `start`
 abbrev pub counted_sets : Managing → Managing → OwnSets
 counted_sets start w =
     IsOwnSet (fabric_of start.scene.fabric) start.seat

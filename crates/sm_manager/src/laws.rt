@@ -22,7 +22,7 @@ pub fn same_taken_in_same_plan()
 {}
 
 /// If a writing begins after any calls and no other writing follows, the plan is written exactly when as many steps
-/// of its first three phases were answered with status 0 as these phases have. An answer to a step ends the step, so
+/// of its phases that count were answered with status 0 as these phases have. An answer to a step ends the step, so
 /// no step is counted twice.
 pub fn written_is_each_step_done()
     ensures { WrittenIsEachStepDone }
