@@ -10,3 +10,5 @@ pub mod InWords
 pub mod TreePorts
 pub mod ChannelTurns
 pub mod Masks
+pub mod FabricCopies
+pub mod FabricAdapters
