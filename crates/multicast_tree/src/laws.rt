@@ -1,5 +1,6 @@
 //! The laws of the tree, and of the copies of multicast packets.
-ghost use Rattle.multicast_tree.specs.FabricCopies.{EachGetsOneCopyInFabric, NoPortTwiceInFabric, NoneToTheSenderInFabric};
+ghost use Rattle.multicast_tree.specs.FabricCopies.{EachGetsOneCopyInFabric, NoPortTwiceInFabric};
+ghost use Rattle.multicast_tree.specs.FabricCopies.{NoneToTheSenderInFabric};
 ghost use Rattle.multicast_tree.specs.Forest.{EachEndReached, EachPortOnce, FewSwitchesPassed, UpThenDown};
 ghost use Rattle.multicast_tree.specs.TreeInWords.{ParentLaw, TreeLaw};
 ghost use Rattle.multicast_tree.specs.TreeLaws.{CopyTurnsRise, EachGetsACopy, MasksAreWhole, NoLongWay};
