@@ -29,6 +29,7 @@ pub mod KnownPart
 pub mod Led
 pub mod Lists
 pub mod MaskSteps
+pub mod MulticastHeld
 pub mod NewManagers
 pub mod NodeReplies
 pub mod Numbered

@@ -20,3 +20,4 @@ pub mod StaysInForce
 pub mod SweepEnds
 pub mod WritingEnds
 pub mod OwnSetsTaken
+pub mod MulticastHeld

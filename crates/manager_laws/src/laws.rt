@@ -10,6 +10,7 @@ ghost use Rattle.manager_laws.specs.WritingPings.{PingsArriveOnceWritten, SomeMa
 ghost use Rattle.manager_laws.specs.Written.{NewManagersSweepFirst, WrittenPlansAreHeld};
 
 pub mod masters;
+pub mod multicast;
 pub mod sweep_ends;
 pub mod takeover;
 pub mod writing_ends;

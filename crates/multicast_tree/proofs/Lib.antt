@@ -11,3 +11,5 @@ pub mod TreePorts
 pub mod ChannelTurns
 pub mod Masks
 pub mod Switches
+pub mod FabricCopies
+pub mod FabricAdapters

@@ -3,3 +3,4 @@ pub mod Forest
 pub mod Tree
 pub mod TreeLaws
 pub mod TreeInWords
+pub mod FabricCopies

@@ -1,4 +1,6 @@
 //! The laws of the tree, and of the copies of multicast packets.
+ghost use Rattle.multicast_tree.specs.FabricCopies.{EachGetsOneCopyInFabric, NoPortTwiceInFabric};
+ghost use Rattle.multicast_tree.specs.FabricCopies.{NoneToTheSenderInFabric};
 ghost use Rattle.multicast_tree.specs.Forest.{EachEndReached, EachPortOnce, FewSwitchesPassed, UpThenDown};
 ghost use Rattle.multicast_tree.specs.TreeInWords.{ParentLaw, TreeLaw};
 ghost use Rattle.multicast_tree.specs.TreeLaws.{CopyTurnsRise, EachGetsACopy, MasksAreWhole, NoLongWay};
@@ -80,4 +82,22 @@ pub fn each_adapter_gets_a_copy()
 /// the rule's number of the second channel is greater than that of the first.
 pub fn channels_rise_along_copies()
     ensures { CopyTurnsRise }
+{}
+
+/// If facts describe a part of a fabric, and the masks of its switches are within the tree, no two copies of one packet
+/// arrive at the same port there.
+pub fn no_port_of_a_fabric_gets_a_packet_twice()
+    ensures { NoPortTwiceInFabric }
+{}
+
+/// If facts describe a part of a fabric, and the masks of its switches are within the tree, no copy of a packet comes
+/// back to the adapter port that sent it.
+pub fn no_sender_of_a_fabric_gets_a_copy()
+    ensures { NoneToTheSenderInFabric }
+{}
+
+/// If facts describe a part of a fabric, and the masks of its switches are the tree of a rule, exactly one copy of what
+/// an adapter port sends to a switch comes to each other adapter port of the part.
+pub fn each_adapter_of_a_fabric_gets_one_copy()
+    ensures { EachGetsOneCopyInFabric }
 {}

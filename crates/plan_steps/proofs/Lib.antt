@@ -7,4 +7,5 @@ pub mod Trees
 pub mod Whole
 pub mod Changed
 pub mod SetLaws
+pub mod MaskBits
 pub use Rattle.lft_blocks.proofs.Reached

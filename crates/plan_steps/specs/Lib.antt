@@ -8,6 +8,7 @@ pub mod StateSteps
 pub mod Phase
 pub mod Bound
 pub mod SetLaws
+pub mod MaskLaws
 pub use Rattle.lft_blocks.specs.Arrival
 pub use Rattle.lft_blocks.specs.Plan
 pub use Rattle.lft_blocks.specs.Planning

@@ -1,6 +1,7 @@
 //! Laws of the steps of a plan.
 ghost use Rattle.plan_steps.specs.Bound.{PhaseBoundLaw};
 ghost use Rattle.plan_steps.specs.LidSteps.{OwnLidLaw};
+ghost use Rattle.plan_steps.specs.MaskLaws.{MasksHaveTheirPorts};
 ghost use Rattle.plan_steps.specs.SetLaws.{LidAndStateAgree, SetsChangeNothingElse, SetsSayThePlan};
 ghost use Rattle.plan_steps.specs.StateSteps.{WiredPortsLaw};
 
@@ -40,4 +41,10 @@ pub fn sets_change_nothing_else()
 /// state.
 pub fn lid_and_state_agree()
     ensures { LidAndStateAgree }
+{}
+
+/// The block that is written for some ports and a position has in its first mask exactly those of the ports that have
+/// the position, and no port in the other masks.
+pub fn masks_have_their_ports()
+    ensures { MasksHaveTheirPorts }
 {}
