@@ -391,7 +391,7 @@ def brought_up(costs: Costs, command: str, hosts: int, line: str, times: int, op
     ))
     for word, told in (
         ("PACKET", served_lines.ASKED), ("TRAP", served_lines.TRAPPED), ("PATH", served_lines.asked_path(fabric)),
-        ("HEX", served_lines.ASKS),
+        ("JOIN", served_lines.asked_to_join(fabric)), ("HEX", served_lines.ASKS),
     ):
         line = line.replace(word, told)
     text = "".join(f"{it}\n" for it in line.split("/") * times)
@@ -560,6 +560,7 @@ GROWING = (
     Row("serve by adapters", lambda c, n: served(c, n, "facts/plan", 1), 30, LINEAR),
     Row("serve by adapters, in an order",
         lambda c, n: served(c, n, "plan", 1, "--lmc", "1", *SPREAD, "--order", served_order(c, 6)), 30, LINEAR),
+    Row("serve by adapters, with a multicast tree", lambda c, n: served(c, n, "plan", 1, "--multicast"), 30, LINEAR),
     Row("serve by lines", lambda c, n: served(c, 5, SHOWS, n, "--sm-key", "5"), 500, LINEAR),
     Row("serve by plans from roots",
         lambda c, n: served(c, 5, "plan", n, *SPREAD, "--roots", served_order(c, 2)), 50, LINEAR),
@@ -568,6 +569,8 @@ GROWING = (
         lambda c, n: managed(c, n, "0", 1, *MANAGED_OPTIONS, *SPREAD, "--order", served_order(c, 6)), 30, LINEAR),
     Row("manage by paths for hosts", lambda c, n: managed(c, 5, "0 PATH", n), 500, LINEAR),
     Row("manage by adapters, paths for hosts", lambda c, n: managed(c, n, "0 PATH", 100), 30, LINEAR),
+    Row("manage by joins of hosts", lambda c, n: managed(c, 5, "0 JOIN", n, "--multicast"), 500, LINEAR),
+    Row("manage by adapters, joins of hosts", lambda c, n: managed(c, n, "0 JOIN", 100, "--multicast"), 30, LINEAR),
     Row("manage by light sweeps", lambda c, n: managed(c, 5, "0 light", n), 500, LINEAR),
     Row("manage by adapters, light sweeps", lambda c, n: managed(c, n, "0 light", 100), 30, LINEAR),
     Row("manage by lines",

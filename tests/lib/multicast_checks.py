@@ -9,6 +9,7 @@ from collections.abc import Sequence
 import sample_fabrics
 from built_program import check
 from live_agents import BLOCK, GROUPS, SWITCH_INFO, TABLE, Agents
+from memberships import BROADCAST, COMES_UP, DELETE, FURTHER, GET_TABLE, RECORD, SA_SET, membership
 from sample_fabrics import Fabric, Port
 from served_lines import managed_up, seat
 from served_process import Served
@@ -83,30 +84,8 @@ def check_tree(program: Program, fabric: Fabric, *options: str) -> None:
         check(not agents.groups, f"room for {room}, {words}: masks are set")
 
 
-# A request of subnet administration: its class and version, and where its record begins.
-SA_HEAD, RECORD = bytes([1, 3, 2]), 56
-SA_SET, DELETE, GET_TABLE, MEMBER = 2, 0x15, 0x12, 0x38
-PREFIX = 0xFE80 << 48
-BROADCAST = 0xFF12401BFFFF00000000 << 48 | 0xFFFFFFFF
-# What a host's kernel gives when its IPoIB comes up, and for each further group: the bits of the components.
-COMES_UP, FURTHER = 0x10083, 0x173F7
+# The statuses of answers.
 DONE, REFUSED, INVALID, NONE, NO_GID, TOO_FEW = 0, 0x0C, 0x0200, 0x0300, 0x0500, 0x0600
-
-
-def asking(method: int, mask: int, group: int, guid: int, numbers: dict[int, bytes] | None = None) -> bytes:
-    """Returns a request for a membership: of the port with a GUID, as full member, in the default partition. `numbers`
-    has other bytes of the record, by their offset."""
-    packet = bytearray(256)
-    packet[:4] = *SA_HEAD, method
-    packet[8:16], packet[16:18], packet[48:56] = bytes(range(8)), MEMBER.to_bytes(2, "big"), mask.to_bytes(8, "big")
-    record = bytearray(64)
-    record[:16], record[16:24] = group.to_bytes(16, "big"), PREFIX.to_bytes(8, "big")
-    record[24:32] = guid.to_bytes(8, "big")
-    record[40:42], record[48] = b"\xff\xff", 0x21
-    for at, some in (numbers or {}).items():
-        record[at : at + len(some)] = some
-    packet[RECORD : RECORD + 64] = record
-    return bytes(packet)
 
 
 def check_joins(program: Program) -> None:
@@ -117,25 +96,28 @@ def check_joins(program: Program) -> None:
     further = {32: bytes.fromhex("00000b1b"), 38: b"\x84", 42: b"\x83"}
     rows = [
         # The title, the request, the status, and bytes of the record told, by their offset.
-        ("IPoIB comes up", asking(SA_SET, COMES_UP, BROADCAST, guid), DONE, {32: "00000b1bc00084"}),
-        ("a further group", asking(SA_SET, FURTHER, other, guid, further), DONE, {36: "c00084"}),
+        ("IPoIB comes up", membership(SA_SET, COMES_UP, BROADCAST, guid), DONE, {32: "00000b1bc00084"}),
+        ("a further group", membership(SA_SET, FURTHER, other, guid, further), DONE, {36: "c00084"}),
         (
             "a group with a Q_Key of its own",
-            asking(SA_SET, FURTHER, other, guid, further | {32: b"\1\x23\x45\x67"}), DONE, {32: "01234567c000"},
+            membership(SA_SET, FURTHER, other, guid, further | {32: b"\1\x23\x45\x67"}), DONE, {32: "01234567c000"},
         ),
-        ("it leaves", asking(DELETE, 0x10003, BROADCAST, guid), DONE, {36: "c000", 48: "21"}),
-        ("nothing names the port", asking(SA_SET, 0x10081, BROADCAST, guid), TOO_FEW, {}),
-        ("too little of a new group", asking(SA_SET, COMES_UP, other, guid), TOO_FEW, {}),
-        ("no multicast GID", asking(SA_SET, FURTHER, 0xFE << 120, guid, further), NO_GID, {}),
-        ("a port that there is not", asking(SA_SET, COMES_UP, BROADCAST, guid + 1000), NO_GID, {}),
-        ("a switch", asking(SA_SET, COMES_UP, BROADCAST, switch), NO_GID, {}),
-        ("another prefix", asking(SA_SET, COMES_UP, BROADCAST, guid, {16: bytes(8)}), NO_GID, {}),
-        ("another partition", asking(SA_SET, COMES_UP, BROADCAST, guid, {40: b"\x80\1"}), INVALID, {}),
-        ("packets of 4096 bytes alone", asking(SA_SET, FURTHER, other, guid, further | {38: b"\x85"}), INVALID, {}),
-        ("another service level", asking(SA_SET, FURTHER, other, guid, further | {44: b"\x10"}), INVALID, {}),
-        ("the broadcast group", asking(1, 1, BROADCAST, 0), DONE, {24: "00" * 8, 36: "c000", 48: "20"}),
-        ("another group", asking(1, 1, other, 0), NONE, {}),
-        ("all groups", asking(GET_TABLE, 0, 0, 0), DONE, {0: f"{BROADCAST:032x}", 36: "c000"}),
+        ("it leaves", membership(DELETE, 0x10003, BROADCAST, guid), DONE, {36: "c000", 48: "21"}),
+        ("nothing names the port", membership(SA_SET, 0x10081, BROADCAST, guid), TOO_FEW, {}),
+        ("too little of a new group", membership(SA_SET, COMES_UP, other, guid), TOO_FEW, {}),
+        ("no multicast GID", membership(SA_SET, FURTHER, 0xFE << 120, guid, further), NO_GID, {}),
+        ("a port that there is not", membership(SA_SET, COMES_UP, BROADCAST, guid + 1000), NO_GID, {}),
+        ("a switch", membership(SA_SET, COMES_UP, BROADCAST, switch), NO_GID, {}),
+        ("another prefix", membership(SA_SET, COMES_UP, BROADCAST, guid, {16: bytes(8)}), NO_GID, {}),
+        ("another partition", membership(SA_SET, COMES_UP, BROADCAST, guid, {40: b"\x80\1"}), INVALID, {}),
+        (
+            "packets of 4096 bytes alone",
+            membership(SA_SET, FURTHER, other, guid, further | {38: b"\x85"}), INVALID, {},
+        ),
+        ("another service level", membership(SA_SET, FURTHER, other, guid, further | {44: b"\x10"}), INVALID, {}),
+        ("the broadcast group", membership(1, 1, BROADCAST, 0), DONE, {24: "00" * 8, 36: "c000", 48: "20"}),
+        ("another group", membership(1, 1, other, 0), NONE, {}),
+        ("all groups", membership(GET_TABLE, 0, 0, 0), DONE, {0: f"{BROADCAST:032x}", 36: "c000"}),
     ]
     for has_tree in True, False:
         served = Served(program, [*seat(fabric), *["--multicast"] * has_tree], command="manage")

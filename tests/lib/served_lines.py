@@ -11,6 +11,7 @@ import subprocess
 from collections.abc import Callable, Sequence
 
 from live_agents import PERMISSIVE, Agents
+from memberships import BROADCAST, COMES_UP, SA_SET, membership
 from sample_fabrics import ADAPTER, Fabric
 
 # The end of an answer.
@@ -19,6 +20,8 @@ END = b".\n"
 FIRST_TIME, MOST_LINES = 5000, 1000000
 # The numbers of states in SMInfo.
 DISCOVERING, MASTER = 1, 3
+# How many multicast LIDs a switch has room for.
+GROUPS = 1024
 # A manager with GUID 0x101 and priority 5.
 WHO = "101", "1", "5"
 # A Get of SMInfo by LIDs from LID 7.
@@ -98,6 +101,12 @@ def asked_path(fabric: Fabric) -> str:
     return f"sa {request.ljust(256, bytes(1)).hex()} from 7"
 
 
+def asked_to_join(fabric: Fabric) -> str:
+    """Returns the line by which the first adapter asks to join the group of the broadcasts of IPoIB."""
+    host = next(name for name, (kind, *_) in fabric.nodes.items() if kind == ADAPTER)
+    return f"sa {membership(SA_SET, COMES_UP, BROADCAST, fabric.guid(host) + 1).hex()} from 7"
+
+
 def managed_up(ask: Ask, agents: Agents) -> list[str]:
     """Tells a manager that decides by itself the time and the answers of agents until nothing is left to write. Returns
     the lines. Each answer comes a millisecond after the line before it; if none waits, the time is told when the
@@ -121,5 +130,6 @@ def bringing_up(
     program, with these words, `serve` or `manage` first, is asked line by line, since what it answers is what the
     agents get."""
     agents = Agents(fabric, ("H1", 1))
+    agents.group_room = GROUPS if "--multicast" in words else None
     with subprocess.Popen([program, *words], cwd=folder, stdin=subprocess.PIPE, stdout=subprocess.PIPE) as process:
         return (served_up if words[0] == "serve" else managed_up)(asking(process), agents)
