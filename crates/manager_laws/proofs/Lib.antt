@@ -1,6 +1,7 @@
 pub mod Accepted
 pub mod After
 pub mod AgentSets
+pub mod AgentMasks
 pub mod Agreeing
 pub mod Alike
 pub mod Answers
@@ -51,6 +52,7 @@ pub mod SweepBegins
 pub mod Taken
 pub mod TracedScenes
 pub mod TrueFacts
+pub mod TreeTaken
 pub mod Vertices
 pub mod WritingExample
 pub mod WritingLists

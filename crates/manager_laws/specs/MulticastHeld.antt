@@ -1,7 +1,7 @@
 -- What multicast packets do in a simulated fabric whose switches hold the masks of a tree.
 -- InfiniBand Architecture Specification, Volume 1: subnet management, MulticastForwardingTable; switches, multicast
 -- forwarding by the multicast forwarding table.
-use Rattle.std.specs.Prelude.{◌≡◌, ◌≢◌, ◌<◌, ◌*◌, ◌/◌, ◌%◌, ◌==◌, ℕ, Bool, false, IsTrue, List, Contains, Some, drop, take}
+use Rattle.std.specs.Prelude.{◌≡◌, ◌≢◌, ◌<◌, ◌*◌, ◌/◌, ◌%◌, ◌==◌, ℕ, Bool, false, IsTrue, List, Contains, Some, ◌+◌, slice_index}
 use Rattle.std.specs.Int.{bit_at}
 use Rattle.std.specs.Option.{option_map_or}
 use Rattle.fabric_model.specs.declared.cable.NodePort.{NodePort}
@@ -37,10 +37,10 @@ group_of s id p = option_map_or (λ a. has_port a p) (agent_at s id) false
 abbrev pub copying_of : Simulation → Copying
 copying_of s = copying_at (fabric_of s) (group_of s)
 
--- each position of the agent's table has the block that is written for `ports`
+-- at each position the agent's table has the block that is written for `ports`
 abbrev pub HoldsMasks : List ℕ → Agent → Type 0
-HoldsMasks ports a = (position : ℕ) → position < position_count a.node
-    → take 64 (drop (64 * position) a.masks) ≡ masks_data (mask_of ports position)
+HoldsMasks ports a = (position i : ℕ) → position < position_count a.node → i < 64
+    → slice_index a.masks (64 * position + i) ≡ slice_index (masks_data (mask_of ports position)) i
 
 -- the agent of each switch of the part that the tree has holds the masks of the switch's ports in the tree
 abbrev pub HoldsTree : Part → List TreePorts → Simulation → Type 0
