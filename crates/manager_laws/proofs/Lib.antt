@@ -30,6 +30,7 @@ pub mod KnownPart
 pub mod Led
 pub mod Lists
 pub mod MaskSteps
+pub mod MulticastArrives
 pub mod MulticastHeld
 pub mod NewManagers
 pub mod NodeReplies

@@ -22,3 +22,4 @@ pub mod WritingEnds
 pub mod OwnSetsTaken
 pub mod MulticastHeld
 pub mod TreeTaken
+pub mod MulticastArrives

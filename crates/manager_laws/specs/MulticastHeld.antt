@@ -1,7 +1,8 @@
 -- What multicast packets do in a simulated fabric whose switches hold the masks of a tree.
 -- InfiniBand Architecture Specification, Volume 1: subnet management, MulticastForwardingTable; switches, multicast
 -- forwarding by the multicast forwarding table.
-use Rattle.std.specs.Prelude.{◌≡◌, ◌≢◌, ◌<◌, ◌*◌, ◌/◌, ◌%◌, ◌==◌, ℕ, Bool, false, IsTrue, List, Contains, Some, ◌+◌, slice_index}
+use Rattle.std.specs.Prelude.{◌≡◌, ◌≢◌, ◌<◌, ◌+◌, ◌*◌, ◌/◌, ◌%◌, ◌==◌, ℕ, Bool, false, IsTrue, List, Contains, Some}
+use Rattle.std.specs.Prelude.{slice_index}
 use Rattle.std.specs.Int.{bit_at}
 use Rattle.std.specs.Option.{option_map_or}
 use Rattle.fabric_model.specs.declared.cable.NodePort.{NodePort}
@@ -48,8 +49,8 @@ HoldsTree part tree s = (port : NodePort) (node : fabric.Node) → IsEndPortIn p
     → IsTrue (is_switch node.kind) → (a : Agent) → agent_at s port.node ≡ Some a
     → (x : TreePorts) → Contains tree x → x.guid ≡ node.guid → HoldsMasks x.ports a
 
--- suppose facts describe the part of a simulated fabric that an end port is joined to, and this part holds the tree of a
--- rule. Then of a packet for the first multicast LID that an adapter port of the part sends to a switch, exactly one
+-- suppose facts describe the part of a simulated fabric that an end port is joined to, and this part holds the tree of
+-- a rule. Then of a packet for the first multicast LID that an adapter port of the part sends to a switch, exactly one
 -- copy comes to each other adapter port of the part
 abbrev pub EachGetsOneCopy : Type 0
 EachGetsOneCopy = (rule : RuleValue) (facts : Facts) (s : Simulation) (origin : NodePort) → IsSimulation s

@@ -11,7 +11,8 @@ use Rattle.fact_store.specs.View.{cells_of}
 use Rattle.subnet_view.specs.Reading.{Cells}
 use Rattle.sweep.specs.Sweep.{IsReached, Sweep, switch_image}
 use Rattle.multicast_tree.specs.Tree.{TreePorts}
-use Rattle.plan_steps.specs.MaskSteps.{has_table, mask_of, masks_data, multicast_forwarding_table, position_count, tree_steps}
+use Rattle.plan_steps.specs.MaskSteps.{has_table, mask_of, masks_data, multicast_forwarding_table, position_count}
+use Rattle.plan_steps.specs.MaskSteps.{tree_steps}
 use Rattle.plan_steps.specs.PlannedTree.{planned_tree}
 use Rattle.plan_steps.specs.declared.step.Step.{Step}
 use Rattle.node_agents.specs.Agent.{Agent}

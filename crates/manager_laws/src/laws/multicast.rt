@@ -1,4 +1,5 @@
 //! The laws of multicast packets where the switches hold a tree.
+ghost use Rattle.manager_laws.specs.MulticastArrives.{EachGetsOneCopyOnceTaken};
 ghost use Rattle.manager_laws.specs.MulticastHeld.{EachGetsOneCopy};
 ghost use Rattle.manager_laws.specs.TreeTaken.{TakenTreesAreHeld};
 
@@ -14,4 +15,12 @@ pub fn each_adapter_gets_one_copy()
 /// each step of the tree, and no other Sets of multicast masks.
 pub fn taken_trees_are_held()
     ensures { TakenTreesAreHeld }
+{}
+
+/// Of a packet for the first multicast LID that an adapter port joined to the seat sends to a switch, exactly one copy
+/// comes to each other adapter port joined to the seat, if three conditions hold: a manager that writes trees wrote the
+/// plan of one sweep with every answer; the sweep read at each switch that it has a multicast table; and from some
+/// moment on after the writing began agents took the Set of each step of the tree, and no other Sets of multicast masks.
+pub fn each_adapter_gets_one_copy_once_taken()
+    ensures { EachGetsOneCopyOnceTaken }
 {}
