@@ -71,8 +71,8 @@ IsStepTaken f seat t (event ∷ events) w =
     TakesStep f seat t w event ⊎ IsStepTaken f seat t events (after_manager_event w event)
 
 -- in these events, agents take the Set of each of `steps`, and no other Sets of multicast masks
-pub record AreStepsTaken (f : Fabric) (seat : NodePort) (steps : List Step) (events : List ManagerEvent) (w : Managing) :
-    Type 0 where
+pub record AreStepsTaken (f : Fabric) (seat : NodePort) (steps : List Step) (events : List ManagerEvent)
+    (w : Managing) : Type 0 where
   pub only : AllAlong (SetsOnly f seat steps) events w
   pub each : (t : Step) → Contains steps t → IsStepTaken f seat t events w
 
@@ -101,7 +101,7 @@ abbrev pub TakenTreesAreHeld : Type 0
 TakenTreesAreHeld =
     (w : Managing) (before between after : List ManagerEvent) → IsWritingRun w before between after
     → (s : Sweep) → (at_writing w before between).manager.sweep ≡ Some s
-    → AreStepsTakenAtLast (fabric_of w.scene.fabric) w.seat (own_tree_steps (at_writing w before between).manager s) after
-    (at_first_steps w before between)
-    → IsTreeHeldWhere (cells_of (at_writing w before between).manager.store) (own_tree (at_writing w before between).manager)
-    s (at_end w before between after).scene.fabric
+    → AreStepsTakenAtLast (fabric_of w.scene.fabric) w.seat
+    (own_tree_steps (at_writing w before between).manager s) after (at_first_steps w before between)
+    → IsTreeHeldWhere (cells_of (at_writing w before between).manager.store)
+    (own_tree (at_writing w before between).manager) s (at_end w before between after).scene.fabric

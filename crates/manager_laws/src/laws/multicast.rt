@@ -20,7 +20,8 @@ pub fn taken_trees_are_held()
 /// Of a packet for the first multicast LID that an adapter port joined to the seat sends to a switch, exactly one copy
 /// comes to each other adapter port joined to the seat, if three conditions hold: a manager that writes trees wrote the
 /// plan of one sweep with every answer; the sweep read at each switch that it has a multicast table; and from some
-/// moment on after the writing began agents took the Set of each step of the tree, and no other Sets of multicast masks.
+/// moment on after the writing began agents took the Set of each step of the tree, and no other Sets of multicast
+/// masks.
 pub fn each_adapter_gets_one_copy_once_taken()
     ensures { EachGetsOneCopyOnceTaken }
 {}
