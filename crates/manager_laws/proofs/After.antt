@@ -350,7 +350,7 @@ module _ (start : Simulation) (seat : NodePort) (plan : PlanValue) (c : ℕ) (ph
         (owns : (now : Simulation) → IsAlong start now → (at : NodePort) (a : Agent)
         (packet : List ℕ) → agent_at now at.node ≡ Some a → own at packet → Carries plan a at.port packet) where
       -- whatever is sent, no agent changes
-      sent_from_agents : (w : Managing) (at : NodePort) (packet : Packet) → Writes w → (sent_from w.scene at packet).fabric.agents ≡ w.scene.fabric.agents
+      pub sent_from_agents : (w : Managing) (at : NodePort) (packet : Packet) → Writes w → (sent_from w.scene at packet).fabric.agents ≡ w.scene.fabric.agents
       sent_from_agents w at packet g =
           injected_agents (Sends start seat plan c g.all) (Tells start seat plan c g.all w.scene.fabric) ground.cables ground.counts
           g.fair.scene.fabric.along g.fair.scene.fabric.is g.fair.traced.flights at packet
@@ -362,7 +362,7 @@ module _ (start : Simulation) (seat : NodePort) (plan : PlanValue) (c : ℕ) (ph
           cond_both (asks_manager at h) _ _ (λ (x : Scene). x.fabric.agents ≡ w.scene.fabric.agents)
           (λ _. sent_from_agents w at (answer_to h.packet given payload) g) (λ _. refl)
 
-      sent_agents : (w : Managing) (s : Sending) (at : NodePort) → Writes w → (sent w.scene at s).fabric.agents ≡ w.scene.fabric.agents
+      pub sent_agents : (w : Managing) (s : Sending) (at : NodePort) → Writes w → (sent w.scene at s).fabric.agents ≡ w.scene.fabric.agents
       sent_agents w (ByLid packet) at g = sent_from_agents w at packet g
       sent_agents w (ByPath method attribute modifier tid path payload) at g = sent_from_agents w at
           (directed_packet (directed method attribute modifier tid path payload)) g
@@ -374,7 +374,7 @@ module _ (start : Simulation) (seat : NodePort) (plan : PlanValue) (c : ℕ) (ph
           emitted_agents (Sends start seat plan c g.all) (Tells start seat plan c g.all w.scene.fabric) ground.cables ground.counts
           g.fair.scene.fabric.along g.fair.scene.fabric.is g.fair.traced.flights at packet
 
-      emitting_agents : (w : Managing) (s : Sending) (at : NodePort) → Writes w → (emitted w.scene at s).fabric.agents ≡ w.scene.fabric.agents
+      pub emitting_agents : (w : Managing) (s : Sending) (at : NodePort) → Writes w → (emitted w.scene at s).fabric.agents ≡ w.scene.fabric.agents
       emitting_agents w (ByLid packet) at g = emitted_from_agents w at packet g
       emitting_agents w (ByPath method attribute modifier tid path payload) at g = emitted_from_agents w at
           (directed_packet (directed method attribute modifier tid path payload)) g

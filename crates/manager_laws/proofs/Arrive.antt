@@ -108,7 +108,7 @@ module _ (w : Managing) (before between after : List ManagerEvent) (planned : Wr
       (subst IsWhole (sym (ap (λ (x : Sweeping). x.sweep) events_are ∙ same_sweep)) planned.whole))
 
   -- so what the manager knows agrees with the fabric as it is at the end
-  known_agrees : AgreesOn (IsJoinedTo (fabric_of (at_end w before between after).scene.fabric) w.seat)
+  pub known_agrees : AgreesOn (IsJoinedTo (fabric_of (at_end w before between after).scene.fabric) w.seat)
       (cells_of (at_writing w before between).manager.store)
       (fabric_of (at_end w before between after).scene.fabric)
   known_agrees =
@@ -117,7 +117,7 @@ module _ (w : Managing) (before between after : List ManagerEvent) (planned : Wr
       (sym (holds_all (at_writing w before between) there one.follows)) found_all.at_last
 
   -- and the sweep came to each end port of it
-  reached_known : (g p : ℕ) → IsEndPort (cells_of (at_writing w before between).manager.store) g p → IsReached sweep g p
+  pub reached_known : (g p : ℕ) → IsEndPort (cells_of (at_writing w before between).manager.store) g p → IsReached sweep g p
   reached_known g p is =
       let way = found_all.ways g p (subst (λ cells. IsEndPort cells g p) (holds_all (at_writing w before between) there one.follows) is) in
       ap (λ (x : Sweep). is_some (path_to x g p)) (sym same_sweep) ∙ ap is_some way.told
@@ -125,7 +125,7 @@ module _ (w : Managing) (before between after : List ManagerEvent) (planned : Wr
   -- the law -------------------------------------------------------------------------------------------------------
 
   -- the seat is an end port
-  seat_is_end : fabrics.IsEndPort (fabric_of (at_end w before between after).scene.fabric) w.seat
+  pub seat_is_end : fabrics.IsEndPort (fabric_of (at_end w before between after).scene.fabric) w.seat
   seat_is_end =
       end_port_along w.scene.fabric (at_end w before between after).scene.fabric (held.at_end_along w before between after run sweep sweep_is) w.seat
       (seat_end first one.at 1 begins)

@@ -1,6 +1,7 @@
 pub mod Accepted
 pub mod After
 pub mod AgentSets
+pub mod AgentMasks
 pub mod Agreeing
 pub mod Alike
 pub mod Answers
@@ -29,6 +30,7 @@ pub mod KnownPart
 pub mod Led
 pub mod Lists
 pub mod MaskSteps
+pub mod MulticastArrives
 pub mod MulticastHeld
 pub mod NewManagers
 pub mod NodeReplies
@@ -51,6 +53,7 @@ pub mod SweepBegins
 pub mod Taken
 pub mod TracedScenes
 pub mod TrueFacts
+pub mod TreeTaken
 pub mod Vertices
 pub mod WritingExample
 pub mod WritingLists

@@ -1,7 +1,7 @@
 -- Where agents hold the masks of a tree, each adapter gets one copy.
-use Rattle.std.proofs.Common.{◌≡◌, ◌↔◌, ◌<◌, ◌≤◌, ◌+◌, ◌*◌, ◌/◌, ◌%◌, ℕ, List, inl, inr, refl, sym, ap, ◌∙◌, subst, arith, true, false, cond, drop, take}
+use Rattle.std.proofs.Common.{◌≡◌, ◌↔◌, ◌<◌, ◌≤◌, ◌+◌, ◌*◌, ◌/◌, ◌%◌, ℕ, List, inl, inr, refl, sym, ap, ◌∙◌, subst, arith, true, false, cond, drop}
 use Rattle.std.proofs.lemmas.Bool.{and_from, cases_lt, eq-eqb, eqb-true}
-use Rattle.std.proofs.lemmas.List.{get_or-take}
+use Rattle.std.proofs.lemmas.List.{get_or-drop}
 use Rattle.std.proofs.lemmas.Nat.Bits.{bit_at-zero}
 use Rattle.std.proofs.lemmas.Option.{same_Some}
 use Rattle.std.proofs.Math.ListN.{drop_of_length-le}
@@ -30,7 +30,7 @@ use Rattle.multicast_tree.specs.Tree.{InTree, TreePorts, parent_port, position_i
 use Rattle.multicast_tree.proofs.FabricAdapters.{each_gets_one_copy_in_fabric}
 use Rattle.multicast_tree.proofs.FabricCopies.{facts_told}
 use Rattle.multicast_tree.proofs.InWords.{tree_law}
-use Rattle.plan_steps.specs.MaskSteps.{first_mask, mask_of}
+use Rattle.plan_steps.specs.MaskSteps.{first_mask, mask_of, masks_data}
 use Rattle.plan_steps.proofs.MaskBits.{mask_bit, mask_read, small_mask}
 use Rattle.node_agents.specs.Agent.{Agent, IsAgent, node_of, position_count}
 use Rattle.fabric_sim.specs.Simulation.{IsSimulation, Simulation, fabric_of}
@@ -44,8 +44,7 @@ module _ (a : Agent) (ports : List ℕ) (is : IsAgent a) (held : HoldsMasks port
   mask_there : (position : ℕ) → position < position_count a.node → mask_at a position ≡ mask_of ports position
   mask_there position inside =
       let xs = drop (64 * position) a.masks in
-      big_from-alike 0 2 xs (take 64 xs) (λ k l h. sym (get_or-take 64 xs k 0 (omega arith)))
-      ∙ ap (number_in first_mask) (held position inside)
+      big_from-alike 0 2 xs (masks_data (mask_of ports position)) (λ k l h. get_or-drop (64 * position) a.masks k 0 ∙ held position k inside (omega arith))
       ∙ mask_read (mask_of ports position) (small_mask ports position)
 
   mask_past : (position : ℕ) → position_count a.node ≤ position → mask_at a position ≡ 0

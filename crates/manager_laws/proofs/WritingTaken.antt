@@ -155,12 +155,12 @@ module _ (node : Node) (a : Agent) (same : node ≡ node_of a) (m local : ℕ) (
 -- lists of agents ---------------------------------------------------------------------------------------
 
 -- the agent at the id of a change was another one before
-record WasAt (agents : List Agent) (id : ℕ) (change : Agent → Agent) (after : Agent) : Type 0 where
+pub record WasAt (agents : List Agent) (id : ℕ) (change : Agent → Agent) (after : Agent) : Type 0 where
   pub before : Agent
   pub there : slice_get agents id ≡ Some before
   pub is : after ≡ change before
 
-was_at : (agents : List Agent) (id : ℕ) (change : Agent → Agent) (after : Agent) → slice_get (with_changed agents id change) id ≡ Some after
+pub was_at : (agents : List Agent) (id : ℕ) (change : Agent → Agent) (after : Agent) → slice_get (with_changed agents id change) id ≡ Some after
     → WasAt agents id change after
 was_at agents id change after e = by_agent (slice_get agents id) refl e
   where

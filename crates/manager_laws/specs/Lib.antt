@@ -21,3 +21,5 @@ pub mod SweepEnds
 pub mod WritingEnds
 pub mod OwnSetsTaken
 pub mod MulticastHeld
+pub mod TreeTaken
+pub mod MulticastArrives

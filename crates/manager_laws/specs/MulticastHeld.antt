@@ -1,7 +1,8 @@
 -- What multicast packets do in a simulated fabric whose switches hold the masks of a tree.
 -- InfiniBand Architecture Specification, Volume 1: subnet management, MulticastForwardingTable; switches, multicast
 -- forwarding by the multicast forwarding table.
-use Rattle.std.specs.Prelude.{◌≡◌, ◌≢◌, ◌<◌, ◌*◌, ◌/◌, ◌%◌, ◌==◌, ℕ, Bool, false, IsTrue, List, Contains, Some, drop, take}
+use Rattle.std.specs.Prelude.{◌≡◌, ◌≢◌, ◌<◌, ◌+◌, ◌*◌, ◌/◌, ◌%◌, ◌==◌, ℕ, Bool, false, IsTrue, List, Contains, Some}
+use Rattle.std.specs.Prelude.{slice_index}
 use Rattle.std.specs.Int.{bit_at}
 use Rattle.std.specs.Option.{option_map_or}
 use Rattle.fabric_model.specs.declared.cable.NodePort.{NodePort}
@@ -37,10 +38,10 @@ group_of s id p = option_map_or (λ a. has_port a p) (agent_at s id) false
 abbrev pub copying_of : Simulation → Copying
 copying_of s = copying_at (fabric_of s) (group_of s)
 
--- each position of the agent's table has the block that is written for `ports`
+-- at each position the agent's table has the block that is written for `ports`
 abbrev pub HoldsMasks : List ℕ → Agent → Type 0
-HoldsMasks ports a = (position : ℕ) → position < position_count a.node
-    → take 64 (drop (64 * position) a.masks) ≡ masks_data (mask_of ports position)
+HoldsMasks ports a = (position i : ℕ) → position < position_count a.node → i < 64
+    → slice_index a.masks (64 * position + i) ≡ slice_index (masks_data (mask_of ports position)) i
 
 -- the agent of each switch of the part that the tree has holds the masks of the switch's ports in the tree
 abbrev pub HoldsTree : Part → List TreePorts → Simulation → Type 0
@@ -48,8 +49,8 @@ HoldsTree part tree s = (port : NodePort) (node : fabric.Node) → IsEndPortIn p
     → IsTrue (is_switch node.kind) → (a : Agent) → agent_at s port.node ≡ Some a
     → (x : TreePorts) → Contains tree x → x.guid ≡ node.guid → HoldsMasks x.ports a
 
--- suppose facts describe the part of a simulated fabric that an end port is joined to, and this part holds the tree of a
--- rule. Then of a packet for the first multicast LID that an adapter port of the part sends to a switch, exactly one
+-- suppose facts describe the part of a simulated fabric that an end port is joined to, and this part holds the tree of
+-- a rule. Then of a packet for the first multicast LID that an adapter port of the part sends to a switch, exactly one
 -- copy comes to each other adapter port of the part
 abbrev pub EachGetsOneCopy : Type 0
 EachGetsOneCopy = (rule : RuleValue) (facts : Facts) (s : Simulation) (origin : NodePort) → IsSimulation s
