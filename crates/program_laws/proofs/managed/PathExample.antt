@@ -40,6 +40,7 @@ told =
       plan = plan;
       images = last_sweep.images.ports;
       own = written.acting.manager.standing.guid;
+      multicast = written.acting.manager.planning.multicast;
     }
 
 -- what is told, if all that this takes is so
