@@ -65,6 +65,8 @@ const PORT_INFO: u16 = 0x15;
 
 const TABLE: u16 = 0x19;
 
+const MASKS: u16 = 0x1B;
+
 /// Requests without a payload: the method, the attribute, the modifier, and the statuses that S2 and H1 answer.
 const STATUSES: [(u8, u16, u32, u16, u16); 34] = [
     (GET, NODE_DESCRIPTION, 9, 0, 0),
@@ -309,7 +311,7 @@ fn nodes_are_described(rt: HostRuntime) -> Result<(), Fail> {
 #[test]
 fn switch_and_ports_are_told(rt: HostRuntime) -> Result<(), Fail> {
     let rows = [
-        (SWITCH_INFO, 0, 0, [4, 0, 0, 0, 0, 0, 3, 255], [0; 8]),
+        (SWITCH_INFO, 0, 0, [4, 0, 0, 0, 0, 32, 3, 255], [0; 8]),
         (SWITCH_INFO, 0, 8, [0; 8], [0; 8]),
         (PORT_INFO, 0, 0, [0; 8], [0; 8]),
         (PORT_INFO, 0, 8, [0; 8], [0; 8]),
@@ -379,6 +381,24 @@ fn sets_of_a_switch(rt: HostRuntime) -> Result<(), Fail> {
             is_right && is_same && answer.status() == Status(status),
             "{attribute}"
         );
+    }
+    Ok(())
+}
+
+/// Sets and reads the masks of a switch of four ports: it has one position, and one block.
+#[test]
+fn masks_of_a_switch(rt: HostRuntime) -> Result<(), Fail> {
+    let mut switch = s2(rt.alloc())?;
+    for (modifier, status, told) in [
+        (0, 0, [7; 8]),
+        (1, 0x1C, [0; 8]),
+        (1 << 28, 0x1C, [0; 8]),
+        (512, 0, [7; 8]),
+    ] {
+        let answer = ask(&mut switch, SET, MASKS, modifier, &[7; 64]);
+        let read = ask(&mut switch, GET, MASKS, modifier, &[0; 64]);
+        let is_right = answer.status() == Status(status) && read.status() == Status(status);
+        assert!(rt; is_right && holds(&read, 56, told), "{modifier}");
     }
     Ok(())
 }
